@@ -1,0 +1,23 @@
+-- "An entry is office (0 to n−1), line (0 to 63), code (0 to 9999). Its value is office × 16777216 + line × 65536 + code."
+-- An entry is its value everywhere below. Assumes nothing.
+use Prim.Native.Nat.{ℕ, _+_, _*_, _/_, _%_}
+use mathlib.Core.Bool.{Bool}
+use lib.Dec.{ltb, leb}
+use Rattle.protocol.specs.Tests.{both}
+
+abbrev pub value : ℕ → ℕ → ℕ → ℕ
+value office line code = office * 16777216 + line * 65536 + code
+
+-- the three parts of a value
+abbrev pub officeOf : ℕ → ℕ
+officeOf v = v / 16777216
+
+abbrev pub lineOf : ℕ → ℕ
+lineOf v = v / 65536 % 256
+
+abbrev pub codeOf : ℕ → ℕ
+codeOf v = v % 65536
+
+-- v is the value of an entry for n offices
+unfoldable pub isEntry : ℕ → ℕ → Bool
+isEntry n v = both (ltb (officeOf v) n) (both (leb (lineOf v) 63) (leb (codeOf v) 9999))
