@@ -4,7 +4,8 @@
 --     all-at, all-of               a test of every element, and the test at each place
 -- Assumes nothing.
 use mathlib.Core.Path.{_≡_, refl, sym, ap, ap₂, _∙_}
-use mathlib.Core.Bool.{Bool, true, false}
+use mathlib.Core.Bool.{Bool, true, false, _&&_, _||_, cond, true≢false}
+use mathlib.Core.Logic.{_⊎_, inl, inr}
 use mathlib.Core.List.{List, [], _∷_, _++_, map}
 use Prim.Native.Nat.{ℕ, zero, suc, _+_, _<_, _≤_}
 use native.Mathlib.Nat.{not-suc-le-zero, le-of-suc-le-suc}
@@ -53,6 +54,30 @@ pub pick-cases : {A : Type 0} (P : A → Type 0) (b : Bool) (x y : A) → (b ≡
 unfolding pick
 pick-cases P true x y f g = f refl
 pick-cases P false x y f g = g refl
+
+-- the library's conjunction, disjunction and choice
+pub and-true : (s t : Bool) → (s && t) ≡ true → (s ≡ true) × (t ≡ true)
+and-true true t e = (refl, e)
+and-true false t e = absurd (true≢false (sym e))
+
+pub and-of : (s t : Bool) → s ≡ true → t ≡ true → (s && t) ≡ true
+and-of s t p q = rw p q
+
+pub and-false : (s t : Bool) → (s && t) ≡ false → s ≡ true → t ≡ false
+and-false true t e d = e
+and-false false t e d = absurd (true≢false (sym d))
+
+pub or-true : (s t : Bool) → (s || t) ≡ true → (s ≡ true) ⊎ (t ≡ true)
+or-true true t e = inl refl
+or-true false t e = inr e
+
+pub or-right : (t : Bool) → (t || true) ≡ true
+or-right true = refl
+or-right false = refl
+
+pub if-cases {ℓ} : {A : Type 0} (P : A → Type ℓ) (t : Bool) (x y : A) → (t ≡ true → P x) → (t ≡ false → P y) → P (cond t x y)
+if-cases P true x y f g = f refl
+if-cases P false x y f g = g refl
 
 -- ── a test of every element ──
 pub all-at : {A : Type 0} (t : A → Bool) (d : A) (xs : List A) (i : ℕ) → allB t xs ≡ true → i < length xs → t (getD xs i d) ≡ true

@@ -1,0 +1,362 @@
+-- The limits of an office's state, as facts by name, and that every call keeps them.
+--     Fine, fine, fine-of       the facts behind the test `officeFine`, and both ways between them
+--     fresh-fine, issue-fine, settle-fine, elect-fine, catchUp-fine, take-fine      each call keeps them
+--     issue-done, take-done     what a call that is done found
+-- Assumes nothing.
+use mathlib.Core.Path.{_≡_, refl, sym, ap, subst, _∙_}
+use mathlib.Core.Bool.{Bool, true, false, _||_, cond, true≢false}
+use mathlib.Core.List.{List, [], _∷_, _++_, map, append-nil}
+use mathlib.Core.Option.{Option, none, some, Option·none-ne-some, Option·some-injective}
+use mathlib.Core.Logic.{_⊎_, inl, inr}
+use Prim.Native.Nat.{ℕ, zero, suc, _+_, _-_, _<_, _≤_, _/_, _%_}
+use native.Mathlib.Nat.{not-suc-le-zero, le-of-suc-le-suc}
+use native.Mathlib.Decide.{decLt}
+use native.Mathlib.Omega.{arith}
+use lib.Dec.{eqb, leb, ltb}
+use lib.ListN.{length, getD, drop, set, replicate, length-append, length-map, length-set, length-drop}
+use lib.Seq.{drop-set-lt}
+use borrow.Author.Tests.{eqb-true, eqb-false, leb-true, ltb-false, eq-eqb, le-leb, lt-ltb}
+use Rattle.protocol.specs.Tests.{both, allB}
+use Rattle.protocol.specs.Entry.{value, officeOf, lineOf, codeOf, isEntry}
+use Rattle.protocol.specs.Beginning.{_⊑_, _⊏_, begins, extends}
+use Rattle.protocol.specs.Vote.{Votes, Rule}
+use Rattle.protocol.specs.Office.{Office, Message, fresh, tail, first, votes}
+use Rattle.protocol.specs.Limits.{isEmpty, tailFine, officeFine}
+use Rattle.protocol.specs.Issue.{withIssue, refuseIssue}
+use Rattle.protocol.specs.Take.{rebased, rebase, catchUp, adopt, adopts, adopting, offers, withTake, refuseTake}
+use Rattle.protocol.specs.Elect.{lose, settle, next, electing, withElect}
+use Rattle.protocol.proofs.Tests.{both-0, both-1, both-true, all-getD, all-one, all-append, all-map, all-set, all-drop, all-replicate, drop-map, if-cases}
+use Rattle.protocol.proofs.Beginning.{⊑-refl, ⊑-cases, ⊏-⊑, ⊑-⊏-trans, ⊑-length, ⊏-length, ⊏-irrefl, ⊑-append, ⊑-trans, begins-true, extends-true, extends-false}
+use Rattle.protocol.proofs.Office.{rebased-nil, next-cases}
+
+-- ── the facts by name ──
+pub record FineTail (n settled : ℕ) (t : List ℕ) : Type 0 where
+  pub short : length t ≤ 32
+  pub room : settled + length t ≤ 1024
+  pub entries : allB (isEntry n) t ≡ true
+
+pub fine-tail : (n settled : ℕ) (t : List ℕ) → tailFine n settled t ≡ true → FineTail n settled t
+unfolding tailFine
+fine-tail n settled t e = record {
+  short = leb-true (length t) 32 (both-0 _ _ e);
+  room = leb-true (settled + length t) 1024 (both-0 _ _ (both-1 _ _ e));
+  entries = both-1 _ _ (both-1 _ _ e);
+}
+
+pub fine-tail-of : (n settled : ℕ) (t : List ℕ) → FineTail n settled t → tailFine n settled t ≡ true
+unfolding tailFine
+fine-tail-of n settled t f = both-true _ _ (le-leb (length t) 32 (f .short)) (both-true _ _ (le-leb (settled + length t) 1024 (f .room)) (f .entries))
+
+pub record Fine (n : ℕ) (o : Office) : Type 0 where
+  pub eight : length (o .tails) ≡ 8
+  pub most : length (o .log) ≤ 1024
+  pub entries : allB (isEntry n) (o .log) ≡ true
+  pub tails : allB (tailFine n (length (o .log))) (o .tails) ≡ true
+  pub rest : allB isEmpty (drop n (o .tails)) ≡ true
+
+pub fine : (n : ℕ) (o : Office) → officeFine n o ≡ true → Fine n o
+unfolding officeFine
+fine n o e = record {
+  eight = eqb-true (length (o .tails)) 8 (both-0 _ _ e);
+  most = leb-true (length (o .log)) 1024 (both-0 _ _ (both-1 _ _ e));
+  entries = both-0 _ _ (both-1 _ _ (both-1 _ _ e));
+  tails = both-0 _ _ (both-1 _ _ (both-1 _ _ (both-1 _ _ e)));
+  rest = both-1 _ _ (both-1 _ _ (both-1 _ _ (both-1 _ _ e)));
+}
+
+pub fine-of : (n : ℕ) (o : Office) → Fine n o → officeFine n o ≡ true
+unfolding officeFine
+fine-of n o f =
+    both-true _ _ (eq-eqb (length (o .tails)) 8 (f .eight))
+    (both-true _ _ (le-leb (length (o .log)) 1024 (f .most)) (both-true _ _ (f .entries) (both-true _ _ (f .tails) (f .rest))))
+
+nil-fine : (n settled : ℕ) → settled ≤ 1024 → FineTail n settled []
+unfolding allB
+nil-fine n settled h = record { short = omega arith; room = omega arith; entries = refl }
+
+-- every tail, and past the eight of them the empty one
+pub tail-at : (n : ℕ) (o : Office) → Fine n o → (k : ℕ) → FineTail n (length (o .log)) (tail o k)
+tail-at n o f k = fine-tail n (length (o .log)) (tail o k)
+    (all-getD (tailFine n (length (o .log))) [] (o .tails) k (f .tails) (fine-tail-of n (length (o .log)) [] (nil-fine n (length (o .log)) (f .most))))
+
+pub empty-nil : (t : List ℕ) → isEmpty t ≡ true → t ≡ []
+unfolding isEmpty
+empty-nil [] e = refl
+empty-nil (x ∷ t) e = absurd (true≢false (sym e))
+
+-- "ballots from office n on are none"
+pub none-from : (n : ℕ) (o : Office) → Fine n o → (k : ℕ) → n ≤ k → tail o k ≡ []
+unfolding isEmpty
+none-from n o f k h = go n (o .tails) k h (f .rest)
+  where
+    go : (n : ℕ) (ts : List (List ℕ)) (k : ℕ) → n ≤ k → allB isEmpty (drop n ts) ≡ true → getD ts k [] ≡ []
+    go zero ts k h e = empty-nil (getD ts k []) (all-getD isEmpty [] ts k e refl)
+    go (suc n) [] k h e = refl
+    go (suc n) (t ∷ ts) zero h e = absurd (not-suc-le-zero h)
+    go (suc n) (t ∷ ts) (suc k) h e = go n ts k (le-of-suc-le-suc h) e
+
+-- ── a fresh office ──
+pub fresh-fine : (n : ℕ) → Fine n fresh
+unfolding allB isEmpty
+fresh-fine n = record {
+  eight = refl;
+  most = omega arith;
+  entries = refl;
+  tails = all-replicate (tailFine n 0) 8 [] (fine-tail-of n 0 [] (nil-fine n 0 (omega arith)));
+  rest = all-drop isEmpty n (replicate 8 []) (all-replicate isEmpty 8 [] refl);
+}
+
+-- ── issue ──
+pub value-entry : (n office line code : ℕ) → office < n → n ≤ 8 → line ≤ 63 → code ≤ 9999 → isEntry n (value office line code) ≡ true
+unfolding isEntry
+value-entry n office line code h m l c =
+    both-true _ _ (lt-ltb (officeOf (value office line code)) n (omega arith))
+    (both-true _ _ (le-leb (lineOf (value office line code)) 63 (omega arith)) (le-leb (codeOf (value office line code)) 9999 (omega arith)))
+
+more-fine : (n settled : ℕ) (t : List ℕ) (e : ℕ) → FineTail n settled t → isEntry n e ≡ true → length t < 32 → settled + length t < 1024 → FineTail n settled (t ++ (e ∷ []))
+more-fine n settled t e old p h l =
+    let more : length (t ++ (e ∷ [])) ≡ length t + 1 = length-append t (e ∷ []) in
+    record { short = omega arith; room = omega arith; entries = all-append (isEntry n) t (e ∷ []) (old .entries) (all-one (isEntry n) e p) }
+
+pub issue-fine : (n k e : ℕ) (o : Office) → Fine n o → k < n → isEntry n e ≡ true → length (tail o k) < 32 → length (o .log) + length (tail o k) < 1024 → Fine n (withIssue k e o)
+unfolding withIssue
+issue-fine n k e o f h p short room =
+    let new : List ℕ = tail o k ++ (e ∷ []) in
+    let settled : ℕ = length (o .log) in
+    record {
+      eight = length-set (o .tails) k new ∙ f .eight;
+      most = f .most;
+      entries = f .entries;
+      tails = all-set (tailFine n settled) (o .tails) k new (f .tails) (fine-tail-of n settled new (more-fine n settled (tail o k) e (tail-at n o f k) p short room));
+      rest = rw (drop-set-lt n (o .tails) k new h) (f .rest);
+    }
+
+-- what a done issue found
+pub record IssueDone (k line code : ℕ) (o : Office) : Type 0 where
+  pub line-ok : line ≤ 63
+  pub code-ok : code ≤ 9999
+  pub short : length (tail o k) ≡ 32 → ⊥
+  pub room : length (o .log) + length (tail o k) ≡ 1024 → ⊥
+
+pub issue-done : (k line code : ℕ) (o : Office) → refuseIssue k line code o ≡ 0 → IssueDone k line code o
+unfolding refuseIssue
+issue-done k line code o h = go (ltb 63 line) refl (ltb 9999 code) refl (eqb (length (tail o k)) 32) refl (eqb (length (o .log) + length (tail o k)) 1024) refl h
+  where
+    go : (a : Bool) → ltb 63 line ≡ a → (b : Bool) → ltb 9999 code ≡ b → (c : Bool) → eqb (length (tail o k)) 32 ≡ c → (d : Bool) → eqb (length (o .log) + length (tail o k)) 1024 ≡ d
+        → _≡_ {A = ℕ} (cond (a || b) 3 (cond c 4 (cond d 5 0))) 0 → IssueDone k line code o
+    go true p b q c r d s x = absurd (omega arith)
+    go false p true q c r d s x = absurd (omega arith)
+    go false p false q true r d s x = absurd (omega arith)
+    go false p false q false r true s x = absurd (omega arith)
+    go false p false q false r false s x = record {
+      line-ok = omega (arith, ltb-false 63 line p);
+      code-ok = omega (arith, ltb-false 9999 code q);
+      short = eqb-false (length (tail o k)) 32 r;
+      room = eqb-false (length (o .log) + length (tail o k)) 1024 s;
+    }
+
+pub issue-done-fine : (n k line code : ℕ) (o : Office) → Fine n o → k < n → n ≤ 8 → refuseIssue k line code o ≡ 0 → Fine n (withIssue k (value k line code) o)
+issue-done-fine n k line code o f h m r =
+    let d = issue-done k line code o r in
+    let t = tail-at n o f k in
+    issue-fine n k (value k line code) o f h (value-entry n k line code h m (d .line-ok) (d .code-ok)) (below _ 32 (t .short) (d .short)) (below _ 1024 (t .room) (d .room))
+  where
+    below : (x y : ℕ) → x ≤ y → (x ≡ y → ⊥) → x < y
+    below x y a b = go (decLt x y)
+      where
+        go : Dec (x < y) → x < y
+        go (yes c) = c
+        go (no c) = absurd (b (omega arith))
+
+-- ── elect ──
+-- e, and so many entries after it, had room behind the log before e was settled
+lose-fine : (n settled e : ℕ) (t : List ℕ) → settled < 1024 → FineTail n settled t → FineTail n (settled + 1) (lose e t)
+unfolding allB
+lose-fine n settled e [] h f = nil-fine n (settled + 1) (omega arith)
+lose-fine n settled e (x ∷ t) h f =
+    if-cases (λ r. FineTail n (settled + 1) r) (eqb x e) t []
+    (λ _. record { short = omega (arith, f .short); room = omega (arith, f .room); entries = both-1 (isEntry n x) (allB (isEntry n) t) (f .entries) })
+    (λ _. nil-fine n (settled + 1) (omega arith))
+
+lose-empty : (e : ℕ) (t : List ℕ) → isEmpty t ≡ true → isEmpty (lose e t) ≡ true
+unfolding isEmpty
+lose-empty e [] h = refl
+lose-empty e (x ∷ t) h = absurd (true≢false (sym h))
+
+first-cons : (t : List ℕ) (e : ℕ) → first t ≡ some e → (r : List ℕ) × (t ≡ e ∷ r)
+first-cons [] e h = absurd (Option·none-ne-some e h)
+first-cons (x ∷ t) e h = (t, ap (λ (y : ℕ). y ∷ t) (Option·some-injective x e h))
+
+-- an entry that stands first on a ballot
+pub first-entry : (n : ℕ) (o : Office) → Fine n o → (k e : ℕ) → votes o k ≡ some e → (isEntry n e ≡ true) × (length (o .log) < 1024)
+unfolding allB
+first-entry n o f k e h =
+    let r = first-cons (tail o k) e h in
+    let t : FineTail n (length (o .log)) (e ∷ r .0) = subst (λ (z : List ℕ). FineTail n (length (o .log)) z) (r .1) (tail-at n o f k) in
+    (both-0 (isEntry n e) (allB (isEntry n) (r .0)) (t .entries), omega (arith, t .room))
+
+pub settle-fine : (n e : ℕ) (o : Office) → Fine n o → (k : ℕ) → votes o k ≡ some e → Fine n (settle e o)
+unfolding settle
+settle-fine n e o f k h =
+    let settled : ℕ = length (o .log) in
+    let p = first-entry n o f k e h in
+    let more : length (o .log ++ (e ∷ [])) ≡ settled + 1 = length-append (o .log) (e ∷ []) in
+    record {
+      eight = length-map (o .tails) (lose e) ∙ f .eight;
+      most = omega (arith, more, p .1);
+      entries = all-append (isEntry n) (o .log) (e ∷ []) (f .entries) (all-one (isEntry n) e (p .0));
+      tails = rw more (all-map (tailFine n settled) (tailFine n (settled + 1)) (lose e)
+          (λ t x. fine-tail-of n (settled + 1) (lose e t) (lose-fine n settled e t (p .1) (fine-tail n settled t x))) (o .tails) (f .tails));
+      rest = rw (drop-map (lose e) n (o .tails)) (all-map isEmpty isEmpty (lose e) (lose-empty e) (drop n (o .tails)) (f .rest));
+    }
+
+-- a rule whose winner has a vote
+abbrev pub NamesVoted : Rule → Type 0
+NamesVoted rule = (l : List ℕ) (v : Votes) (e : ℕ) → rule l v ≡ some e → (k : ℕ) × (v k ≡ some e)
+
+pub electing-fine : (rule : Rule) → NamesVoted rule → (n fuel : ℕ) (o : Office) → Fine n o → Fine n (electing rule fuel o)
+unfolding electing
+electing-fine rule law n zero o f = f
+electing-fine rule law n (suc fuel) o f =
+    next-cases (λ r. Fine n r) (rule (o .log) (votes o)) o (λ e. electing rule fuel (settle e o)) f
+    (λ e q. let k = law (o .log) (votes o) e q in electing-fine rule law n fuel (settle e o) (settle-fine n e o f (k .0) (k .1)))
+
+pub elect-fine : (rule : Rule) → NamesVoted rule → (n : ℕ) (o : Office) → Fine n o → Fine n (withElect rule o)
+unfolding withElect
+elect-fine rule law n o f = electing-fine rule law n _ o f
+
+-- ── take ──
+-- what is left of a path q behind a log l that it extends
+behind-fine : (n : ℕ) (l q : List ℕ) → l ⊏ q → length q ≤ 1024 → length q ≤ 32 + length l → allB (isEntry n) q ≡ true → FineTail n (length l) (drop (length l) q)
+behind-fine n l q h most short p =
+    let d : length (drop (length l) q) ≡ length q - length l = length-drop (length l) q in
+    let b : length l < length q = ⊏-length l q h in
+    record { short = omega arith; room = omega arith; entries = all-drop (isEntry n) (length l) q p }
+
+-- a path of fine entries
+path-length : (l t : List ℕ) → length (l ++ t) ≡ length l + length t
+path-length l t = length-append l t
+
+rebased-fine : (n : ℕ) (old new t : List ℕ) → old ⊑ new → length new ≤ 1024 → allB (isEntry n) old ≡ true → FineTail n (length old) t → FineTail n (length new) (rebased old new t)
+rebased-fine n old new t h most p f =
+    if-cases (λ r. FineTail n (length new) r) (extends (old ++ t) new) (drop (length new) (old ++ t)) []
+    (λ e. behind-fine n new (old ++ t) (extends-true (old ++ t) new e)
+    (omega (arith, path-length old t, f .room)) (omega (arith, path-length old t, f .short, ⊑-length old new h)) (all-append (isEntry n) old t p (f .entries)))
+    (λ _. nil-fine n (length new) most)
+
+pub rebase-fine : (n : ℕ) (new : List ℕ) (o : Office) → Fine n o → o .log ⊑ new → length new ≤ 1024 → allB (isEntry n) new ≡ true → Fine n (rebase new o)
+unfolding rebase isEmpty
+rebase-fine n new o f h most p =
+    let old : List ℕ = o .log in
+    record {
+      eight = length-map (o .tails) (rebased old new) ∙ f .eight;
+      most = most;
+      entries = p;
+      tails = all-map (tailFine n (length old)) (tailFine n (length new)) (rebased old new)
+          (λ t x. fine-tail-of n (length new) (rebased old new t) (rebased-fine n old new t h most (f .entries) (fine-tail n (length old) t x))) (o .tails) (f .tails);
+      rest = rw (drop-map (rebased old new) n (o .tails)) (all-map isEmpty isEmpty (rebased old new) stays (drop n (o .tails)) (f .rest));
+    }
+  where
+    stays : (t : List ℕ) → isEmpty t ≡ true → isEmpty (rebased (o .log) new t) ≡ true
+    stays t e = ap (λ (z : List ℕ). isEmpty (rebased (o .log) new z)) (empty-nil t e) ∙ ap isEmpty (rebased-nil (o .log) new h)
+
+pub catchUp-fine : (n : ℕ) (new : List ℕ) (o : Office) → Fine n o → length new ≤ 1024 → allB (isEntry n) new ≡ true → Fine n (catchUp new o)
+unfolding catchUp
+catchUp-fine n new o f most p =
+    if-cases (λ r. Fine n r) (extends new (o .log)) (rebase new o) o
+    (λ e. rebase-fine n new o f (⊏-⊑ (o .log) new (extends-true new (o .log) e)) most p)
+    (λ _. f)
+
+-- the log that is caught up with has the message's as a beginning, where they are comparable
+pub catchUp-log : (new : List ℕ) (o : Office) → (o .log ⊑ new) ⊎ (new ⊑ o .log) → new ⊑ catchUp new o .log
+unfolding catchUp rebase
+catchUp-log new o c =
+    if-cases (λ r. new ⊑ r .log) (extends new (o .log)) (rebase new o) o (λ _. ⊑-refl new) (λ e. go c e)
+  where
+    go : (o .log ⊑ new) ⊎ (new ⊑ o .log) → extends new (o .log) ≡ false → new ⊑ o .log
+    go (inr h) e = h
+    go (inl h) e = same (⊑-cases (o .log) new h)
+      where
+        same : (o .log ≡ new) ⊎ (o .log ⊏ new) → new ⊑ o .log
+        same (inl d) = subst (λ (z : List ℕ). z ⊑ o .log) d (⊑-refl (o .log))
+        same (inr d) = absurd (extends-false new (o .log) e d)
+
+-- a path longer than the receiver's log is at most the offered tail longer
+adopt-fine : (n : ℕ) (l t m q : List ℕ) → m ⊑ l → allB (isEntry n) m ≡ true → FineTail n (length m) q → FineTail n (length l) t → FineTail n (length l) (adopt l t (m ++ q))
+adopt-fine n l t m q h p f g =
+    if-cases (λ r. FineTail n (length l) r) (extends (m ++ q) (l ++ t)) (drop (length l) (m ++ q)) t
+    (λ e. behind-fine n l (m ++ q) (⊑-⊏-trans l (l ++ t) (m ++ q) (⊑-append l t) (extends-true (m ++ q) (l ++ t) e))
+    (omega (arith, path-length m q, f .room)) (omega (arith, path-length m q, f .short, ⊑-length m l h)) (all-append (isEntry n) m q p (f .entries)))
+    (λ _. g)
+
+adopts-fine : (n : ℕ) (l : List ℕ) (ts : List (List ℕ)) (m : List ℕ) (qs : List (List ℕ)) → m ⊑ l → allB (isEntry n) m ≡ true → allB (tailFine n (length m)) qs ≡ true
+    → allB (tailFine n (length l)) ts ≡ true → allB (tailFine n (length l)) (adopts l ts m qs) ≡ true
+unfolding allB
+adopts-fine n l [] m qs h p f g = refl
+adopts-fine n l (t ∷ ts) m [] h p f g = g
+adopts-fine n l (t ∷ ts) m (q ∷ qs) h p f g =
+    both-true _ _ (fine-tail-of n (length l) (adopt l t (m ++ q)) (adopt-fine n l t m q h p (fine-tail n (length m) q (both-0 _ _ f)) (fine-tail n (length l) t (both-0 _ _ g))))
+    (adopts-fine n l ts m qs h p (both-1 _ _ f) (both-1 _ _ g))
+
+-- an empty tail offers nothing to an office whose log is as long
+adopt-empty : (l t m q : List ℕ) → m ⊑ l → isEmpty q ≡ true → isEmpty t ≡ true → isEmpty (adopt l t (m ++ q)) ≡ true
+adopt-empty l t m q h e d =
+    if-cases (λ r. isEmpty r ≡ true) (extends (m ++ q) (l ++ t)) (drop (length l) (m ++ q)) t
+    (λ x. absurd (none (rw (empty-nil q e, append-nil) at (extends-true (m ++ q) (l ++ t) x))))
+    (λ _. d)
+  where
+    none : (l ++ t) ⊏ m → ⊥
+    none x = ⊏-irrefl m (⊑-⊏-trans m (l ++ t) m (⊑-trans m l (l ++ t) h (⊑-append l t)) x)
+
+adopts-empty : (n : ℕ) (l : List ℕ) (ts : List (List ℕ)) (m : List ℕ) (qs : List (List ℕ)) → m ⊑ l → allB isEmpty (drop n qs) ≡ true → allB isEmpty (drop n ts) ≡ true
+    → allB isEmpty (drop n (adopts l ts m qs)) ≡ true
+unfolding allB
+adopts-empty n l [] m qs h e d = d
+adopts-empty n l (t ∷ ts) m [] h e d = d
+adopts-empty zero l (t ∷ ts) m (q ∷ qs) h e d =
+    both-true _ _ (adopt-empty l t m q h (both-0 _ _ e) (both-0 _ _ d)) (adopts-empty zero l ts m qs h (both-1 _ _ e) (both-1 _ _ d))
+adopts-empty (suc n) l (t ∷ ts) m (q ∷ qs) h e d = adopts-empty n l ts m qs h e d
+
+pub adopts-length : (l : List ℕ) (ts : List (List ℕ)) (m : List ℕ) (qs : List (List ℕ)) → length (adopts l ts m qs) ≡ length ts
+adopts-length l [] m qs = refl
+adopts-length l (t ∷ ts) m [] = refl
+adopts-length l (t ∷ ts) m (q ∷ qs) = ap suc (adopts-length l ts m qs)
+
+pub adopting-fine : (n : ℕ) (m : List ℕ) (qs : List (List ℕ)) (o : Office) → Fine n o → m ⊑ o .log → allB (isEntry n) m ≡ true → allB (tailFine n (length m)) qs ≡ true
+    → allB isEmpty (drop n qs) ≡ true → Fine n (adopting m qs o)
+adopting-fine n m qs o f h p fs rest = record {
+  eight = adopts-length (o .log) (o .tails) m qs ∙ f .eight;
+  most = f .most;
+  entries = f .entries;
+  tails = adopts-fine n (o .log) (o .tails) m qs h p fs (f .tails);
+  rest = adopts-empty n (o .log) (o .tails) m qs h rest (f .rest);
+}
+
+pub take-fine : (n k : ℕ) (m : Message) (o : Office) → Fine n o → Fine n (m .state) → k < n → (o .log ⊑ m .state .log) ⊎ (m .state .log ⊑ o .log) → Fine n (withTake k m o)
+unfolding withTake
+take-fine n k m o f g h c =
+    let s : Office = m .state in
+    let new : List ℕ = s .log in
+    let t : List ℕ = tail s (m .sender) in
+    adopting-fine n new (offers k m) (catchUp new o) (catchUp-fine n new o f (g .most) (g .entries)) (catchUp-log new o c) (g .entries)
+    (all-set (tailFine n (length new)) (s .tails) k t (g .tails) (fine-tail-of n (length new) t (tail-at n s g (m .sender))))
+    (rw (drop-set-lt n (s .tails) k t h) (g .rest))
+
+-- what a done take found
+pub record TakeDone (k : ℕ) (m : Message) (o : Office) : Type 0 where
+  pub other : m .sender ≡ k → ⊥
+  pub comparable : (o .log ⊑ m .state .log) ⊎ (m .state .log ⊑ o .log)
+
+pub take-done : (k : ℕ) (m : Message) (o : Office) → refuseTake k m o ≡ 0 → TakeDone k m o
+unfolding refuseTake
+take-done k m o h = go (eqb (m .sender) k) refl (begins (o .log) (m .state .log)) refl (begins (m .state .log) (o .log)) refl h
+  where
+    go : (a : Bool) → eqb (m .sender) k ≡ a → (b : Bool) → begins (o .log) (m .state .log) ≡ b → (c : Bool) → begins (m .state .log) (o .log) ≡ c
+        → _≡_ {A = ℕ} (cond a 9 (cond (b || c) 0 10)) 0 → TakeDone k m o
+    go true p b q c r x = absurd (omega arith)
+    go false p true q c r x = record { other = eqb-false (m .sender) k p; comparable = inl (begins-true (o .log) (m .state .log) q) }
+    go false p false q true r x = record { other = eqb-false (m .sender) k p; comparable = inr (begins-true (m .state .log) (o .log) r) }
+    go false p false q false r x = absurd (omega arith)
+
+pub take-done-fine : (n k : ℕ) (m : Message) (o : Office) → Fine n o → Fine n (m .state) → k < n → refuseTake k m o ≡ 0 → Fine n (withTake k m o)
+take-done-fine n k m o f g h r = take-fine n k m o f g h (take-done k m o r .comparable)
