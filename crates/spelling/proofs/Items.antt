@@ -1,0 +1,85 @@
+-- The three items: a weight of two bytes, a value of four, a log record of six. Assumes nothing.
+use Prim.Native.Nat.{ℕ, _/_, _≤_, _<_}
+use mathlib.Core.Bool.{true}
+use mathlib.Core.List.{List, [], _∷_, _++_}
+use mathlib.Core.Path.{_≡_, refl, sym, ap, _∙_}
+use native.Mathlib.Omega.{arith}
+use lib.Dec.{leb, eqb}
+use lib.ListN.{length, getD, drop, length-drop}
+use lib.Seq.{drop-drop}
+use borrow.Author.Tests.{ltb-true, leb-true, eqb-true, lt-ltb, le-leb}
+use Rattle.protocol.specs.Entry.{isEntry}
+use Rattle.protocol.specs.Tests.{both}
+use Rattle.protocol.proofs.Tests.{both-1, both-0, both-true}
+use Rattle.spelling.specs.Content.{isWeight}
+use Rattle.spelling.specs.Numbers.{bytes32, be16, Bytes, bytes16, be32}
+use Rattle.spelling.specs.Reading.{recordAt, recordHere, valueHere, weightHere}
+use Rattle.spelling.specs.Spelling.{logRecord}
+use Rattle.spelling.proofs.Numbers.{be16-bytes16, be32-bytes32, bytes16-be16, bytes32-be32}
+use Rattle.spelling.proofs.Runs.{Item, bytes-drop}
+
+pub be16-back : (s : List ℕ) → Bytes s → 2 ≤ length s → bytes16 (be16 s) ++ drop 2 s ≡ s
+be16-back [] b h = absurd (omega arith)
+be16-back (x ∷ []) b h = absurd (omega arith)
+be16-back (x ∷ y ∷ r) b h = rw (bytes16-be16 x y r (b 0) (b 1))
+
+pub be16-below : (s : List ℕ) → Bytes s → be16 s < 65536
+unfolding be16
+be16-below s b = omega (arith, b 0, b 1)
+
+pub be32-back : (s : List ℕ) → Bytes s → 4 ≤ length s → bytes32 (be32 s) ++ drop 4 s ≡ s
+be32-back [] b h = absurd (omega arith)
+be32-back (x ∷ []) b h = absurd (omega arith)
+be32-back (x ∷ y ∷ []) b h = absurd (omega arith)
+be32-back (x ∷ y ∷ z ∷ []) b h = absurd (omega arith)
+be32-back (x ∷ y ∷ z ∷ u ∷ r) b h = rw (bytes32-be32 x y z u r (b 0) (b 1) (b 2) (b 3))
+
+-- a mark of two bytes
+pub mark-back : (s : List ℕ) (x y : ℕ) → 2 ≤ length s → eqb (getD s 0 0) x ≡ true → eqb (getD s 1 0) y ≡ true → x ∷ y ∷ drop 2 s ≡ s
+mark-back [] x y h p q = absurd (omega arith)
+mark-back (a ∷ []) x y h p q = absurd (omega arith)
+mark-back (a ∷ b ∷ r) x y h p q = rw (eqb-true a x p, eqb-true b y q)
+
+pub entry-below : (n v : ℕ) → n ≤ 8 → isEntry n v ≡ true → v < 4294967296
+unfolding isEntry
+entry-below n v h e = omega (arith, ltb-true (v / 16777216) n (both-0 _ _ e))
+
+pub weight : Item 2 bytes16 be16 weightHere isWeight
+unfolding bytes16 weightHere isWeight
+weight =
+    record {
+      wide = λ v. refl;
+      said = λ v r h. be16-bytes16 v r (ltb-true v 65536 h);
+      here = λ v r h. le-leb 2 (length (bytes16 v ++ r)) (omega arith);
+      back = λ s b h. be16-back s b (leb-true 2 (length s) h);
+      fine = λ s b h. lt-ltb (be16 s) 65536 (be16-below s b);
+    }
+
+module _ (n : ℕ) (small : n ≤ 8) where
+  pub value : Item 4 bytes32 be32 (valueHere n) (isEntry n)
+  unfolding bytes32 valueHere
+  value =
+      record {
+        wide = λ v. refl;
+        said = λ v r h. be32-bytes32 v r (entry-below n v small h);
+        here = λ v r h. both-true _ _ (le-leb 4 (length (bytes32 v ++ r)) (omega arith)) (rw (be32-bytes32 v r (entry-below n v small h)) h);
+        back = λ s b h. be32-back s b (leb-true 4 (length s) (both-0 _ _ h));
+        fine = λ s b h. both-1 (leb 4 (length s)) _ h;
+      }
+
+  pub logged : Item 6 logRecord recordAt (recordHere n) (isEntry n)
+  unfolding bytes32 logRecord recordAt recordHere both
+  logged =
+      record {
+        wide = λ v. refl;
+        said = λ v r h. be32-bytes32 v r (entry-below n v small h);
+        here = λ v r h. both-true _ _ (le-leb 6 (length (logRecord v ++ r)) (omega arith)) (rw (be32-bytes32 v r (entry-below n v small h)) h);
+        back = λ s b h.
+            let l : 6 ≤ length s = leb-true 6 (length s) (both-0 _ _ h) in
+            let m : 4 ≤ length (drop 2 s) = rw length-drop (omega arith) in
+            let e = both-1 (leb 6 (length s)) _ h in
+            ap (λ (t : List ℕ). 76 ∷ 71 ∷ (bytes32 (be32 (drop 2 s)) ++ t)) (sym (drop-drop 4 2 s))
+            ∙ ap (λ (t : List ℕ). 76 ∷ 71 ∷ t) (be32-back (drop 2 s) (bytes-drop 2 s b) m)
+            ∙ mark-back s 76 71 (omega arith) (both-0 _ _ e) (both-0 _ _ (both-1 (eqb (getD s 0 0) 76) _ e));
+        fine = λ s b h. both-1 (eqb (getD s 1 0) 71) _ (both-1 (eqb (getD s 0 0) 76) _ (both-1 (leb 6 (length s)) _ h));
+      }

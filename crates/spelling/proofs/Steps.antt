@@ -1,0 +1,74 @@
+-- One turn of the loops that read and write a run. Assumes nothing.
+use Prim.Native.Nat.{ℕ, suc, _+_, _-_, _≤_, _<_}
+use mathlib.Core.Bool.{Bool, true, false}
+use mathlib.Core.List.{List}
+use mathlib.Core.Path.{_≡_}
+use native.Mathlib.Nat.{add-zero}
+use native.Mathlib.Numerals.{add-one}
+use native.Mathlib.Omega.{arith}
+use lib.Dec.{leb, eqb}
+use lib.ListN.{length, getD, take, drop, set, length-drop, length-take, drop-of-length-le}
+use lib.Seq.{sets, drop-drop, drop-cons, getD-take, getD-drop, length-take-le}
+use borrow.Author.Tests.{leb-true, le-leb}
+use Rattle.protocol.specs.Tests.{both}
+use Rattle.protocol.proofs.Tests.{both-0}
+use Rattle.spelling.specs.Numbers.{runAt, run, runOk}
+use Rattle.spelling.specs.Reading.{ballotNext, recordHere, valueHere}
+use Rattle.spelling.proofs.Numbers.{sets-append}
+
+-- reading: what is left to test at turn i, of k, at position at
+pub test-step : (w : ℕ) (p : List ℕ → Bool) (k i at : ℕ) (s : List ℕ) → i < k → p (drop at s) ≡ true → runOk w p (k - i) (drop at s) ≡ runOk w p (k - (i + 1)) (drop (at + w) s)
+unfolding runOk both
+test-step w p k i at s h e =
+    let q : k - i ≡ suc (k - (i + 1)) = omega arith in
+    rw (q, e, drop-drop)
+
+pub test-fails : (w : ℕ) (p : List ℕ → Bool) (k i : ℕ) (s : List ℕ) → i < k → p s ≡ false → runOk w p (k - i) s ≡ false
+unfolding runOk both
+test-fails w p k i s h e =
+    let q : k - i ≡ suc (k - (i + 1)) = omega arith in
+    rw (q, e)
+
+pub record-room : (n at : ℕ) (s : List ℕ) → recordHere n (drop at s) ≡ true → at + 6 ≤ length s
+unfolding recordHere
+record-room n at s e = let h : 6 ≤ length s - at = leb-true _ _ (rw length-drop at (both-0 (leb 6 (length (drop at s))) _ e)) in omega arith
+
+pub value-room : (n at : ℕ) (s : List ℕ) → valueHere n (drop at s) ≡ true → at + 4 ≤ length s
+unfolding valueHere
+value-room n at s e = let h : 4 ≤ length s - at = leb-true _ _ (rw length-drop at (both-0 (leb 4 (length (drop at s))) _ e)) in omega arith
+
+-- writing: what is left to store of the first k of xs at turn i, from place p on
+pub store-step : (w : ℕ) (f : ℕ → List ℕ) → ((v : ℕ) → length (f v) ≡ w) → (l xs : List ℕ) (p i k : ℕ) → i < k → k ≤ length xs
+    → sets (sets l p (f (getD xs i 0))) (p + w) (run f (drop (i + 1) (take k xs))) ≡ sets l p (run f (drop i (take k xs)))
+unfolding run
+store-step w f wide l xs p i k h j =
+    let t : length (take k xs) ≡ k = length-take-le k xs j in
+    rw (drop-cons (take k xs) i 0 (omega arith), getD-take k xs i 0, sets-append l p (f (getD xs i 0)) (run f (drop (suc i) (take k xs))), wide (getD xs i 0), add-one i)
+
+-- nothing is left
+pub store-end : (f : ℕ → List ℕ) (l xs : List ℕ) (p i k : ℕ) → k ≤ i → sets l p (run f (drop i (take k xs))) ≡ l
+unfolding run
+store-end f l xs p i k h =
+    let t : length (take k xs) ≤ i = rw length-take (omega arith) in
+    rw (drop-of-length-le (take k xs) t)
+
+pub test-end : (w : ℕ) (p : List ℕ → Bool) (k i : ℕ) (s : List ℕ) → k ≤ i → runOk w p (k - i) s ≡ true
+unfolding runOk both
+test-end w p k i s h = let q : k - i ≡ 0 = omega arith in rw q
+
+-- reading into an array: what is left to store at turn i, of k, read at position at
+pub fill-step : (w : ℕ) (g : List ℕ → ℕ) (l : List ℕ) (k i at : ℕ) (s : List ℕ) → i < k
+    → sets (set l i (g (drop at s))) (i + 1) (runAt w g (k - (i + 1)) (drop (at + w) s)) ≡ sets l i (runAt w g (k - i) (drop at s))
+unfolding runAt
+fill-step w g l k i at s h =
+    let q : k - i ≡ suc (k - (i + 1)) = omega arith in
+    rw (q, drop-drop, add-one i)
+
+pub fill-end : (w : ℕ) (g : List ℕ → ℕ) (l : List ℕ) (k i : ℕ) (s : List ℕ) → k ≤ i → sets l i (runAt w g (k - i) s) ≡ l
+unfolding runAt
+fill-end w g l k i s h = let q : k - i ≡ 0 = omega arith in rw q
+
+-- the last test of a ballot's mark
+pub next-test : (s : List ℕ) (at o : ℕ) → 4 ≤ length s - at → getD s at 0 ≡ 0x42 → getD s (at + 1) 0 ≡ 0x41 → ballotNext o (drop at s) ≡ eqb (getD s (at + 2) 0) o
+unfolding ballotNext both
+next-test s at o h p q = simp (length-drop, getD-drop, add-zero, le-leb 4 (length s - at) h, p, q)

@@ -1,0 +1,33 @@
+-- "Two-byte marks stand before each record of it": a message's bytes. Assumes nothing.
+use Prim.Native.Nat.{ℕ, suc}
+use mathlib.Core.List.{List, [], _∷_, _++_}
+use lib.ListN.{length}
+use Rattle.spelling.specs.Content.{Content}
+use Rattle.spelling.specs.Numbers.{bytes16, bytes32, run}
+
+-- "Head: 0x53 0x48, sender (1 byte), n (1), n weights (2 each), settled length (2)"
+unfoldable pub headBytes : ℕ → ℕ → List ℕ → ℕ → List ℕ
+headBytes sender n weights settled = 0x53 ∷ 0x48 ∷ sender ∷ n ∷ (run bytes16 weights ++ bytes16 settled)
+
+-- "Per settled entry, in order: 0x4C 0x47, value (4)"
+unfoldable pub logRecord : ℕ → List ℕ
+logRecord v = 0x4C ∷ 0x47 ∷ bytes32 v
+
+-- "Per non-empty ballot, offices rising: 0x42 0x41, office (1), tail length 1 to 32 (1), values (4 each)"
+unfoldable pub ballotBytes : ℕ → List ℕ → List ℕ
+ballotBytes o [] = []
+ballotBytes o (v ∷ vs) = 0x42 ∷ 0x41 ∷ o ∷ length (v ∷ vs) ∷ run bytes32 (v ∷ vs)
+
+-- the ballots from office o on
+unfoldable pub ballotsBytes : ℕ → List (List ℕ) → List ℕ
+ballotsBytes o [] = []
+ballotsBytes o (t ∷ ts) = ballotBytes o t ++ ballotsBytes (suc o) ts
+
+-- "End: 0x45 0x4E, then nothing"
+unfoldable pub endBytes : List ℕ
+endBytes = 0x45 ∷ 0x4E ∷ []
+
+unfoldable pub spelling : Content → List ℕ
+spelling c =
+    headBytes (c .sender) (c .n) (c .weights) (length (c .log))
+    ++ (run logRecord (c .log) ++ (ballotsBytes 0 (c .tails) ++ endBytes))
