@@ -1,0 +1,70 @@
+//! Founding, issuing and reading. Every call takes any record, log and number.
+
+use crate::record::*;
+
+/// The fresh record of an office: an empty log and no ballots.
+pub fn found(n: usize, own: usize, weights: [u16; OFFICES], log: &[u32]) -> (u32, Record) {
+    if log.len() < LOG {
+        return (UNSOUND, Record::ZERO);
+    }
+    if !within_limits(n, own, &weights) {
+        return (LIMITS, Record::ZERO);
+    }
+    (DONE, Record { n, own, weights, ..Record::ZERO })
+}
+
+/// The record with the entry appended to the office's own ballot.
+pub fn issue(mut record: Record, log: &[u32], line: u32, code: u32) -> (u32, Record) {
+    if !sound(&record, log) {
+        return (UNSOUND, record);
+    }
+    if line >= LINES || code >= CODES {
+        return (NO_ENTRY, record);
+    }
+    let ballot = &mut record.ballots[record.own];
+    if ballot.len == TAIL {
+        return (TAIL_FULL, record);
+    }
+    if record.settled + ballot.len == LOG {
+        return (LOG_FULL, record);
+    }
+    ballot.cells[ballot.len] = entry(record.own, line, code);
+    ballot.len += 1;
+    (DONE, record)
+}
+
+/// The settled part of the log.
+pub fn settled<'a>(record: &Record, log: &'a [u32]) -> (u32, &'a [u32]) {
+    if !sound(record, log) {
+        return (UNSOUND, &[]);
+    }
+    (DONE, &log[..record.settled])
+}
+
+/// The code of the last entry for the line in the settled log.
+pub fn settled_frame(record: &Record, log: &[u32], line: u32) -> (u32, u32) {
+    frame(record, log, line, false)
+}
+
+/// The code of the last entry for the line in the own path.
+pub fn tentative_frame(record: &Record, log: &[u32], line: u32) -> (u32, u32) {
+    frame(record, log, line, true)
+}
+
+/// One of the two frames: the settled log's, or with the own tail after it.
+fn frame(record: &Record, log: &[u32], line: u32, tentative: bool) -> (u32, u32) {
+    if !sound(record, log) {
+        return (UNSOUND, 0);
+    }
+    if line >= LINES {
+        return (NO_ENTRY, 0);
+    }
+    let tail = if tentative { record.ballots[record.own].tail() } else { &[] };
+    let code = last_code(tail, line).or_else(|| last_code(&log[..record.settled], line));
+    (DONE, code.unwrap_or(0))
+}
+
+/// The code of the last of the entries for the line, if there is one.
+fn last_code(entries: &[u32], line: u32) -> Option<u32> {
+    entries.iter().rev().find(|&&word| line_of(word) == line).map(|&word| code_of(word))
+}

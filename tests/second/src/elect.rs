@@ -1,0 +1,103 @@
+//! Elections: which entry wins, and what the record is once it is settled.
+
+use crate::record::*;
+
+/// What the ballots of a sound record say.
+pub(crate) struct Tally {
+    /// First tail entry of each office's ballot; nothing for an office with no ballot.
+    first: [Option<u32>; OFFICES],
+    /// T of that entry.
+    support: [u32; OFFICES],
+    /// U: weight of the offices with no ballot.
+    unheard: u32,
+}
+
+impl Tally {
+    /// The tally of a sound record.
+    pub(crate) fn of(record: &Record) -> Tally {
+        let mut tally = Tally { first: [None; OFFICES], support: [0; OFFICES], unheard: 0 };
+        for (office, ballot) in record.ballots[..record.n].iter().enumerate() {
+            tally.first[office] = ballot.tail().first().copied();
+        }
+        for (office, &weight) in record.weights[..record.n].iter().enumerate() {
+            let Some(voted) = tally.first[office] else {
+                tally.unheard += u32::from(weight);
+                continue;
+            };
+            for (first, support) in tally.first.iter().zip(&mut tally.support) {
+                if *first == Some(voted) {
+                    *support += u32::from(weight);
+                }
+            }
+        }
+        tally
+    }
+
+    /// Supported entries, each with its T, once for each ballot that supports it.
+    fn supported(&self) -> impl Iterator<Item = (u32, u32)> + '_ {
+        self.first.iter().zip(&self.support).filter_map(|(first, &support)| Some(((*first)?, support)))
+    }
+
+    /// Whether an entry e with this T wins.
+    fn wins(&self, e: u32, support: u32) -> bool {
+        support > self.unheard
+            && self.supported().filter(|&(f, _)| f != e).all(|(f, other)| {
+                let bar = other + self.unheard;
+                support > bar || support == bar && e < f
+            })
+    }
+
+    /// The entry that wins, if there is one.
+    pub(crate) fn winner(&self) -> Option<u32> {
+        self.supported().find(|&(e, support)| self.wins(e, support)).map(|(e, _)| e)
+    }
+
+    /// Whether the winner is level with another entry and wins by its value alone.
+    pub(crate) fn by_value(&self, winner: u32) -> bool {
+        let support = self.supported().find(|&(e, _)| e == winner).map_or(0, |(_, support)| support);
+        self.supported().any(|(f, other)| f != winner && support == other + self.unheard)
+    }
+}
+
+/// Writes the winner to the log of a sound record; ballots that start with it lose it, all others become none.
+fn settle(record: &mut Record, log: &mut [u32], winner: u32) {
+    log[record.settled] = winner;
+    record.settled += 1;
+    for ballot in record.ballots.iter_mut().filter(|ballot| ballot.len > 0) {
+        if ballot.cells[0] == winner {
+            ballot.shorten(1);
+        } else {
+            *ballot = Ballot::NONE;
+        }
+    }
+}
+
+/// One step of a sound record: whether an entry won and was settled.
+pub(crate) fn step(record: &mut Record, log: &mut [u32]) -> bool {
+    let Some(winner) = Tally::of(record).winner() else {
+        return false;
+    };
+    settle(record, log, winner);
+    true
+}
+
+/// The record after one step, and how many entries the step settled: one or none.
+pub fn elect_step(mut record: Record, log: &mut [u32]) -> (u32, usize, Record) {
+    if !sound(&record, log) {
+        return (UNSOUND, 0, record);
+    }
+    let count = usize::from(step(&mut record, log));
+    (DONE, count, record)
+}
+
+/// The record after steps until no entry wins, and how many entries they settled.
+pub fn elect(mut record: Record, log: &mut [u32]) -> (u32, usize, Record) {
+    if !sound(&record, log) {
+        return (UNSOUND, 0, record);
+    }
+    let mut count = 0;
+    while step(&mut record, log) {
+        count += 1;
+    }
+    (DONE, count, record)
+}

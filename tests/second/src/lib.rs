@@ -1,0 +1,15 @@
+//! The shared coding frame a second time, written from document 01 alone.
+//!
+//! The proved engine is compared with this one: its answers are the expected
+//! output of the gate's programs, of the random comparison and of the benchmark.
+
+#![forbid(unsafe_code)]
+#![warn(missing_docs)]
+
+pub mod calls;
+pub mod elect;
+pub mod lines;
+pub mod message;
+pub mod record;
+pub mod rehearsal;
+pub mod take;

@@ -1,0 +1,139 @@
+//! Entries, ballots and records, and when a record with its log is sound.
+
+/// Most offices that a record has.
+pub const OFFICES: usize = 8;
+/// Most entries in a ballot's tail.
+pub const TAIL: usize = 32;
+/// Lines of the frame: 0 to 63.
+pub const LINES: u32 = 64;
+/// Codes of a line: 0 to 9999.
+pub const CODES: u32 = 10_000;
+/// Longest settled log, and fewest words of a lent log.
+pub const LOG: usize = 1024;
+
+/// The call was done.
+pub const DONE: u32 = 0;
+/// The record is unsound, or the log is below 1024 words.
+pub const UNSOUND: u32 = 1;
+/// Founding: n, own office or weights outside the limits.
+pub const LIMITS: u32 = 2;
+/// Line above 63, or code above 9999.
+pub const NO_ENTRY: u32 = 3;
+/// The own tail is 32 long.
+pub const TAIL_FULL: u32 = 4;
+/// Settled length and own tail length make 1024.
+pub const LOG_FULL: u32 = 5;
+/// The output is shorter than the message.
+pub const OUTPUT_SHORT: u32 = 6;
+/// The message is not of the layout, or holds a number outside the limits.
+pub const NO_MESSAGE: u32 = 7;
+/// The message's n or weights differ from the record's.
+pub const OTHER_WEIGHTS: u32 = 8;
+/// The sender is the receiver's own office.
+pub const OWN_MESSAGE: u32 = 9;
+/// Neither settled log is a beginning of the other.
+pub const LOGS_PART: u32 = 10;
+
+/// A tail of entries; length 0 means none, or unknown. Unused cells are zero.
+#[repr(C)]
+#[derive(Clone, Copy, Debug, PartialEq, Eq)]
+pub struct Ballot {
+    /// Entries in the tail.
+    pub len: usize,
+    /// The tail, then zeros.
+    pub cells: [u32; TAIL],
+}
+
+/// What one office knows, apart from its log.
+#[repr(C)]
+#[derive(Clone, Copy, Debug, PartialEq, Eq)]
+pub struct Record {
+    /// Offices there are.
+    pub n: usize,
+    /// This office.
+    pub own: usize,
+    /// Weight of each office, zero from place n on.
+    pub weights: [u16; OFFICES],
+    /// Settled words of the log.
+    pub settled: usize,
+    /// Last known ballot of each office, none from place n on.
+    pub ballots: [Ballot; OFFICES],
+}
+
+impl Ballot {
+    /// The ballot of an office that is not known to have voted.
+    pub const NONE: Ballot = Ballot { len: 0, cells: [0; TAIL] };
+
+    /// The tail: the first `len` cells, or all of them where `len` is past the end.
+    pub fn tail(&self) -> &[u32] {
+        &self.cells[..self.len.min(TAIL)]
+    }
+
+    /// Drops the first `count` entries, at most the tail's length.
+    pub(crate) fn shorten(&mut self, count: usize) {
+        self.cells.copy_within(count..self.len, 0);
+        self.cells[self.len - count..self.len].fill(0);
+        self.len -= count;
+    }
+}
+
+impl Record {
+    /// The record that a refused founding answers.
+    pub const ZERO: Record =
+        Record { n: 0, own: 0, weights: [0; OFFICES], settled: 0, ballots: [Ballot::NONE; OFFICES] };
+}
+
+/// The value of an entry whose numbers are within the limits.
+pub fn entry(office: usize, line: u32, code: u32) -> u32 {
+    (office as u32) << 24 | line << 16 | code
+}
+
+/// The line of an entry.
+pub fn line_of(word: u32) -> u32 {
+    word >> 16 & 0xff
+}
+
+/// The code of an entry.
+pub fn code_of(word: u32) -> u32 {
+    word & 0xffff
+}
+
+/// Whether the word is the value of an entry among n offices.
+pub fn is_entry(word: u32, n: usize) -> bool {
+    (((word >> 24) as usize) < n) & (line_of(word) < LINES) & (code_of(word) < CODES)
+}
+
+/// Whether all words are entries among n offices. Reads them all, so that it runs on vectors.
+fn all_entries(words: &[u32], n: usize) -> bool {
+    words.iter().fold(true, |good, &word| good & is_entry(word, n))
+}
+
+/// Whether n, the own office and the weights are within the limits.
+pub(crate) fn within_limits(n: usize, own: usize, weights: &[u16; OFFICES]) -> bool {
+    (1..=OFFICES).contains(&n)
+        && own < n
+        && weights[n..].iter().all(|&weight| weight == 0)
+        && weights[..n].iter().any(|&weight| weight != 0)
+}
+
+/// Whether the ballot is a tail of at most `limit` entries with zeros after it.
+fn sound_ballot(ballot: &Ballot, n: usize, limit: usize) -> bool {
+    ballot.len <= limit
+        && all_entries(&ballot.cells[..ballot.len], n)
+        && ballot.cells[ballot.len..].iter().fold(0, |bits, &cell| bits | cell) == 0
+}
+
+/// Whether the record with its log is sound.
+pub fn sound(record: &Record, log: &[u32]) -> bool {
+    if log.len() < LOG
+        || !within_limits(record.n, record.own, &record.weights)
+        || record.settled > LOG
+        || !all_entries(&log[..record.settled], record.n)
+    {
+        return false;
+    }
+    let limit = TAIL.min(LOG - record.settled);
+    let (known, past) = record.ballots.split_at(record.n);
+    known.iter().all(|ballot| sound_ballot(ballot, record.n, limit))
+        && past.iter().all(|ballot| sound_ballot(ballot, record.n, 0))
+}

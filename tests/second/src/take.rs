@@ -1,0 +1,81 @@
+//! Taking a message: the longer log first, then every path that extends the known one.
+
+use crate::message::{read, Message};
+use crate::record::*;
+
+/// The record after the message in the bytes.
+pub fn take(mut record: Record, log: &mut [u32], bytes: &[u8]) -> (u32, Record) {
+    if !sound(&record, log) {
+        return (UNSOUND, record);
+    }
+    let Some(message) = read(bytes) else {
+        return (NO_MESSAGE, record);
+    };
+    let number = refusal(&record, log, &message);
+    if number == DONE {
+        grow(&mut record, log, &message);
+        adopt_all(&mut record, log, &message);
+    }
+    (number, record)
+}
+
+/// The number that a message of the layout is refused with, or done.
+pub(crate) fn refusal(record: &Record, log: &[u32], message: &Message) -> u32 {
+    if message.n != record.n || message.weights != record.weights {
+        return OTHER_WEIGHTS;
+    }
+    if message.sender == record.own {
+        return OWN_MESSAGE;
+    }
+    let settled = &log[..record.settled];
+    if !message.log().zip(settled).all(|(theirs, &ours)| theirs == ours) {
+        return LOGS_PART;
+    }
+    DONE
+}
+
+/// Writes the entries that the message's log has beyond the settled log.
+/// Every ballot whose path extends the new log keeps its path; any other becomes none.
+pub(crate) fn grow(record: &mut Record, log: &mut [u32], message: &Message) {
+    let (old, new) = (record.settled, message.settled());
+    if new <= old {
+        return;
+    }
+    let missing = &mut log[old..new];
+    for (place, value) in missing.iter_mut().zip(message.log().skip(old)) {
+        *place = value;
+    }
+    record.settled = new;
+    for ballot in record.ballots.iter_mut().filter(|ballot| ballot.len > 0) {
+        if ballot.len > missing.len() && ballot.cells.starts_with(missing) {
+            ballot.shorten(missing.len());
+        } else {
+            *ballot = Ballot::NONE;
+        }
+    }
+}
+
+/// Adopts the sender's path as the own one, and each other office's path, where it extends the known one.
+pub(crate) fn adopt_all(record: &mut Record, log: &[u32], message: &Message) {
+    let between = &log[message.settled()..record.settled];
+    for office in 0..record.n {
+        let source = if office == record.own { message.sender } else { office };
+        adopt(&mut record.ballots[office], between, message.tail(source));
+    }
+}
+
+/// The ballot becomes the path that the tail makes after the message's log, if this extends the ballot's path.
+/// `between` is the settled log from the end of the message's log on.
+fn adopt(ballot: &mut Ballot, between: &[u32], mut tail: impl ExactSizeIterator<Item = u32>) {
+    if tail.len() <= between.len() + ballot.len {
+        return;
+    }
+    let known = between.iter().chain(ballot.tail());
+    if !known.zip(&mut tail).all(|(&ours, theirs)| ours == theirs) {
+        return;
+    }
+    for value in tail {
+        ballot.cells[ballot.len] = value;
+        ballot.len += 1;
+    }
+}
