@@ -8,8 +8,11 @@
 
 pub mod calls;
 pub mod elect;
+pub mod generate;
 pub mod lines;
 pub mod message;
+pub mod random;
 pub mod record;
 pub mod rehearsal;
+pub mod survey;
 pub mod take;

@@ -1,0 +1,182 @@
+//! How often a rehearsal script shows what it is meant to show.
+
+use std::collections::BTreeMap;
+use std::io::{Read, Result, Write};
+
+use crate::elect::{step, Tally};
+use crate::lines::each_line;
+use crate::message::read;
+use crate::record::{Ballot, Record, DONE, OFFICES};
+use crate::rehearsal::{Command, Office, World, SLOTS};
+use crate::take::{adopt_all, grow, refusal};
+
+/// Who sent the message in a slot, and who has taken it.
+#[derive(Clone, Copy)]
+struct Sent {
+    sender: usize,
+    record: Record,
+    taken: [bool; OFFICES],
+}
+
+#[derive(Default)]
+struct Survey {
+    world: World,
+    sent: [Option<Sent>; SLOTS],
+    counts: BTreeMap<String, usize>,
+}
+
+impl Survey {
+    fn add(&mut self, name: &str, count: usize) {
+        if count > 0 {
+            *self.counts.entry(name.to_string()).or_default() += count;
+        }
+    }
+
+    fn most(&mut self, name: &str, value: usize) {
+        let most = self.counts.entry(name.to_string()).or_default();
+        *most = value.max(*most);
+    }
+
+    /// Counts what a line shows, and runs it.
+    fn line(&mut self, line: &[u8]) {
+        self.add("lines", 1);
+        let command = Command::parse(line);
+        match command {
+            Some(Command::Take(k, m)) => self.before_take(k, m),
+            Some(Command::Elect(k)) => self.before_elect(k),
+            _ => {}
+        }
+        let Some(answer) = command.and_then(|command| self.world.run(command)) else {
+            self.add("answer ?", 1);
+            return;
+        };
+        self.add(&format!("answer {} {}", char::from(answer.letter), answer.number), 1);
+        if answer.number != DONE {
+            return;
+        }
+        match command {
+            Some(Command::Found(..)) => self.sent = [None; SLOTS],
+            Some(Command::Issue(k, ..)) => {
+                let record = self.world.offices[k].record;
+                self.most("longest tail", record.ballots[k].len);
+            }
+            Some(Command::Send(k, m)) => self.after_send(k, m),
+            _ => {}
+        }
+    }
+
+    fn after_send(&mut self, k: usize, m: usize) {
+        if self.sent[m].is_some_and(|sent| sent.taken == [false; OFFICES]) {
+            self.add("message lost", 1);
+        }
+        let record = self.world.offices[k].record;
+        self.most("longest log sent", record.settled);
+        self.sent[m] = Some(Sent { sender: k, record, taken: [false; OFFICES] });
+    }
+
+    fn before_take(&mut self, k: usize, m: usize) {
+        let (Some(office), Some(slot)) = (self.world.offices.get(k), self.world.slots.get(m)) else {
+            return;
+        };
+        let Some(message) = read(slot.message()) else {
+            return;
+        };
+        let Office { mut record, mut log } = *office;
+        if refusal(&record, &log, &message) != DONE {
+            return;
+        }
+        let before = record;
+        grow(&mut record, &mut log, &message);
+        let grown = record;
+        let shorter = message.settled() < record.settled;
+        adopt_all(&mut record, &log, &message);
+        self.count_take(&before, &grown, &record, shorter);
+        self.count_delivery(k, m);
+    }
+
+    /// Counts what growing and adopting did.
+    fn count_take(&mut self, before: &Record, grown: &Record, after: &Record, shorter: bool) {
+        let none = |ballot: &Ballot| ballot.len == 0;
+        if grown.settled > before.settled {
+            let pairs = || before.ballots.iter().zip(&grown.ballots).filter(|(old, _)| !none(old));
+            let reset = pairs().filter(|(_, new)| none(new)).count();
+            let kept = pairs().count() - reset;
+            self.add("log grown by a take", 1);
+            self.add("ballot reset by a grown log", reset);
+            self.add("ballot kept by a grown log", kept);
+        }
+        let adopted = grown.ballots.iter().zip(&after.ballots).filter(|(old, new)| old != new).count();
+        self.add("path adopted", adopted);
+        if shorter {
+            self.add("path adopted from a shorter log", adopted);
+            self.add("message with a shorter log", 1);
+        }
+        if grown.ballots[after.own] != after.ballots[after.own] {
+            self.add("own path adopted", 1);
+        }
+        if before == after {
+            self.add("take that changed nothing", 1);
+        }
+    }
+
+    /// Counts late and repeated deliveries.
+    fn count_delivery(&mut self, k: usize, m: usize) {
+        let Some(mut sent) = self.sent[m] else {
+            return;
+        };
+        if self.world.offices[sent.sender].record != sent.record {
+            self.add("message taken late", 1);
+        }
+        if sent.taken[k] {
+            self.add("message taken again", 1);
+        }
+        sent.taken[k] = true;
+        self.sent[m] = Some(sent);
+    }
+
+    fn before_elect(&mut self, k: usize) {
+        let Some(office) = self.world.offices.get(k) else {
+            return;
+        };
+        let Office { mut record, mut log } = *office;
+        let mut count = 0;
+        loop {
+            let tally = Tally::of(&record);
+            let voted = |record: &Record| record.ballots.iter().filter(|ballot| ballot.len > 0).count();
+            let Some(winner) = tally.winner() else {
+                break;
+            };
+            let others = record.ballots.iter().filter(|ballot| ballot.len > 0 && ballot.cells[0] != winner).count();
+            if tally.by_value(winner) {
+                self.add("tie won by value", 1);
+            }
+            if others > 0 {
+                self.add("contested win", 1);
+                self.add("ballot reset by an election", others);
+            }
+            if voted(&record) < record.n {
+                self.add("win with offices unheard", 1);
+            }
+            step(&mut record, &mut log);
+            count += 1;
+        }
+        self.add("entry settled by an election", count);
+        self.most("longest log", record.settled);
+        if count > 1 {
+            self.add("election of two or more entries", 1);
+        }
+    }
+}
+
+/// Counts what the script on the input shows, a line of output for each sight.
+pub fn survey(input: impl Read, mut output: impl Write) -> Result<()> {
+    let mut survey = Survey::default();
+    each_line(input, |line| {
+        survey.line(line);
+        Ok(())
+    })?;
+    for (name, count) in &survey.counts {
+        writeln!(output, "{count:8} {name}")?;
+    }
+    output.flush()
+}
