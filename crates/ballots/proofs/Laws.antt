@@ -1,0 +1,163 @@
+-- What a fine ballot is, and what the operations on one do to the tail that it holds.
+--     fine, fine-of             what the test `ballotFine` says where it passes, and the ballot of a fine tail passes it
+--     tail-fine, fine-tail      a ballot is fine as its cells are in shape and its tail is fine
+--     held, held-all            a fine ballot is the one that holds its tail
+--     tail-of, tails-of         the tail of the ballot that holds a tail
+--     push-held                 an entry more in the cells is an entry more in the tail
+--     none-empty, empty-none    no ballot is the empty tail
+-- Assumes nothing.
+use mathlib.Core.Path.{_≡_, refl, sym, ap, ap₂, _∙_}
+use mathlib.Core.Bool.{true, false}
+use mathlib.Core.List.{List, [], _∷_, _++_, map, append-assoc}
+use Prim.Native.Nat.{ℕ, suc, _+_, _-_, _<_, _≤_}
+use native.Mathlib.Numerals.{add-one}
+use native.Mathlib.Omega.{arith}
+use lib.Dec.{eqb}
+use lib.ListN.{length, getD, take, drop, set, replicate, length-append, length-drop, take-append-drop, length-replicate}
+use lib.Seq.{length-take-le, set-split, drop-drop, take-append-seam, drop-append-seam}
+use borrow.Author.Tests.{eqb-true, leb-true, lt-ltb, eq-eqb, le-leb, lt-leb}
+use Rattle.protocol.specs.Tests.{allB, both, pick}
+use Rattle.protocol.specs.Entry.{isEntry}
+use Rattle.protocol.specs.Limits.{isEmpty, tailFine}
+use Rattle.protocol.proofs.Tests.{both-0, both-1, both-true, zeros, all-zeros, getD-map}
+use Rattle.ballots.specs.Ballots.{ballotShape, ballotFine, tailOf, ballotOf, pushed, isNoBallot, offEnd}
+use Rattle.ballots.specs.declared.Ballot.{Ballot}
+
+pub record Fine (n settled : ℕ) (b : Ballot) : Type 0 where
+  pub cells : length (b .cells) ≡ 32
+  pub len : b .len ≤ 32
+  pub zero : allB (eqb 0) (drop (b .len) (b .cells)) ≡ true
+  pub path : settled + b .len ≤ 1024
+  pub entries : allB (isEntry n) (tailOf b) ≡ true
+
+pub fine : (n settled : ℕ) (b : Ballot) → ballotFine n settled b ≡ true → Fine n settled b
+unfolding ballotFine ballotShape tailFine
+fine n settled b e =
+    let s = both-0 _ _ e in
+    let cells = eqb-true (length (b .cells)) 32 (both-0 _ _ s) in
+    let len = leb-true (b .len) 32 (both-0 _ _ (both-1 _ _ s)) in
+    let t = both-1 _ _ (both-1 _ _ e) in
+    record {
+      cells = cells;
+      len = len;
+      zero = both-1 _ _ (both-1 _ _ s);
+      path = omega (arith, leb-true (settled + length (tailOf b)) 1024 (both-0 _ _ t), length-take-le (b .len) (b .cells) (omega arith));
+      entries = both-1 _ _ t;
+    }
+
+-- the tail of the ballot that holds it
+pub tail-of : (t : List ℕ) → tailOf (ballotOf t) ≡ t
+tail-of t = take-append-seam t _
+
+pub tails-of : (ts : List (List ℕ)) → map tailOf (map ballotOf ts) ≡ ts
+tails-of [] = refl
+tails-of (t ∷ ts) = ap₂ (λ (x : List ℕ) (l : List (List ℕ)). x ∷ l) (tail-of t) (tails-of ts)
+
+-- the tail at an office of eight ballots
+pub tail-at : (bs : List Ballot) (k : ℕ) → getD (map tailOf bs) k [] ≡ tailOf (getD bs k offEnd)
+tail-at bs k = getD-map tailOf offEnd bs k
+
+-- a ballot is fine as its cells are in shape and its tail is fine
+pub tail-fine : (n settled : ℕ) (b : Ballot) → ballotFine n settled b ≡ true → tailFine n settled (tailOf b) ≡ true
+unfolding ballotFine
+tail-fine n settled b e = both-1 (ballotShape b) (tailFine n settled (tailOf b)) e
+
+shape-of : (t : List ℕ) → length t ≤ 32 → ballotShape (ballotOf t) ≡ true
+unfolding ballotShape
+shape-of t h =
+    both-true _ _ (eq-eqb (length (t ++ replicate (32 - length t) 0)) 32 (rw (length-append, length-replicate) (omega arith)))
+    (both-true _ _ (le-leb (length t) 32 h) (rw drop-append-seam (all-zeros (32 - length t))))
+
+pub fine-tail : (n settled : ℕ) (t : List ℕ) → tailFine n settled t ≡ true → ballotFine n settled (ballotOf t) ≡ true
+unfolding ballotFine tailFine
+fine-tail n settled t e =
+    both-true (ballotShape (ballotOf t)) (tailFine n settled (tailOf (ballotOf t)))
+    (shape-of t (leb-true (length t) 32 (both-0 _ _ e)))
+    (ap (tailFine n settled) (tail-of t) ∙ e)
+
+module _ (n settled : ℕ) (b : Ballot) (F : Fine n settled b) where
+  unused : drop (b .len) (b .cells) ≡ replicate (32 - b .len) 0
+  unused =
+      let l : length (drop (b .len) (b .cells)) ≡ 32 - b .len = rw (length-drop, F .cells) in
+      zeros (drop (b .len) (b .cells)) (F .zero) ∙ ap (λ (k : ℕ). replicate k 0) l
+
+  unused-next : b .len < 32 → drop (b .len + 1) (b .cells) ≡ replicate (32 - (b .len + 1)) 0
+  unused-next h =
+      let l : 32 - b .len ≡ suc (32 - (b .len + 1)) = omega arith in
+      sym (drop-drop 1 (b .len) (b .cells)) ∙ ap (drop 1) (unused ∙ ap (λ (k : ℕ). replicate k 0) l)
+
+  pub tail-length : length (tailOf b) ≡ b .len
+  tail-length = length-take-le (b .len) (b .cells) (omega arith)
+
+  pub held : ballotOf (tailOf b) ≡ b
+  held = λ i. record {
+    len = tail-length i;
+    cells = held-cells i;
+  }
+    where
+      held-cells : tailOf b ++ replicate (32 - length (tailOf b)) 0 ≡ b .cells
+      held-cells = rw (tail-length, ← unused) (take-append-drop (b .len) (b .cells))
+
+  pub push-held : (e : ℕ) → b .len < 32 → pushed b e ≡ ballotOf (tailOf b ++ e ∷ [])
+  unfolding pushed pick
+  push-held e h = rw (lt-ltb (b .len) 32 h) (λ i. record { len = grown i; cells = grown-cells i })
+    where
+      grown : b .len + 1 ≡ length (tailOf b ++ e ∷ [])
+      grown = rw (length-append, tail-length)
+
+      grown-cells : set (b .cells) (b .len) e ≡ (tailOf b ++ e ∷ []) ++ replicate (32 - length (tailOf b ++ e ∷ [])) 0
+      grown-cells = set-split (b .cells) (b .len) e (omega arith) ∙ rw (← grown, ← unused-next h, append-assoc, add-one)
+
+pub held-all : (n settled : ℕ) (bs : List Ballot) → allB (ballotFine n settled) bs ≡ true → map ballotOf (map tailOf bs) ≡ bs
+unfolding allB
+held-all n settled [] e = refl
+held-all n settled (b ∷ bs) e =
+    ap₂ (λ (x : Ballot) (l : List Ballot). x ∷ l)
+    (held n settled b (fine n settled b (both-0 _ _ e)))
+    (held-all n settled bs (both-1 _ _ e))
+
+-- no ballot is the empty tail
+pub none-empty : (b : Ballot) → isNoBallot b ≡ true → isEmpty (tailOf b) ≡ true
+unfolding isEmpty
+none-empty b h = ap (λ (k : ℕ). isEmpty (take k (b .cells))) (sym (eqb-true 0 (b .len) h))
+
+pub empty-none : (t : List ℕ) → isEmpty t ≡ true → isNoBallot (ballotOf t) ≡ true
+unfolding isEmpty
+empty-none [] h = refl
+empty-none (x ∷ t) h = let z : _≡_ {A = ℕ} 0 1 = cc in absurd (omega arith)
+
+-- each way out of the test of a ballot of 32 cells
+module _ (n settled : ℕ) (b : Ballot) (h : length (b .cells) ≡ 32) where
+  pub too-long : 32 < b .len → false ≡ ballotFine n settled b
+  unfolding ballotFine ballotShape both
+  too-long l = simp (eq-eqb (length (b .cells)) 32 h, lt-leb (b .len) 32 l)
+
+  module _ (l : b .len ≤ 32) where
+    pub not-zero : allB (eqb 0) (drop (b .len) (b .cells)) ≡ false → false ≡ ballotFine n settled b
+    unfolding ballotFine ballotShape both
+    not-zero z = simp (eq-eqb (length (b .cells)) 32 h, le-leb (b .len) 32 l, z)
+
+    module _ (z : allB (eqb 0) (drop (b .len) (b .cells)) ≡ true) where
+      tail-tested : tailFine n settled (tailOf b) ≡ ballotFine n settled b
+      unfolding ballotFine ballotShape both
+      tail-tested = simp (eq-eqb (length (b .cells)) 32 h, le-leb (b .len) 32 l, z)
+
+      abbrev long : ℕ
+      long = length (tailOf b)
+
+      is-len : long ≡ b .len
+      is-len = length-take-le (b .len) (b .cells) (omega arith)
+
+      pub too-far : 1024 < settled + b .len → false ≡ ballotFine n settled b
+      unfolding tailFine both
+      too-far s = far ∙ tail-tested
+        where
+          far : false ≡ tailFine n settled (tailOf b)
+          far = simp (le-leb long 32 (omega (arith, is-len)), lt-leb (settled + long) 1024 (omega (arith, is-len)))
+
+      pub all-tested : settled + b .len ≤ 1024 → allB (isEntry n) (tailOf b) ≡ ballotFine n settled b
+      unfolding tailFine both
+      all-tested s = rest ∙ tail-tested
+        where
+          rest : allB (isEntry n) (tailOf b) ≡ tailFine n settled (tailOf b)
+          rest = simp (le-leb long 32 (omega (arith, is-len)), le-leb (settled + long) 1024 (omega (arith, is-len)))

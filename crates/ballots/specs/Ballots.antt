@@ -1,0 +1,45 @@
+-- A ballot as cells and the tail that it holds; when a ballot and the weights are within document 01's limits. Assumes nothing.
+use Prim.Native.Nat.{ℕ, _+_, _-_}
+use mathlib.Core.Bool.{Bool}
+use mathlib.Core.List.{List, [], _∷_, _++_}
+use lib.Dec.{ltb, leb, eqb}
+use lib.ListN.{length, take, drop, set, replicate}
+use Rattle.protocol.specs.Tests.{both, pick, allB}
+use Rattle.protocol.specs.Limits.{tailFine}
+use Rattle.ballots.specs.declared.Ballot.{Ballot}
+
+-- the tail that a ballot holds
+abbrev pub tailOf : Ballot → List ℕ
+tailOf b = take (b .len) (b .cells)
+
+-- the ballot that holds a tail: "unused cells are zero"
+abbrev pub ballotOf : List ℕ → Ballot
+ballotOf t = record { len = length t; cells = t ++ replicate (32 - length t) 0 }
+
+-- "length 0 means none": no entries, and all cells zero
+abbrev pub noBallot : Ballot
+noBallot = record { len = 0; cells = replicate 32 0 }
+
+-- what an array of ballots gives past its end
+abbrev pub offEnd : Ballot
+offEnd = record { len = 0; cells = [] }
+
+abbrev pub isNoBallot : Ballot → Bool
+isNoBallot b = eqb 0 (b .len)
+
+-- 32 cells that hold a tail: "unused cells are zero"
+unfoldable pub ballotShape : Ballot → Bool
+ballotShape b = both (eqb (length (b .cells)) 32) (both (leb (b .len) 32) (allB (eqb 0) (drop (b .len) (b .cells))))
+
+-- a ballot of a sound record of n offices with this settled length
+unfoldable pub ballotFine : ℕ → ℕ → Ballot → Bool
+ballotFine n settled b = both (ballotShape b) (tailFine n settled (tailOf b))
+
+-- the ballot with one entry more; a full one is unchanged
+unfoldable pub pushed : Ballot → ℕ → Ballot
+pushed b e = pick (ltb (b .len) 32) (record { len = b .len + 1; cells = set (b .cells) (b .len) e }) b
+
+-- "sum, the total"
+unfoldable pub totalWeight : List ℕ → ℕ
+totalWeight [] = 0
+totalWeight (w ∷ ws) = w + totalWeight ws

@@ -1,0 +1,111 @@
+// Ballots by value: the test of one and of all eight, and the tests of the eight weights.
+ghost use mathlib.Core.Path.{_≡_};
+ghost use lib.Dec.{eqb};
+ghost use lib.ListN.{drop};
+ghost use Rattle.protocol.specs.Tests.{allB};
+ghost use Rattle.ballots.specs.Ballots.{ballotFine, isNoBallot, totalWeight, noBallot, pushed};
+
+// A tail of 0 to 32 entries in the first cells. Unused cells are zero; length 0 means none.
+#[repr(C)]
+pub struct Ballot {
+    pub len: usize,
+    pub cells: [u32; 32],
+}
+
+impl Ballot {
+    pub const CELLS: usize = 32;
+
+    // The longest path of a ballot: a settled length with a tail length.
+    pub const PATH: usize = 1024;
+
+    // Whether the ballot may stand in a sound record of n offices with this settled length.
+    pub fn fine(self, n: usize, settled: usize) -> bool
+        ensures { λ r. ⌜ r ≡ ballotFine n settled self ⌝ }
+    {
+        let len = self.len;
+        let cells = self.cells;
+        if len > Ballot::CELLS {
+            return false;
+        }
+        if !entries::all_zero(&cells[len..]) {
+            return false;
+        }
+        if settled > Ballot::PATH - len {
+            return false;
+        }
+        entries::all_entries(&cells[..len], n)
+    }
+
+    // No entries.
+    pub fn none() -> Ballot
+        ensures { λ r. ⌜ r ≡ noBallot ⌝ }
+    {
+        Ballot {
+            len: 0,
+            cells: [0; 32],
+        }
+    }
+
+    // One entry more; a full ballot is unchanged.
+    pub fn push(self, word: u32) -> Ballot
+        ensures { λ r. ⌜ r ≡ pushed self word ⌝ }
+    {
+        let len = self.len;
+        if len >= Ballot::CELLS {
+            return self;
+        }
+        let mut next = self;
+        next.cells[len] = word;
+        next.len = len + 1;
+        next
+    }
+}
+
+// Whether every ballot is fine.
+pub fn all_fine(ballots: [Ballot; 8], n: usize, settled: usize) -> bool
+    ensures { λ r. ⌜ r ≡ allB (ballotFine n settled) ballots ⌝ }
+{
+    for i in 0..8 {
+        let b = ballots[i];
+        if !b.fine(n, settled) {
+            return false;
+        }
+    }
+    true
+}
+
+// Whether the ballots from place n on are none.
+pub fn none_from(ballots: [Ballot; 8], n: usize) -> bool
+    ensures { λ r. ⌜ r ≡ allB isNoBallot (drop n ballots) ⌝ }
+{
+    for i in n..8 {
+        let b = ballots[i];
+        if b.len != 0 {
+            return false;
+        }
+    }
+    true
+}
+
+// Whether the weights from place n on are zero.
+pub fn zero_from(weights: [u16; 8], n: usize) -> bool
+    ensures { λ r. ⌜ r ≡ allB (eqb 0) (drop n weights) ⌝ }
+{
+    for i in n..8 {
+        if weights[i] != 0 {
+            return false;
+        }
+    }
+    true
+}
+
+// The sum of the weights.
+pub fn total_weight(weights: [u16; 8]) -> u32
+    ensures { λ r. ⌜ r ≡ totalWeight weights ⌝ }
+{
+    let mut sum: u32 = 0;
+    for i in 0..8 {
+        sum = sum + weights[i] as u32;
+    }
+    sum
+}
