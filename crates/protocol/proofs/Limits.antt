@@ -19,7 +19,7 @@ use borrow.Author.Tests.{eqb-true, eqb-false, leb-true, ltb-false, eq-eqb, le-le
 use Rattle.protocol.specs.Tests.{both, allB}
 use Rattle.protocol.specs.Entry.{value, officeOf, lineOf, codeOf, isEntry}
 use Rattle.protocol.specs.Beginning.{_⊑_, _⊏_, begins, extends}
-use Rattle.protocol.specs.Vote.{Votes, Rule}
+use Rattle.protocol.specs.Vote.{Rule}
 use Rattle.protocol.specs.Office.{Office, Message, fresh, tail, first, votes}
 use Rattle.protocol.specs.Limits.{isEmpty, tailFine, officeFine}
 use Rattle.protocol.specs.Issue.{withIssue, refuseIssue}
@@ -27,6 +27,7 @@ use Rattle.protocol.specs.Take.{rebased, rebase, catchUp, adopt, adopts,
 use Rattle.protocol.specs.Elect.{lose, settle, next, electing, withElect}
 use Rattle.protocol.proofs.Tests.{both-0, both-1, both-true, all-getD, all-one, all-append, all-map, all-set, all-drop, all-replicate, drop-map, if-cases}
 use Rattle.protocol.proofs.Beginning.{⊑-refl, ⊑-cases, ⊏-⊑, ⊑-⊏-trans, ⊑-length, ⊏-length, ⊏-irrefl, ⊑-append, ⊑-trans, begins-true, extends-true, extends-false}
+use Rattle.protocol.proofs.Vote.{NamesVoted}
 use Rattle.protocol.proofs.Office.{rebased-nil, next-cases}
 
 -- ── the facts by name ──
@@ -209,10 +210,6 @@ settle-fine n e o f k h =
           (λ t x. fine-tail-of n (settled + 1) (lose e t) (lose-fine n settled e t (p .1) (fine-tail n settled t x))) (o .tails) (f .tails));
       rest = rw (drop-map (lose e) n (o .tails)) (all-map isEmpty isEmpty (lose e) (lose-empty e) (drop n (o .tails)) (f .rest));
     }
-
--- a rule whose winner has a vote
-abbrev pub NamesVoted : Rule → Type 0
-NamesVoted rule = (l : List ℕ) (v : Votes) (e : ℕ) → rule l v ≡ some e → (k : ℕ) × (v k ≡ some e)
 
 pub electing-fine : (rule : Rule) → NamesVoted rule → (n fuel : ℕ) (o : Office) → Fine n o → Fine n (electing rule fuel o)
 unfolding electing

@@ -3,6 +3,7 @@ pub mod Tests
 pub mod Entry
 pub mod Beginning
 pub mod Vote
+pub mod Winning
 pub mod Office
 pub mod Limits
 pub mod Issue
