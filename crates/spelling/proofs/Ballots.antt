@@ -16,7 +16,7 @@ use Rattle.protocol.proofs.Tests.{both-1, both-0}
 use Rattle.spelling.specs.Numbers.{bytes32, runOk, runAt, Bytes, run, be32}
 use Rattle.spelling.specs.Reading.{sizeAt, tailAt, tailsAt, ballotOk, endOk, ballotsOk, valueHere, ballotNext, afterBallot}
 use Rattle.spelling.specs.Spelling.{ballotBytes, ballotsBytes, endBytes}
-use Rattle.spelling.proofs.Items.{value}
+use Rattle.spelling.proofs.Items.{valueItem}
 use Rattle.spelling.proofs.Runs.{bytes-drop, run-said, run-here, run-past, run-back, run-fine, runAt-length}
 
 -- ---- the two cases of a ballot
@@ -65,7 +65,7 @@ module _ (n : ℕ) (small : n ≤ 8) (k o : ℕ) where
   ballot-said [] r e h = tail-no o r e
   ballot-said (v ∷ vs) r e h =
       tail-yes o (ballotBytes o (v ∷ vs) ++ r) (next-yes o v vs r)
-      ∙ run-said 4 bytes32 be32 (valueHere n) (isEntry n) (value n small) (v ∷ vs) r h
+      ∙ run-said 4 bytes32 be32 (valueHere n) (isEntry n) (valueItem n small) (v ∷ vs) r h
 
   ballot-past : (t r : List ℕ) → ballotNext o r ≡ false → afterBallot o (ballotBytes o t ++ r) ≡ r
   unfolding ballotBytes
@@ -73,7 +73,7 @@ module _ (n : ℕ) (small : n ≤ 8) (k o : ℕ) where
   ballot-past (v ∷ vs) r e =
       after-yes o (ballotBytes o (v ∷ vs) ++ r) (next-yes o v vs r)
       ∙ sym (drop-drop (4 * length (v ∷ vs)) 4 (ballotBytes o (v ∷ vs) ++ r))
-      ∙ run-past 4 bytes32 be32 (valueHere n) (isEntry n) (value n small) (v ∷ vs) r
+      ∙ run-past 4 bytes32 be32 (valueHere n) (isEntry n) (valueItem n small) (v ∷ vs) r
 
   ballot-here : (t r : List ℕ) → ballotNext o r ≡ false → tailFine n k t ≡ true → ballotOk n k o (ballotBytes o t ++ r) ≡ true
   unfolding ballotBytes tailFine both
@@ -84,7 +84,7 @@ module _ (n : ℕ) (small : n ≤ 8) (k o : ℕ) where
       let q : leb (k + length (v ∷ vs)) 1024 ≡ true = both-0 _ _ a in
       ok-yes o (ballotBytes o (v ∷ vs) ++ r) n k (next-yes o v vs r)
       ∙ rw (le-leb 1 (length (v ∷ vs)) (omega arith), p, q)
-      (run-here 4 bytes32 be32 (valueHere n) (isEntry n) (value n small) (v ∷ vs) r (both-1 (leb (k + length (v ∷ vs)) 1024) _ a))
+      (run-here 4 bytes32 be32 (valueHere n) (isEntry n) (valueItem n small) (v ∷ vs) r (both-1 (leb (k + length (v ∷ vs)) 1024) _ a))
 
 tail-entries : (n k : ℕ) (t : List ℕ) → tailFine n k t ≡ true → allB (isEntry n) t ≡ true
 unfolding tailFine
@@ -158,7 +158,7 @@ module _ (n : ℕ) (small : n ≤ 8) (k o : ℕ) (s : List ℕ) (bs : Bytes s) (
           let l : ℕ = getD s 3 0 in
           let t : List ℕ = runAt 4 be32 l (drop 4 s) in
           let lt : length t ≡ l = runAt-length 4 be32 l (drop 4 s) in
-          rw (tail-yes o s e, after-yes o s e, ballot-cons o t (omega (arith, some-long e)), lt, ← drop-drop (4 * l) 4 s, run-back 4 bytes32 be32 (valueHere n) (isEntry n) (value n small) l (drop 4 s) (bytes-drop 4 s bs) (both-1 (leb (k + l) 1024) _ (rest-tests e)))
+          rw (tail-yes o s e, after-yes o s e, ballot-cons o t (omega (arith, some-long e)), lt, ← drop-drop (4 * l) 4 s, run-back 4 bytes32 be32 (valueHere n) (isEntry n) (valueItem n small) l (drop 4 s) (bytes-drop 4 s bs) (both-1 (leb (k + l) 1024) _ (rest-tests e)))
           (next-head o s e)
 
   pub ballot-fine : k ≤ 1024 → tailFine n k (tailAt o s) ≡ true
@@ -171,7 +171,7 @@ module _ (n : ℕ) (small : n ≤ 8) (k o : ℕ) (s : List ℕ) (bs : Bytes s) (
           let p : leb l 32 ≡ true = both-0 _ _ (both-1 (leb 1 l) _ (tests e)) in
           let q : leb (k + l) 1024 ≡ true = both-0 _ _ (rest-tests e) in
           rw (tail-yes o s e, runAt-length 4 be32 l (drop 4 s), p, q)
-          (run-fine 4 bytes32 be32 (valueHere n) (isEntry n) (value n small) l (drop 4 s) (bytes-drop 4 s bs) (both-1 (leb (k + l) 1024) _ (rest-tests e)))
+          (run-fine 4 bytes32 be32 (valueHere n) (isEntry n) (valueItem n small) l (drop 4 s) (bytes-drop 4 s bs) (both-1 (leb (k + l) 1024) _ (rest-tests e)))
 
   pub bytes-after : Bytes (afterBallot o s)
   bytes-after = by-test _ (ballotNext o s) (λ e. rw (after-yes o s e) (bytes-drop (4 + 4 * getD s 3 0) s bs)) (λ e. rw (after-no o s e) bs)

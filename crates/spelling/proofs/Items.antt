@@ -44,9 +44,9 @@ pub entry-below : (n v : ℕ) → n ≤ 8 → isEntry n v ≡ true → v < 42949
 unfolding isEntry
 entry-below n v h e = omega (arith, ltb-true (v / 16777216) n (both-0 _ _ e))
 
-pub weight : Item 2 bytes16 be16 weightHere isWeight
+pub weightItem : Item 2 bytes16 be16 weightHere isWeight
 unfolding bytes16 weightHere isWeight
-weight =
+weightItem =
     record {
       wide = λ v. refl;
       said = λ v r h. be16-bytes16 v r (ltb-true v 65536 h);
@@ -56,9 +56,9 @@ weight =
     }
 
 module _ (n : ℕ) (small : n ≤ 8) where
-  pub value : Item 4 bytes32 be32 (valueHere n) (isEntry n)
+  pub valueItem : Item 4 bytes32 be32 (valueHere n) (isEntry n)
   unfolding bytes32 valueHere
-  value =
+  valueItem =
       record {
         wide = λ v. refl;
         said = λ v r h. be32-bytes32 v r (entry-below n v small h);
@@ -67,9 +67,9 @@ module _ (n : ℕ) (small : n ≤ 8) where
         fine = λ s b h. both-1 (leb 4 (length s)) _ h;
       }
 
-  pub logged : Item 6 logRecord recordAt (recordHere n) (isEntry n)
+  pub recordItem : Item 6 logRecord recordAt (recordHere n) (isEntry n)
   unfolding bytes32 logRecord recordAt recordHere both
-  logged =
+  recordItem =
       record {
         wide = λ v. refl;
         said = λ v r h. be32-bytes32 v r (entry-below n v small h);

@@ -19,7 +19,7 @@ use Rattle.spelling.specs.Reading.{tailsAt, settledAt, reading, headOk, 
 use Rattle.spelling.specs.Spelling.{headBytes, spelling, ballotsBytes, logRecord, endBytes}
 use Rattle.spelling.proofs.Ballots.{by-test, ballots-said, ballots-here, ballots-back, ballots-fine, tailsAt-length, four-back}
 use Rattle.spelling.proofs.Head.{Head, head-facts}
-use Rattle.spelling.proofs.Items.{weight, logged, be16-back}
+use Rattle.spelling.proofs.Items.{weightItem, recordItem, be16-back}
 use Rattle.spelling.proofs.Numbers.{be16-bytes16}
 use Rattle.spelling.proofs.Runs.{bytes-drop, run-said, run-here, run-past, run-back, run-fine, runAt-length}
 use Rattle.spelling.proofs.Valid.{Valid, valid-facts, valid-test}
@@ -45,7 +45,7 @@ module _ (m : Content) (v : Valid m) where
       sym (drop-drop (2 * m .n) 4 (spelling m))
       ∙ ap (λ (k : ℕ). drop (2 * k) (drop 4 (spelling m))) (sym (v .weights-length))
       ∙ ap (λ (s : List ℕ). drop (2 * length (m .weights)) (drop 4 s)) (spelled m)
-      ∙ run-past 2 bytes16 be16 weightHere isWeight weight (m .weights) (bytes16 (length (m .log)) ++ records m)
+      ∙ run-past 2 bytes16 be16 weightHere isWeight weightItem (m .weights) (bytes16 (length (m .log)) ++ records m)
 
   settled-said : settledAt (spelling m) ≡ length (m .log)
   unfolding settledAt
@@ -58,13 +58,13 @@ module _ (m : Content) (v : Valid m) where
       rw (count-said, e, ← drop-drop 2 (4 + 2 * m .n) (spelling m), after-weights)
 
   after-log : drop (6 * length (m .log)) (records m) ≡ ballotsBytes 0 (m .tails) ++ endBytes
-  after-log = run-past 6 logRecord recordAt (recordHere (m .n)) (isEntry (m .n)) (logged (m .n) (v .few-offices)) (m .log) (ballotsBytes 0 (m .tails) ++ endBytes)
+  after-log = run-past 6 logRecord recordAt (recordHere (m .n)) (isEntry (m .n)) (recordItem (m .n) (v .few-offices)) (m .log) (ballotsBytes 0 (m .tails) ++ endBytes)
 
   weights-said : runAt 2 be16 (m .n) (drop 4 (spelling m)) ≡ m .weights
-  weights-said = rw (spelled m, ← v .weights-length) (run-said 2 bytes16 be16 weightHere isWeight weight (m .weights) _ (v .weights-fine))
+  weights-said = rw (spelled m, ← v .weights-length) (run-said 2 bytes16 be16 weightHere isWeight weightItem (m .weights) _ (v .weights-fine))
 
   log-said : runAt 6 recordAt (length (m .log)) (records m) ≡ m .log
-  log-said = run-said 6 logRecord recordAt (recordHere (m .n)) (isEntry (m .n)) (logged (m .n) (v .few-offices)) (m .log) _ (v .log-fine)
+  log-said = run-said 6 logRecord recordAt (recordHere (m .n)) (isEntry (m .n)) (recordItem (m .n) (v .few-offices)) (m .log) _ (v .log-fine)
 
   tails-said : tailsAt 0 (m .n) (ballotsBytes 0 (m .tails) ++ endBytes) ≡ m .tails
   tails-said = rw (← v .tails-length) (ballots-said (m .n) (v .few-offices) (length (m .log)) 0 (m .tails) (v .tails-fine))
@@ -102,7 +102,7 @@ module _ (m : Content) (v : Valid m) where
   records-here =
       let e : ballotsOk (m .n) (length (m .log)) 0 (m .n) (ballotsBytes 0 (m .tails) ++ endBytes) ≡ true = ap (λ (c : ℕ). ballotsOk (m .n) (length (m .log)) 0 c (ballotsBytes 0 (m .tails) ++ endBytes)) (sym (v .tails-length)) ∙ ballots-here (m .n) (v .few-offices) (length (m .log)) 0 (m .tails) (v .tails-fine) in
       rw (
-        run-here 6 logRecord recordAt (recordHere (m .n)) (isEntry (m .n)) (logged (m .n) (v .few-offices)) (m .log) (ballotsBytes 0 (m .tails) ++ endBytes) (v .log-fine),
+        run-here 6 logRecord recordAt (recordHere (m .n)) (isEntry (m .n)) (recordItem (m .n) (v .few-offices)) (m .log) (ballotsBytes 0 (m .tails) ++ endBytes) (v .log-fine),
         after-log,
         e,
       )
@@ -168,9 +168,9 @@ module _ (s : List ℕ) (b : Bytes s) (ok : messageOk s ≡ true) where
         spelled,
         runAt-length 6 recordAt k (restAt s),
         ballots-back n f k 0 n (drop (6 * k) (restAt s)) (bytes-drop (6 * k) (restAt s) rest-bytes) ballots-ok,
-        run-back 6 logRecord recordAt (recordHere n) (isEntry n) (logged n f) k (restAt s) rest-bytes log-ok,
+        run-back 6 logRecord recordAt (recordHere n) (isEntry n) (recordItem n f) k (restAt s) rest-bytes log-ok,
         settled-back,
-        run-back 2 bytes16 be16 weightHere isWeight weight n (drop 4 s) (bytes-drop 4 s b) weights-ok,
+        run-back 2 bytes16 be16 weightHere isWeight weightItem n (drop 4 s) (bytes-drop 4 s b) weights-ok,
       )
       (head-back s head)
 
@@ -186,9 +186,9 @@ module _ (s : List ℕ) (b : Bytes s) (ok : messageOk s ≡ true) where
         few-offices = f;
         sender-below = head .sender-below;
         weights-length = runAt-length 2 be16 n (drop 4 s);
-        weights-fine = run-fine 2 bytes16 be16 weightHere isWeight weight n (drop 4 s) (bytes-drop 4 s b) weights-ok;
+        weights-fine = run-fine 2 bytes16 be16 weightHere isWeight weightItem n (drop 4 s) (bytes-drop 4 s b) weights-ok;
         log-length = rw e (head .settled-few);
-        log-fine = run-fine 6 logRecord recordAt (recordHere n) (isEntry n) (logged n f) k (restAt s) rest-bytes log-ok;
+        log-fine = run-fine 6 logRecord recordAt (recordHere n) (isEntry n) (recordItem n f) k (restAt s) rest-bytes log-ok;
         tails-length = tailsAt-length 0 n (drop (6 * k) (restAt s));
         tails-fine = rw e (ballots-fine n f k 0 n (head .settled-few) (drop (6 * k) (restAt s)) (bytes-drop (6 * k) (restAt s) rest-bytes) ballots-ok);
       }

@@ -7,4 +7,5 @@ pub mod Ballots
 pub mod Valid
 pub mod Head
 pub mod Laws
+pub mod Lengths
 pub mod Vectors

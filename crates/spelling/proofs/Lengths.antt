@@ -1,0 +1,114 @@
+-- How long a spelling is: the sum of its parts, at most 7032 bytes, which some valid content reaches. Assumes nothing.
+use Prim.Native.Nat.{ℕ, _*_, _+_, _-_, _<_, _≤_, suc, zero}
+use mathlib.Core.Bool.{true}
+use mathlib.Core.List.{List, [], _∷_}
+use mathlib.Core.Path.{_≡_, refl}
+use native.Mathlib.Nat.{suc-mul}
+use native.Mathlib.Omega.{arith}
+use lib.Dec.{leb}
+use lib.ListN.{length, length-append, length-replicate, replicate}
+use borrow.Author.Tests.{leb-true, leb-false}
+use Rattle.protocol.specs.Entry.{isEntry}
+use Rattle.protocol.specs.Limits.{tailFine}
+use Rattle.protocol.specs.Tests.{allB, both}
+use Rattle.protocol.proofs.Tests.{all-replicate, both-0, both-1}
+use Rattle.spelling.specs.Content.{Content, isWeight, validContent}
+use Rattle.spelling.specs.Numbers.{be16, be32, bytes16, bytes32}
+use Rattle.spelling.specs.Reading.{recordAt, recordHere, valueHere, weightHere}
+use Rattle.spelling.specs.Spelling.{ballotBytes, ballotsBytes, endBytes, headBytes, logRecord, spelling}
+use Rattle.spelling.proofs.Ballots.{by-test}
+use Rattle.spelling.proofs.Items.{recordItem, weightItem, valueItem}
+use Rattle.spelling.proofs.Runs.{run-length}
+use Rattle.spelling.proofs.Valid.{Valid, valid-facts, valid-test}
+
+-- a ballot's bytes: none, or four and four for each value
+pub ballot-length : (o : ℕ) (t : List ℕ) → length (ballotBytes o t) ≤ 4 + 4 * length t
+unfolding ballotBytes
+ballot-length o [] = omega arith
+ballot-length o (v ∷ vs) = omega (arith, run-length 4 bytes32 be32 (valueHere 0) (isEntry 0) (valueItem 0 (omega arith)) (v ∷ vs))
+
+-- "22 + 5952 + 1056 + 2": the head, the log records, the ballots, the end
+pub spelling-length : (c : Content) → length (spelling c) ≡ (6 + 2 * length (c .weights)) + (6 * length (c .log) + (length (ballotsBytes 0 (c .tails)) + 2))
+unfolding spelling headBytes bytes16 endBytes
+spelling-length c =
+    let w = run-length 2 bytes16 be16 weightHere isWeight weightItem (c .weights) in
+    let l = run-length 6 logRecord recordAt (recordHere 0) (isEntry 0) (recordItem 0 (omega arith)) (c .log) in
+    simp length-append (omega arith)
+
+-- tails within the limits beside a settled log of k entries
+tail-length : (n k : ℕ) (t : List ℕ) → tailFine n k t ≡ true → (length t ≤ 32) × (k + length t ≤ 1024)
+unfolding tailFine
+tail-length n k t e = (leb-true _ _ (both-0 _ _ e), leb-true _ _ (both-0 _ _ (both-1 (leb (length t) 32) _ e)))
+
+-- at most j tails, whose ballots have at most m bytes each
+ballots-most : (n k m o j : ℕ) (ts : List (List ℕ)) → length ts ≤ j → ((t : List ℕ) → tailFine n k t ≡ true → 4 + 4 * length t ≤ m) → allB (tailFine n k) ts ≡ true
+    → length (ballotsBytes o ts) ≤ j * m
+unfolding ballotsBytes allB
+ballots-most n k m o j [] h f e = omega arith
+ballots-most n k m o zero (t ∷ ts) h f e = absurd (omega arith)
+ballots-most n k m o (suc j) (t ∷ ts) h f e =
+    let a : 4 + 4 * length t ≤ m = f t (both-0 _ _ e) in
+    let b : length (ballotsBytes (suc o) ts) ≤ j * m = ballots-most n k m (suc o) j ts (omega arith) f (both-1 (tailFine n k t) _ e) in
+    rw (length-append, suc-mul) (omega (arith, ballot-length o t))
+
+-- "the longest, at settled length 992, is 22 + 5952 + 1056 + 2 = 7032 bytes"
+pub longest : (c : Content) → validContent c ≡ true → length (spelling c) ≤ 7032
+longest c e = by-test _ (leb (length (c .log)) 992) (λ q. few (leb-true _ _ q)) (λ q. many (leb-false _ _ q))
+  where
+    v : Valid c
+    v = valid-facts c e
+
+    few : length (c .log) ≤ 992 → length (spelling c) ≤ 7032
+    few h =
+        let b : length (ballotsBytes 0 (c .tails)) ≤ 8 * 132 = ballots-most (c .n) (length (c .log)) 132 0 8 (c .tails) (omega (arith, v .tails-length, v .few-offices)) (λ t q. omega (arith, tail-length (c .n) (length (c .log)) t q)) (v .tails-fine) in
+        omega (arith, spelling-length c, v .weights-length, v .few-offices)
+
+    many : 992 < length (c .log) → length (spelling c) ≤ 7032
+    many h =
+        let m : ℕ = 4 + 4 * (1024 - length (c .log)) in
+        let b : length (ballotsBytes 0 (c .tails)) ≤ 8 * m = ballots-most (c .n) (length (c .log)) m 0 8 (c .tails) (omega (arith, v .tails-length, v .few-offices)) (λ t q. omega (arith, tail-length (c .n) (length (c .log)) t q)) (v .tails-fine) in
+        omega (arith, spelling-length c, v .weights-length, v .few-offices, v .log-length)
+
+-- a content of 992 settled entries and eight tails of 32
+longestContent : Content
+longestContent = record { sender = 0; n = 8; weights = replicate 8 1; log = replicate 992 0; tails = replicate 8 (replicate 32 0) }
+
+zero-entry : isEntry 8 0 ≡ true
+unfolding isEntry both
+zero-entry = refl
+
+zeros-fine : tailFine 8 992 (replicate 32 0) ≡ true
+unfolding tailFine allB both isEntry
+zeros-fine = refl
+
+-- ballots of 32 values each
+full-length : (o j : ℕ) → length (ballotsBytes o (replicate j (replicate 32 0))) ≡ j * 132
+unfolding ballotsBytes ballotBytes
+full-length o zero = refl
+full-length o (suc j) = rw (length-append, full-length (suc o) j, suc-mul) (omega (arith, run-length 4 bytes32 be32 (valueHere 0) (isEntry 0) (valueItem 0 (omega arith)) (replicate 32 0)))
+
+one-weight : isWeight 1 ≡ true
+unfolding isWeight
+one-weight = refl
+
+longest-facts : Valid longestContent
+unfolding longestContent
+longest-facts =
+    record {
+      some-office = omega arith;
+      few-offices = omega arith;
+      sender-below = omega arith;
+      weights-length = refl;
+      weights-fine = all-replicate isWeight 8 1 one-weight;
+      log-length = rw length-replicate (omega arith);
+      log-fine = all-replicate (isEntry 8) 992 0 zero-entry;
+      tails-length = refl;
+      tails-fine = rw length-replicate (all-replicate (tailFine 8 992) 8 (replicate 32 0) zeros-fine);
+    }
+
+longest-length : length (spelling longestContent) ≡ 7032
+unfolding longestContent
+longest-length = omega (arith, spelling-length longestContent, length-replicate {A = ℕ} 992 0, full-length 0 8)
+
+pub longest-reached : (c : Content) × (validContent c ≡ true) × (length (spelling c) ≡ 7032)
+longest-reached = (longestContent, valid-test longestContent longest-facts, longest-length)
