@@ -4,7 +4,7 @@ use Prim.Native.Nat.{ℕ, zero, suc, _+_, _-_, _*_, _≤_}
 use mathlib.Core.Bool.{true, false}
 use mathlib.Core.List.{List, _∷_, _++_, append-assoc}
 use mathlib.Core.Option.{Option, none, some}
-use mathlib.Core.Path.{_≡_, refl, sym, ap, _∙_}
+use mathlib.Core.Path.{_≡_, subst, refl, sym, ap, _∙_}
 use native.Mathlib.Omega.{arith}
 use lib.ListN.{length, getD, drop, length-drop}
 use lib.Seq.{drop-drop}
@@ -22,6 +22,7 @@ use Rattle.spelling.proofs.Head.{Head, head-facts}
 use Rattle.spelling.proofs.Items.{weightItem, recordItem, be16-back}
 use Rattle.spelling.proofs.Numbers.{be16-bytes16}
 use Rattle.spelling.proofs.Runs.{bytes-drop, run-said, run-here, run-past, run-back, run-fine, runAt-length}
+use Rattle.spelling.proofs.Steps.{record-length, run-room}
 use Rattle.spelling.proofs.Valid.{Valid, valid-facts, valid-test}
 
 -- ---- what is written is read back
@@ -209,3 +210,22 @@ pub spelling-reading : (s : List ℕ) (c : Content) → Bytes s → reading s �
 spelling-reading s c b e =
     let r = reading-is s c e in
     (rw (r .1) at (msg-back s b (r .0)), rw (r .1) at (valid-test (contentAt s) (msg-fine s b (r .0))))
+
+-- ---- the log in the message: its records stand after the head, six bytes each
+
+module _ (s : List ℕ) (c : Content) (e : reading s ≡ some c) where
+  pub reading-log : runAt 6 recordAt (length (c .log)) (drop (6 + 2 * c .n) s) ≡ c .log
+  unfolding contentAt restAt
+  reading-log =
+      let r = reading-is s c e .1 in
+      let l : length (contentAt s .log) ≡ settledAt s = runAt-length 6 recordAt (settledAt s) (restAt s) in
+      subst (λ (d : Content). runAt 6 recordAt (length (d .log)) (drop (6 + 2 * d .n) s) ≡ d .log) r (ap (λ (k : ℕ). runAt 6 recordAt k (restAt s)) l)
+
+  pub reading-room : 6 + 2 * c .n + 6 * length (c .log) ≤ length s
+  unfolding contentAt restAt messageOk recordsOk
+  reading-room =
+      let r = reading-is s c e in
+      let h : Head s = head-facts s (both-0 _ _ (r .0)) in
+      let l : length (contentAt s .log) ≡ settledAt s = runAt-length 6 recordAt (settledAt s) (restAt s) in
+      let m : 6 * settledAt s ≤ length (restAt s) = run-room 6 (recordHere (countAt s)) (λ t q. record-length (countAt s) t q) (settledAt s) (restAt s) (both-0 _ _ (both-1 (headOk s) _ (r .0))) in
+      subst (λ (d : Content). 6 + 2 * d .n + 6 * length (d .log) ≤ length s) (r .1) (omega (arith, length-drop (6 + 2 * countAt s) s))

@@ -36,7 +36,7 @@ spelling-length c =
     simp length-append (omega arith)
 
 -- tails within the limits beside a settled log of k entries
-tail-length : (n k : ℕ) (t : List ℕ) → tailFine n k t ≡ true → (length t ≤ 32) × (k + length t ≤ 1024)
+pub tail-length : (n k : ℕ) (t : List ℕ) → tailFine n k t ≡ true → (length t ≤ 32) × (k + length t ≤ 1024)
 unfolding tailFine
 tail-length n k t e = (leb-true _ _ (both-0 _ _ e), leb-true _ _ (both-0 _ _ (both-1 (leb (length t) 32) _ e)))
 

@@ -8,4 +8,5 @@ pub mod Valid
 pub mod Head
 pub mod Laws
 pub mod Lengths
+pub mod BelowByte
 pub mod Vectors

@@ -1,9 +1,9 @@
 -- One turn of the loops that read and write a run. Assumes nothing.
-use Prim.Native.Nat.{ℕ, suc, _+_, _-_, _≤_, _<_}
+use Prim.Native.Nat.{ℕ, suc, _+_, _-_, _≤_, _<_, _*_, zero}
 use mathlib.Core.Bool.{Bool, true, false}
 use mathlib.Core.List.{List}
 use mathlib.Core.Path.{_≡_}
-use native.Mathlib.Nat.{add-zero}
+use native.Mathlib.Nat.{add-zero, mul-zero}
 use native.Mathlib.Numerals.{add-one}
 use native.Mathlib.Omega.{arith}
 use lib.Dec.{leb, eqb}
@@ -11,7 +11,7 @@ use lib.ListN.{length, getD, take, drop, set, length-drop, length-take, drop-of-
 use lib.Seq.{sets, drop-drop, drop-cons, getD-take, getD-drop, length-take-le}
 use borrow.Author.Tests.{leb-true, le-leb}
 use Rattle.protocol.specs.Tests.{both}
-use Rattle.protocol.proofs.Tests.{both-0}
+use Rattle.protocol.proofs.Tests.{both-0, both-1}
 use Rattle.spelling.specs.Numbers.{runAt, run, runOk}
 use Rattle.spelling.specs.Reading.{ballotNext, recordHere, valueHere}
 use Rattle.spelling.proofs.Numbers.{sets-append}
@@ -72,3 +72,21 @@ fill-end w g l k i s h = let q : k - i ≡ 0 = omega arith in rw q
 pub next-test : (s : List ℕ) (at o : ℕ) → 4 ≤ length s - at → getD s at 0 ≡ 0x42 → getD s (at + 1) 0 ≡ 0x41 → ballotNext o (drop at s) ≡ eqb (getD s (at + 2) 0) o
 unfolding ballotNext both
 next-test s at o h p q = simp (length-drop, getD-drop, add-zero, le-leb 4 (length s - at) h, p, q)
+
+-- k items that stand there have room
+pub run-room : (w : ℕ) (p : List ℕ → Bool) → ((s : List ℕ) → p s ≡ true → w ≤ length s) → (k : ℕ) (s : List ℕ) → runOk w p k s ≡ true → w * k ≤ length s
+unfolding runOk
+run-room w p h zero s e = rw mul-zero (omega arith)
+run-room w p h (suc k) s e =
+    let a : w ≤ length s = h s (both-0 _ _ e) in
+    let b : w * k ≤ length (drop w s) = run-room w p h k (drop w s) (both-1 (p s) _ e) in
+    let q : w * suc k ≡ w + w * k = omega arith in
+    rw q (omega (arith, length-drop w s))
+
+pub record-length : (n : ℕ) (s : List ℕ) → recordHere n s ≡ true → 6 ≤ length s
+unfolding recordHere
+record-length n s e = leb-true 6 (length s) (both-0 _ _ e)
+
+pub value-length : (n : ℕ) (s : List ℕ) → valueHere n s ≡ true → 4 ≤ length s
+unfolding valueHere
+value-length n s e = leb-true 4 (length s) (both-0 _ _ e)
