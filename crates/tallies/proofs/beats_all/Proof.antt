@@ -1,0 +1,47 @@
+-- A walk from the front: what is left of the ballots answers as all of them do.
+use native.Mathlib.Omega.{arith}
+use mathlib.Core.Path.{_≡_, refl, sym, _∙_}
+use Prim.Native.Nat.{_-_, _≤_}
+use lib.Dec.{ltb}
+use lib.ListN.{length, drop}
+use borrow.Author.Tests.{not-true, not-false}
+use borrow.Author.Needs.{needs}
+use Rattle.protocol.specs.Vote.{supported, beatsAll}
+use Rattle.tallies.specs.Tallies.{votesIn}
+use Rattle.tallies.proofs.Walks.{votesFrom, beats-next, beats-stop, beats-done}
+use Rattle.tallies.proofs.beats_all.Statement.{statement}
+use Rattle.tallies.proofs.beats_all.Tie as tie
+
+abbrev Inv-loop : tie.InvT-loop
+Inv-loop weights te u entry ballots i₀ i = (i ≤ 8) × (beatsAll weights ltb (votesIn ballots) entry (supported weights (votesIn ballots)) ≡ beatsAll weights ltb (votesIn ballots) entry (supported (drop i weights) (votesFrom i ballots)))
+
+abbrev μ-loop : tie.MeasureT-loop
+μ-loop weights te u entry ballots i₀ i = 8 - i
+
+loop-holds : tie.Need-loop-holds Inv-loop μ-loop
+loop-holds c = (search needs, refl)
+
+returns : tie.Need-returns Inv-loop μ-loop
+returns c = let l = c .before .before .before .before .loop in let a = c .before .before .before .before .before .args in let hb : length (a .t1) ≡ 8 = search needs in let hw : length (a .weights) ≡ 8 = search needs in beats-stop _ (a .entry) (votesIn (a .t1)) (a .weights) (a .t1) (a .weights) (l .i) (l .inv .1) (omega arith) (omega arith) (sym (c .before .beats-first .ensures) ∙ not-true _ (c .if1 .taken))
+
+loop-again : tie.Need-loop-again Inv-loop μ-loop
+loop-again c = let l = c .before .before .before .before .loop in let a = c .before .before .before .before .before .args in let hb : length (a .t1) ≡ 8 = search needs in let hw : length (a .weights) ≡ 8 = search needs in (search needs, beats-next _ (a .entry) (votesIn (a .t1)) (a .weights) (a .t1) (a .weights) (l .i) (l .inv .1) (omega arith) (omega arith) (sym (c .before .beats-first .ensures) ∙ not-false _ (c .if1 .left)))
+
+returns-2 : tie.Need-returns-2 Inv-loop μ-loop
+returns-2 c = let l = c .before .loop in let a = c .before .before .args in let hb : length (a .t1) ≡ 8 = search needs in let hw : length (a .weights) ≡ 8 = search needs in beats-done _ (a .entry) (votesIn (a .t1)) (a .weights) (a .t1) (a .weights) (l .i) (l .inv .1) (omega arith)
+
+pub beats-all-spec : {M : Type 1} → statement M
+beats-all-spec =
+    tie.close
+    (tie.spec
+    Inv-loop
+    μ-loop
+    loop-holds
+    (λ c. search needs)
+    (λ c. search needs)
+    (λ c κs. search needs)
+    returns
+    (λ c. search needs)
+    (λ c. search needs)
+    loop-again
+    returns-2)

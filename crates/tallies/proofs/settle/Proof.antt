@@ -1,0 +1,46 @@
+-- A walk that overwrites the ballots from the front by what they become.
+use native.Mathlib.Omega.{arith}
+use mathlib.Core.Path.{_≡_, refl, sym, ap₂, _∙_}
+use mathlib.Core.List.{List, map}
+use Prim.Native.Nat.{_-_, _≤_}
+use lib.ListN.{length, set, length-map, List·getD-map}
+use borrow.Author.Needs.{needs}
+use Rattle.entries.proofs.Fill.{filled, fill-step, fill-end}
+use Rattle.ballots.specs.Ballots.{offEnd}
+use Rattle.ballots.specs.declared.Ballot.{Ballot}
+use Rattle.tallies.specs.Tallies.{settledBallot}
+use Rattle.tallies.proofs.Cells.{settled-all}
+use Rattle.tallies.proofs.settle.Statement.{statement}
+use Rattle.tallies.proofs.settle.Tie as tie
+
+abbrev Inv-loop : tie.InvT-loop
+Inv-loop entry ballots next₀ i₀ next i = (i ≤ 8) × (next ≡ filled (map (settledBallot entry) ballots) ballots i)
+
+abbrev μ-loop : tie.MeasureT-loop
+μ-loop entry ballots next₀ i₀ next i = 8 - i
+
+loop-holds : tie.Need-loop-holds Inv-loop μ-loop
+loop-holds c = (search needs, refl)
+
+loop-again : tie.Need-loop-again Inv-loop μ-loop
+loop-again c = let l = c .before .before .before .loop in let a = c .before .before .before .before .args in let hb : length (a .t1) ≡ 8 = search needs in (search needs, ap₂ (λ (bs : List Ballot) (b : Ballot). set bs (l .i) b) (l .inv .1) (c .settle-one .ensures ∙ sym (List·getD-map (settledBallot (a .entry)) (a .t1) (l .i) offEnd)) ∙ fill-step (settledBallot (a .entry) offEnd) (map (settledBallot (a .entry)) (a .t1)) (a .t1) (length-map (a .t1) (settledBallot (a .entry))) (l .i) (omega arith))
+
+returns : tie.Need-returns Inv-loop μ-loop
+returns c = let l = c .before .loop in let a = c .before .before .args in let hb : length (a .t1) ≡ 8 = search needs in l .inv .1 ∙ fill-end (settledBallot (a .entry) offEnd) (map (settledBallot (a .entry)) (a .t1)) (a .t1) (length-map (a .t1) (settledBallot (a .entry))) (l .i) (omega arith) ∙ settled-all (a .entry) (a .t1)
+
+pub settle-spec : {M : Type 1} → statement M
+settle-spec =
+    tie.close
+    (tie.spec
+    Inv-loop
+    μ-loop
+    loop-holds
+    (λ c. search needs)
+    (λ c. search needs)
+    (λ c κs. search needs)
+    (λ c. search needs)
+    (λ c. search needs)
+    (λ c. search needs)
+    (λ c. search needs)
+    loop-again
+    returns)

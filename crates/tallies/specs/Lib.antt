@@ -1,0 +1,2 @@
+-- The definitions that the contracts of `tallies` cite.
+pub mod Tallies
