@@ -5,3 +5,17 @@ pub mod Vote
 pub mod Office
 pub mod Elect
 pub mod Limits
+pub mod Lawful
+pub mod History
+pub mod Steady
+pub mod Known
+pub mod Issued
+pub mod Settled
+pub mod Invariant
+pub mod IssueKeeps
+pub mod Passing
+pub mod TakeKeeps
+pub mod ElectKeeps
+pub mod EveryCall
+pub mod OneOrder
+pub mod Machine

@@ -9,6 +9,7 @@ use Rattle.protocol.specs.Beginning.{_⊑_}
 use Rattle.protocol.specs.Vote.{Rule}
 use Rattle.protocol.specs.Office.{path}
 use Rattle.protocol.specs.World.{World, Call, issue, at, founded, refusal, step}
+use Rattle.protocol.specs.OneOrder.{longest, settledLogs}
 
 pub record Machine : Type 1 where
   pub W : Type 0
@@ -38,6 +39,7 @@ pub record Follows (m : Machine) (rule : Rule) (n : ℕ) : Type 1 where
 abbrev pub reached : (m : Machine) → List (m .C) → m .W
 reached m cs = runs m (m .start) cs
 
+-- "the list has a done issue at that entry's office, with its line and code, and the own path just before that call is" p
 pub record IssuedBy (m : Machine) (n : ℕ) (cs : List (m .C)) (p : List ℕ) (e : ℕ) : Type 0 where
   pub k : ℕ
   pub line : ℕ
@@ -53,9 +55,16 @@ pub record IssuedBy (m : Machine) (n : ℕ) (cs : List (m .C)) (p : List ℕ) (e
   pub mine : officeOf e ≡ k
   pub view : path (at (m .view (reached m earlier)) k) k ≡ p
 
+-- Demand 3 of the machine's calls, oldest first
 pub record OneOrderOf (m : Machine) (n : ℕ) (cs : List (m .C)) : Type 0 where
+  -- "the longest settled log that any office has after the list"
   pub order : List ℕ
+  pub is-longest : order ≡ longest (settledLogs (m .view (reached m cs)))
+  -- it is the settled log of some office after the list
   pub present : (k : ℕ) × (k < n) × (at (m .view (reached m cs)) k .log ≡ order)
+  -- every settled log, after founding or after any call of the list, is a beginning of it
   pub logs : (earlier later : List (m .C)) → earlier ++ later ≡ cs → (k : ℕ) → at (m .view (reached m earlier)) k .log ⊑ order
+  -- every entry was issued by its own office with exactly the entries before it in view
   pub issued : (p : ℕ) → p < length order → IssuedBy m n cs (L.take p order) (getD order p 0)
+  -- no call was refused with 10
   pub never : (earlier later : List (m .C)) (c : m .C) → earlier ++ (c ∷ later) ≡ cs → m .number (reached m earlier) c ≡ 10 → ⊥

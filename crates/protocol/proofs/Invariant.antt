@@ -1,0 +1,149 @@
+-- The invariant of the world, and what a call must leave for it to hold afterwards. Assumes nothing.
+use mathlib.Core.Path.{_≡_, refl, sym, ap, subst, _∙_}
+use mathlib.Core.List.{List, [], _∷_, _++_}
+use mathlib.Core.Logic.{_⊎_, inl, inr}
+use mathlib.Core.Option.{Option, some, Option·none-ne-some}
+use Prim.Native.Nat.{ℕ, _<_}
+use native.Mathlib.Decide.{ℕ-discrete}
+use native.Mathlib.Omega.{arith}
+use lib.ListN.{length, getElem?}
+use lib.Seq.{getD-set-same, getD-set-other}
+use Rattle.protocol.specs.Beginning.{_⊑_, _⊏_}
+use Rattle.protocol.specs.Vote.{Rule}
+use Rattle.protocol.specs.Office.{Office, Message, fresh, path}
+use Rattle.protocol.specs.World.{World, Call, at, put}
+use Rattle.protocol.proofs.Beginning.{⊑-refl, ⊑-trans, ⊑-antisym, ⊏-nil, snoc-⊏}
+use Rattle.protocol.proofs.Lawful.{Lawful}
+use Rattle.protocol.proofs.History.{Past, before, past-refl, past-trans, past-cases, past-nil, after, after-length, officeAt, logAt, ownAt, start, fresh-path}
+use Rattle.protocol.proofs.Steady.{past-moves}
+use Rattle.protocol.proofs.Known.{Snapshot, BallotsKnown, snapshot-later}
+use Rattle.protocol.proofs.Issued.{EachIssued, issued-later, empty-issued}
+use Rattle.protocol.proofs.Settled.{EachElected, elected-later}
+
+module _ (rule : Rule) (n : ℕ) (law : Lawful rule) where
+  -- ── the invariant ──
+  pub record Invariant (cs : List Call) : Type 0 where
+    pub order : List ℕ
+    pub ok : EachElected rule n law cs order
+    pub longest : (k : ℕ) × (k < n) × (logAt rule n k cs ≡ order)
+    pub logs : (k : ℕ) → logAt rule n k cs ⊑ order
+    pub known : (h : List Call) → Past h cs → (k : ℕ) → BallotsKnown rule n cs (officeAt rule n k h)
+    pub issued : (h : List Call) → Past h cs → (k : ℕ) → EachIssued rule n cs (logAt rule n k h) (ownAt rule n k h)
+    pub sent : (i : ℕ) (m : Message) → getElem? (after rule n cs .sent) i ≡ some m → (h : List Call) × Past h cs × (officeAt rule n (m .sender) h ≡ m .state)
+
+  -- ── one office changes ──
+  -- office k may be left by call c as o
+  pub record Left (c : Call) (cs : List Call) (q : List ℕ) (k : ℕ) (o : Office) : Type 0 where
+    pub settled : o .log ⊑ q
+    pub known : (j : ℕ) → (j ≡ k → ⊥) → o .log ⊏ path o j → Snapshot rule n cs j (o .log) (path o j)
+    pub issued : EachIssued rule n (c ∷ cs) (o .log) (path o k)
+
+  -- call c may leave the world as w
+  pub record NextWorld (c : Call) (cs : List Call) (q : List ℕ) (w : World) : Type 0 where
+    pub order : List ℕ
+    pub grows : q ⊑ order
+    pub ok : EachElected rule n law cs order
+    pub longest : (order ≡ q) ⊎ ((k : ℕ) × (k < n) × (at w k .log ≡ order))
+    pub good : (k : ℕ) → Left c cs order k (at w k)
+    pub sent : (i : ℕ) (m : Message) → getElem? (w .sent) i ≡ some m → (h : List Call) × Past h cs × (officeAt rule n (m .sender) h ≡ m .state)
+
+  pub advance : (c : Call) (cs : List Call) (inv : Invariant cs) → NextWorld c cs (inv .order) (after rule n (c ∷ cs)) → Invariant (c ∷ cs)
+  advance c cs inv nx = record {
+    order = nx .order;
+    ok = λ p e i. elected-later rule n law one (nx .ok p e i);
+    longest = long (nx .longest);
+    logs = λ k. nx .good k .settled;
+    known = λ h p k. backs h (past-cases p) k;
+    issued = λ h p k. provs h (past-cases p) k;
+    sent = λ i m e. let r = nx .sent i m e in (r .0, past-trans (r .1) one, r .2);
+  }
+    where
+      one : Past cs (c ∷ cs)
+      one = before (past-refl cs)
+
+      long : (nx .order ≡ inv .order) ⊎ ((k : ℕ) × (k < n) × (logAt rule n k (c ∷ cs) ≡ nx .order)) → (k : ℕ) × (k < n) × (logAt rule n k (c ∷ cs) ≡ nx .order)
+      long (inr h) = h
+      long (inl e) =
+          let k : ℕ = inv .longest .0 in (
+            k,
+            inv .longest .1,
+            ⊑-antisym (logAt rule n k (c ∷ cs)) (nx .order) (nx .good k .settled)
+                (rw (e, ← inv .longest .2) (past-moves rule n one k .0)),
+          )
+
+      fresh-back : (k j : ℕ) → Dec (j ≡ k) → logAt rule n k (c ∷ cs) ⊏ path (officeAt rule n k (c ∷ cs)) j → Snapshot rule n (c ∷ cs) j (logAt rule n k (c ∷ cs)) (path (officeAt rule n k (c ∷ cs)) j)
+      fresh-back k j (no d) x = snapshot-later rule n one (nx .good k .known j d x)
+      fresh-back k j (yes d) x = rw d (record { moment = c ∷ cs; past = past-refl (c ∷ cs); within = ⊑-refl (logAt rule n k (c ∷ cs)); own = refl })
+
+      backs : (h : List Call) → (c ∷ cs ≡ h) ⊎ Past h cs → (k : ℕ) → BallotsKnown rule n (c ∷ cs) (officeAt rule n k h)
+      backs h (inl e) k = subst (λ (g : List Call). BallotsKnown rule n (c ∷ cs) (officeAt rule n k g)) e (λ j. fresh-back k j (ℕ-discrete j k))
+      backs h (inr p) k = λ j x. snapshot-later rule n one (inv .known h p k j x)
+
+      provs : (h : List Call) → (c ∷ cs ≡ h) ⊎ Past h cs → (k : ℕ) → EachIssued rule n (c ∷ cs) (logAt rule n k h) (ownAt rule n k h)
+      provs h (inl e) k = subst (λ (g : List Call). EachIssued rule n (c ∷ cs) (logAt rule n k g) (ownAt rule n k g)) e (nx .good k .issued)
+      provs h (inr p) k = λ q e i. issued-later rule n one (inv .issued h p k q e i)
+
+  -- an office that the call leaves alone
+  pub same-left : (c : Call) (cs : List Call) (inv : Invariant cs) (q : List ℕ) → inv .order ⊑ q → (k : ℕ) → Left c cs q k (officeAt rule n k cs)
+  same-left c cs inv q h k = record {
+    settled = ⊑-trans (logAt rule n k cs) (inv .order) q (inv .logs k) h;
+    known = λ j _ x. inv .known cs (past-refl cs) k j x;
+    issued = λ p e i. issued-later rule n (before (past-refl cs)) (inv .issued cs (past-refl cs) k p e i);
+  }
+
+  pub same-next : (c : Call) (cs : List Call) (inv : Invariant cs) → NextWorld c cs (inv .order) (after rule n cs)
+  same-next c cs inv = record {
+    order = inv .order;
+    grows = ⊑-refl (inv .order);
+    ok = inv .ok;
+    longest = inl refl;
+    good = same-left c cs inv (inv .order) (⊑-refl (inv .order));
+    sent = inv .sent;
+  }
+
+  -- call c may leave its office k as o
+  pub record NextOffice (c : Call) (cs : List Call) (q : List ℕ) (k : ℕ) (o : Office) : Type 0 where
+    pub order : List ℕ
+    pub grows : q ⊑ order
+    pub ok : EachElected rule n law cs order
+    pub longest : (order ≡ q) ⊎ (o .log ≡ order)
+    pub good : Left c cs order k o
+
+  pub put-next : (c : Call) (cs : List Call) (inv : Invariant cs) (k : ℕ) (o : Office) → k < n → NextOffice c cs (inv .order) k o → NextWorld c cs (inv .order) (put (after rule n cs) k o)
+  put-next c cs inv k o known ch = record {
+    order = ch .order;
+    grows = ch .grows;
+    ok = ch .ok;
+    longest = long (ch .longest);
+    good = λ j. each j (ℕ-discrete j k);
+    sent = inv .sent;
+  }
+    where
+      w : World
+      w = after rule n cs
+
+      here : at (put w k o) k ≡ o
+      here = getD-set-same (w .offices) k o fresh (omega (arith, after-length rule n cs))
+
+      long : (ch .order ≡ inv .order) ⊎ (o .log ≡ ch .order) → (ch .order ≡ inv .order) ⊎ ((j : ℕ) × (j < n) × (at (put w k o) j .log ≡ ch .order))
+      long (inl e) = inl e
+      long (inr e) = inr (k, known, ap (λ (x : Office). x .log) here ∙ e)
+
+      each : (j : ℕ) → Dec (j ≡ k) → Left c cs (ch .order) j (at (put w k o) j)
+      each j (yes e) = rw (e, here) (ch .good)
+      each j (no e) = rw (getD-set-other (w .offices) k j o fresh e) (same-left c cs inv (ch .order) (ch .grows) j)
+
+  pub invariant-start : 0 < n → Invariant []
+  unfolding after
+  invariant-start pos = record {
+    order = [];
+    ok = λ p e i. absurd (⊏-nil p (snoc-⊏ p [] e i));
+    longest = (0, pos, ap (λ (o : Office). o .log) (sym (start rule n 0)));
+    logs = λ k. subst (λ (o : Office). o .log ⊑ []) (start rule n k) tt;
+    known = λ h p k. subst (λ (g : List Call). BallotsKnown rule n [] (officeAt rule n k g)) (past-nil p) (subst (λ (o : Office). BallotsKnown rule n [] o) (start rule n k) none-back);
+    issued = λ h p k. subst (λ (g : List Call). EachIssued rule n [] (logAt rule n k g) (ownAt rule n k g)) (past-nil p) (subst (λ (o : Office). EachIssued rule n [] (o .log) (path o k)) (start rule n k) (rw (fresh-path k) (empty-issued rule n)));
+    sent = λ i m e. absurd (Option·none-ne-some m e);
+  }
+    where
+      none-back : BallotsKnown rule n [] fresh
+      none-back j x = absurd (⊏-nil [] (subst (λ (z : List ℕ). [] ⊏ z) (fresh-path j) x))

@@ -1,0 +1,117 @@
+-- A machine that follows document 01's steps has one order. Assumes nothing.
+use mathlib.Core.Path.{_≡_, refl, sym, ap, subst, _∙_}
+use mathlib.Core.List.{List, [], _∷_, _++_}
+use Prim.Native.Nat.{ℕ, zero, suc, _<_}
+use native.Mathlib.Omega.{arith}
+use lib.ListN as L
+use lib.ListN.{length, getD}
+use Rattle.protocol.specs.Entry.{value}
+use Rattle.protocol.specs.Beginning.{_⊑_}
+use Rattle.protocol.specs.Vote.{Rule}
+use Rattle.protocol.specs.Office.{path}
+use Rattle.protocol.specs.World.{World, Call, issue, at, founded, refusal, step, run}
+use Rattle.protocol.specs.OneOrder.{longest, settledLogs, world, IssuedIn, OneOrder}
+use Rattle.protocol.specs.Machine.{Machine, runs, Follows, reached, IssuedBy, OneOrderOf}
+use Rattle.protocol.proofs.Lawful.{Lawful}
+use Rattle.protocol.proofs.OneOrder.{one-order-of}
+
+-- document 01's calls behind the machine's
+abbrev calls : (m : Machine) → m .W → List (m .C) → List Call
+calls m w [] = []
+calls m w (c ∷ cs) = m .call w c ∷ calls m (m .move w c) cs
+
+calls-append : (m : Machine) (w : m .W) (a b : List (m .C)) → calls m w (a ++ b) ≡ calls m w a ++ calls m (runs m w a) b
+calls-append m w [] b = refl
+calls-append m w (c ∷ a) b = ap (λ (l : List Call). m .call w c ∷ l) (calls-append m (m .move w c) a b)
+
+pub record Split (m : Machine) (w : m .W) (cs : List (m .C)) (x : List Call) (c : Call) : Type 0 where
+  pub a : List (m .C)
+  pub d : m .C
+  pub b : List (m .C)
+  pub whole : a ++ (d ∷ b) ≡ cs
+  pub front : calls m w a ≡ x
+  pub middle : m .call (runs m w a) d ≡ c
+
+-- a place in document 01's calls is a place in the machine's
+split : (m : Machine) (w : m .W) (cs : List (m .C)) (x : List Call) (c : Call) (y : List Call) → x ++ (c ∷ y) ≡ calls m w cs → Split m w cs x c
+split m w [] [] c y e = let z : _≡_ {A = ℕ} 0 1 = cc in absurd (omega arith)
+split m w [] (f ∷ x) c y e = let z : _≡_ {A = ℕ} 0 1 = cc in absurd (omega arith)
+split m w (d ∷ cs) [] c y e = record { a = []; d = d; b = cs; whole = refl; front = refl; middle = cc }
+split m w (d ∷ cs) (f ∷ x) c y e =
+    let rest : x ++ (c ∷ y) ≡ calls m (m .move w d) cs = cc in
+    let head : m .call w d ≡ f = cc in
+    let s = split m (m .move w d) cs x c y rest in
+    record { a = d ∷ s .a; d = s .d; b = s .b; whole = cc (s .whole); front = cc (head, s .front); middle = s .middle }
+
+module _ (m : Machine) (rule : Rule) (n : ℕ) (f : Follows m rule n) where
+  sound-runs : (w : m .W) (cs : List (m .C)) → f .Sound w → f .Sound (runs m w cs)
+  sound-runs w [] s = s
+  sound-runs w (c ∷ cs) s = sound-runs (m .move w c) cs (f .sound-move w c s)
+
+  view-runs : (w : m .W) (cs : List (m .C)) → f .Sound w → m .view (runs m w cs) ≡ run rule (m .view w) (calls m w cs)
+  unfolding run
+  view-runs w [] s = refl
+  view-runs w (c ∷ cs) s = view-runs (m .move w c) cs (f .sound-move w c s) ∙ ap (λ (x : World). run rule x (calls m (m .move w c) cs)) (f .moves w c s)
+
+  theirs : List (m .C) → List Call
+  theirs cs = calls m (m .start) cs
+
+  sound-at : (cs : List (m .C)) → f .Sound (reached m cs)
+  sound-at cs = sound-runs (m .start) cs (f .sound-start)
+
+  view-at : (cs : List (m .C)) → world rule n (theirs cs) ≡ m .view (reached m cs)
+  unfolding theirs
+  view-at cs = sym (view-runs (m .start) cs (f .sound-start) ∙ ap (λ (x : World). run rule x (calls m (m .start) cs)) (f .starts))
+
+  pub one-order-machine : Lawful rule → 0 < n → (cs : List (m .C)) → OneOrderOf m n cs
+  unfolding theirs
+  one-order-machine law pos cs = record {
+    order = one .order;
+    is-longest = one .is-longest ∙ ap (λ (w : World). longest (settledLogs w)) (view-at cs);
+    present = (one .present .0, one .present .1, rw (← view-at cs) (one .present .2));
+    logs = λ a b e k. rw (← view-at a) (one .logs (theirs a) (calls m (reached m a) b) (sym (calls-append m (m .start) a b) ∙ ap theirs e) k);
+    issued = λ p h. by (L.take p (one .order)) (getD (one .order) p 0) (one .issued p h);
+    never = λ a b c e h. one .never (theirs a) (calls m (m .move (reached m a) c) b) (m .call (reached m a) c)
+        (sym (calls-append m (m .start) a (c ∷ b)) ∙ ap theirs e)
+        (ap (λ (w : World). refusal w (m .call (reached m a) c)) (view-at a) ∙ f .tens (reached m a) c (sound-at a) h);
+  }
+    where
+      one : OneOrder rule n (theirs cs)
+      one = one-order-of rule n law pos (theirs cs)
+
+      by : (p : List ℕ) (e : ℕ) → IssuedIn rule n (theirs cs) p e → IssuedBy m n cs p e
+      by p e i =
+          let c : Call = issue (i .k) (i .line) (i .code) in
+          let s = split m (m .start) cs (i .earlier) c (i .later) (i .listed) in
+          let same : world rule n (i .earlier) ≡ m .view (reached m (s .a)) = ap (world rule n) (sym (s .front)) ∙ view-at (s .a) in
+          record {
+            k = i .k;
+            line = i .line;
+            code = i .code;
+            earlier = s .a;
+            c = s .d;
+            later = s .b;
+            listed = s .whole;
+            is-issue = s .middle;
+            known = i .known;
+            done = f .issues (reached m (s .a)) (s .d) (i .k) (i .line) (i .code) (sound-at (s .a)) (s .middle) (ap (λ (w : World). refusal w c) (sym same) ∙ i .done);
+            entry = i .entry;
+            mine = i .mine;
+            view = subst (λ (w : World). path (at w (i .k)) (i .k) ≡ p) same (i .view);
+          }
+
+-- document 01's world on lists is such a machine
+self : Rule → ℕ → Machine
+self rule n = record { W = World; C = Call; start = founded n; move = step rule; number = refusal; view = λ w. w; call = λ w c. c }
+
+self-follows : (rule : Rule) (n : ℕ) → Follows (self rule n) rule n
+unfolding self
+self-follows rule n = record {
+  Sound = λ w. Unit {0};
+  sound-start = tt;
+  sound-move = λ w c s. tt;
+  starts = refl;
+  moves = λ w c s. refl;
+  tens = λ w c s h. h;
+  issues = λ w c k line code s e h. ap (refusal w) e ∙ h;
+}

@@ -1,0 +1,92 @@
+-- Steady: of two moments of one office, the later log begins with the earlier one, and an own path of the earlier moment that still extends the
+-- later log is a beginning of the later own path. A path that is still open was never abandoned, so an office votes once at each place.
+-- It holds of every call from every state. Assumes nothing.
+use mathlib.Core.Path.{_≡_, refl, sym, ap, subst, _∙_}
+use mathlib.Core.List.{List, [], _∷_, _++_}
+use mathlib.Core.Option.{Option, none, some}
+use mathlib.Core.Bool.{Bool, true, false, _&&_, cond}
+use mathlib.Core.Logic.{_⊎_, inl, inr}
+use Prim.Native.Nat.{ℕ, zero, suc, _<_}
+use lib.Dec.{eqb}
+use lib.ListN.{length, getElem?}
+use Rattle.protocol.specs.Entry.{value}
+use Rattle.protocol.specs.Beginning.{_⊑_, _⊏_}
+use Rattle.protocol.specs.Vote.{Rule}
+use Rattle.protocol.specs.Office.{Office, Message, fresh, path}
+use Rattle.protocol.specs.Issue.{withIssue}
+use Rattle.protocol.specs.Elect.{withElect}
+use Rattle.protocol.specs.World.{World, Call, issue, send, take, elect, idle, at, put, names, taking, refusal, done, step}
+use Rattle.protocol.proofs.Tests.{if-cases}
+use Rattle.protocol.proofs.Beginning.{⊑-trans, ⊑-⊏-trans, snoc-⊏, snoc-same}
+use Rattle.protocol.proofs.Office.{Moves, moves-refl, moves-trans, OfficeMoves, set-cases, issue-moves, take-moves, elect-moves}
+use Rattle.protocol.proofs.History.{Past, now, before, past-trans, past-either, after, officeAt, logAt, ownAt}
+
+-- ── one call ──
+put-moves : (w : World) (k : ℕ) (o : Office) (j : ℕ) → ((i : ℕ) → OfficeMoves i (at w k) o) → OfficeMoves j (at w j) (at (put w k o) j)
+put-moves w k o j f = go (set-cases (w .offices) k o fresh j)
+  where
+    go : (at (put w k o) j ≡ at w j) ⊎ ((j ≡ k) × (k < length (w .offices)) × (at (put w k o) j ≡ o)) → OfficeMoves j (at w j) (at (put w k o) j)
+    go (inl e) = subst (λ (x : Office). OfficeMoves j (at w j) x) (sym e) (moves-refl (at w j .log) (path (at w j) j))
+    go (inr e) =
+        subst (λ (x : Office). OfficeMoves j (at w j) x) (sym (e .2))
+        (subst (λ (i : ℕ). OfficeMoves j (at w i) o) (sym (e .0)) (f j))
+
+taking-moves : (k : ℕ) (m : Option Message) (o : Office) (j : ℕ) → OfficeMoves j o (taking k m o)
+taking-moves k none o j = moves-refl (o .log) (path o j)
+taking-moves k (some m) o j = take-moves k m o j
+
+done-moves : (rule : Rule) (w : World) (c : Call) (j : ℕ) → OfficeMoves j (at w j) (at (done rule w c) j)
+unfolding done
+done-moves rule w (issue k line code) j = put-moves w k (withIssue k (value k line code) (at w k)) j (issue-moves k (value k line code) (at w k))
+done-moves rule w (send k room) j = moves-refl (at w j .log) (path (at w j) j)
+done-moves rule w (take k m) j = put-moves w k (taking k (getElem? (w .sent) m) (at w k)) j (taking-moves k (getElem? (w .sent) m) (at w k))
+done-moves rule w (elect k) j = put-moves w k (withElect rule (at w k)) j (elect-moves rule (at w k))
+done-moves rule w idle j = moves-refl (at w j .log) (path (at w j) j)
+
+pub step-moves : (rule : Rule) (w : World) (c : Call) (j : ℕ) → OfficeMoves j (at w j) (at (step rule w c) j)
+unfolding step
+step-moves rule w c j =
+    if-cases (λ x. OfficeMoves j (at w j) (at x j)) (names w c && eqb (refusal w c) 0) (done rule w c) w
+    (λ _. done-moves rule w c j) (λ _. moves-refl (at w j .log) (path (at w j) j))
+
+-- the settled log only grows
+pub step-grows : (rule : Rule) (w : World) (c : Call) (j : ℕ) → at w j .log ⊑ at (step rule w c) j .log
+step-grows rule w c j = step-moves rule w c j .0
+
+-- ── all calls ──
+module _ (rule : Rule) (n : ℕ) where
+  call-moves : (c : Call) (cs : List Call) (k : ℕ) → Moves (logAt rule n k cs) (ownAt rule n k cs) (logAt rule n k (c ∷ cs)) (ownAt rule n k (c ∷ cs))
+  unfolding after
+  call-moves c cs k = step-moves rule (after rule n cs) c k
+
+  pub past-moves : {h g : List Call} → Past h g → (k : ℕ) → Moves (logAt rule n k h) (ownAt rule n k h) (logAt rule n k g) (ownAt rule n k g)
+  past-moves {h} (now e) k = subst (λ (g : List Call). Moves (logAt rule n k h) (ownAt rule n k h) (logAt rule n k g) (ownAt rule n k g)) e (moves-refl (logAt rule n k h) (ownAt rule n k h))
+  past-moves {h} (before {c} {g} p) k =
+      moves-trans (logAt rule n k h) (ownAt rule n k h) (logAt rule n k g) (ownAt rule n k g) (logAt rule n k (c ∷ g)) (ownAt rule n k (c ∷ g))
+      (past-moves p k) (call-moves c g k)
+
+  -- office k has voted for e at p
+  pub record Voted (cs : List Call) (k : ℕ) (p : List ℕ) (e : ℕ) : Type 0 where
+    pub moment : List Call
+    pub past : Past moment cs
+    pub within : logAt rule n k moment ⊑ p
+    pub for : (p ++ (e ∷ [])) ⊑ ownAt rule n k moment
+
+  -- an office votes once at each place
+  pub voted-unique : (cs : List Call) (k : ℕ) (p : List ℕ) (e f : ℕ) → Voted cs k p e → Voted cs k p f → e ≡ f
+  voted-unique cs k p e f a b = go (past-either (a .past) (b .past))
+    where
+      later : (e f : ℕ) (a : Voted cs k p e) (b : Voted cs k p f) → Past (a .moment) (b .moment) → e ≡ f
+      later e f a b h =
+          let o₁ : List ℕ = ownAt rule n k (a .moment) in
+          let o₂ : List ℕ = ownAt rule n k (b .moment) in
+          let l : List ℕ = logAt rule n k (b .moment) in
+          let grown : o₁ ⊑ o₂ = past-moves h k .1 (⊑-⊏-trans l p o₁ (b .within) (snoc-⊏ p o₁ e (a .for))) in
+          snoc-same p o₂ e f (⊑-trans (p ++ (e ∷ [])) o₁ o₂ (a .for) grown) (b .for)
+
+      go : Past (a .moment) (b .moment) ⊎ Past (b .moment) (a .moment) → e ≡ f
+      go (inl h) = later e f a b h
+      go (inr h) = sym (later f e b a h)
+
+  pub voted-later : {h cs : List Call} {k : ℕ} {p : List ℕ} {e : ℕ} → Past h cs → Voted h k p e → Voted cs k p e
+  voted-later p s = record { moment = s .moment; past = past-trans (s .past) p; within = s .within; for = s .for }
