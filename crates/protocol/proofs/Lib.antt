@@ -19,3 +19,5 @@ pub mod ElectKeeps
 pub mod EveryCall
 pub mod OneOrder
 pub mod Machine
+pub mod Archive
+pub mod Cases

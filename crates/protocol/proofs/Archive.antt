@@ -1,0 +1,51 @@
+-- What is known of any entry that an office holds, settled or not.
+--     held-issued      it was issued by its own office, under a log that is a beginning of the holder's
+--     issued-once      one path in view, one entry: no office issues two entries with the same path in view
+--     never-again      after its issue the office never has that path in view again
+-- Assumes nothing.
+use mathlib.Core.Path.{_≡_, sym, ap, subst, _∙_}
+use mathlib.Core.List.{List, [], _∷_, _++_}
+use Prim.Native.Nat.{ℕ}
+use Rattle.protocol.specs.Entry.{officeOf}
+use Rattle.protocol.specs.Beginning.{_⊑_, _⊏_}
+use Rattle.protocol.specs.Vote.{Rule}
+use Rattle.protocol.specs.Office.{tail, path}
+use Rattle.protocol.specs.World.{Call, issue, refusal}
+use Rattle.protocol.proofs.Beginning.{⊑-trans, ⊑-append, ⊑-⊏-trans, ⊏-irrefl, snoc-⊏}
+use Rattle.protocol.proofs.Lawful.{Lawful}
+use Rattle.protocol.proofs.History.{Past, past-refl, past-trans, officeAt, logAt, ownAt}
+use Rattle.protocol.proofs.Steady.{past-moves, Voted, voted-unique, voted-later}
+use Rattle.protocol.proofs.Issued.{Issued, EachIssued}
+use Rattle.protocol.proofs.Settled.{order-issued, ballot-issued}
+use Rattle.protocol.proofs.Invariant.{Invariant}
+use Rattle.protocol.proofs.OneOrder.{office-of}
+
+module _ (rule : Rule) (n : ℕ) where
+  -- an entry's office is the one that issued it
+  pub issued-office : (cs : List Call) (l p : List ℕ) (e : ℕ) (i : Issued rule n cs l p e) → officeOf e ≡ i .k
+  unfolding refusal
+  issued-office cs l p e i = ap officeOf (sym (i .entry)) ∙ office-of (i .k) (i .line) (i .code) (officeAt rule n (i .k) (i .moment)) (i .ok)
+
+  -- right after its issue the entry is its office's vote
+  pub issued-voted : (cs : List Call) (l p : List ℕ) (e : ℕ) (i : Issued rule n cs l p e) → Voted rule n cs (i .k) p e
+  issued-voted cs l p e i = voted-later rule n (i .call) (i .cast)
+
+  pub issued-once : (cs : List Call) (l m p : List ℕ) (e f : ℕ) (i : Issued rule n cs l p e) (j : Issued rule n cs m p f) → i .k ≡ j .k → e ≡ f
+  issued-once cs l m p e f i j h =
+      voted-unique rule n cs (j .k) p e f (subst (λ (k : ℕ). Voted rule n cs k p e) h (issued-voted cs l p e i)) (issued-voted cs m p f j)
+
+  pub never-again : (cs : List Call) (l p : List ℕ) (e : ℕ) (i : Issued rule n cs l p e) (g : List Call) → Past (issue (i .k) (i .line) (i .code) ∷ i .moment) g → ownAt rule n (i .k) g ≡ p → ⊥
+  never-again cs l p e i g h same =
+      let k : ℕ = i .k in
+      let v = i .cast in
+      let own : List ℕ = ownAt rule n k (v .moment) in
+      let log : List ℕ = logAt rule n k g in
+      let low : log ⊑ p = subst (λ (z : List ℕ). log ⊑ z) same (⊑-append log (tail (officeAt rule n k g) k)) in
+      let past : p ⊏ own = snoc-⊏ p own e (v .for) in
+      let kept : own ⊑ p = subst (λ (z : List ℕ). own ⊑ z) same (past-moves rule n (past-trans (v .past) h) k .1 (⊑-⊏-trans log p own low past)) in
+      ⊏-irrefl own (⊑-⊏-trans own p own kept past)
+
+  -- in any office of the world, for its log and each of its ballots' paths
+  pub held-issued : (law : Lawful rule) (cs : List Call) → Invariant rule n law cs → (k j : ℕ) → EachIssued rule n cs (logAt rule n k cs) (path (officeAt rule n k cs) j)
+  held-issued law cs inv k j =
+      ballot-issued rule n law cs (inv .order) (officeAt rule n k cs) (order-issued rule n law cs (inv .order) (inv .ok) (inv .issued)) (inv .logs k) (inv .known cs (past-refl cs) k) (inv .issued) j

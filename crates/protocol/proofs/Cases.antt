@@ -1,0 +1,132 @@
+-- Document 01's lettered cases A to L, computed on the definitions, as one list. Assumes nothing.
+use mathlib.Core.Path.{_≡_, refl}
+use mathlib.Core.List.{List, [], _∷_}
+use mathlib.Core.Bool.{true, false}
+use Prim.Native.Nat.{ℕ, _+_}
+use lib.Dec.{ltb}
+use Rattle.protocol.specs.Entry.{value}
+use Rattle.protocol.specs.Beginning.{begins, extends}
+use Rattle.protocol.specs.Vote.{tally, unheard, supported, wins, winner, byWeights}
+use Rattle.protocol.specs.Office.{Office, Message, votes, fresh}
+use Rattle.protocol.specs.Take.{rebase, catchUp, withTake, refuseTake}
+use Rattle.protocol.specs.Elect.{settle, electing, withElect, electCount}
+use Rattle.protocol.specs.World.{World, take, names, refusal, done, step}
+
+-- ── the cases' entries, weights and states ──
+abbrev a : ℕ
+a = value 0 5 120
+
+abbrev b : ℕ
+b = value 1 5 130
+
+abbrev c : ℕ
+c = value 2 5 140
+
+abbrev d : ℕ
+d = value 0 6 7
+
+-- the weights of three offices; the others' are zero
+abbrev three : ℕ → ℕ → ℕ → List ℕ
+three x y z = x ∷ y ∷ z ∷ 0 ∷ 0 ∷ 0 ∷ 0 ∷ 0 ∷ []
+
+abbrev usual : List ℕ
+usual = three 40 35 25
+
+-- a log, and the ballots of offices 0, 1 and 2; the others have none
+abbrev state : List ℕ → List ℕ → List ℕ → List ℕ → Office
+state l x y z = record { log = l; tails = x ∷ y ∷ z ∷ [] ∷ [] ∷ [] ∷ [] ∷ [] ∷ [] }
+
+abbrev from : ℕ → Office → Message
+from k o = record { sender = k; state = o }
+
+-- ── what a case says ──
+-- T(e) and U
+abbrev Tally : List ℕ → Office → ℕ → ℕ → Type 0
+Tally ws o e t = tally ws (votes o) e ≡ t
+
+abbrev Unheard : List ℕ → Office → ℕ → Type 0
+Unheard ws o u = unheard ws (votes o) ≡ u
+
+-- elect leaves r and answers the count
+abbrev Elects : List ℕ → Office → Office → ℕ → Type 0
+Elects ws o r count = (withElect (byWeights ws) o ≡ r) × (electCount (byWeights ws) o ≡ count)
+
+-- office k takes the message: the number, and the state afterwards
+abbrev Takes : ℕ → Message → Office → Office → Type 0
+Takes k m o r = (refuseTake k m o ≡ 0) × (withTake k m o ≡ r)
+
+-- ── the states of the cases ──
+abbrev inA : Office
+inA = state [] (a ∷ []) [] []
+
+abbrev inB : Office
+inB = state [] (a ∷ []) [] (a ∷ [])
+
+abbrev inC : Office
+inC = state [] (a ∷ []) (b ∷ []) []
+
+abbrev inD : Office
+inD = state [] (a ∷ []) (b ∷ []) (c ∷ [])
+
+abbrev inG : Office
+inG = state [] (a ∷ d ∷ []) [] (a ∷ d ∷ [])
+
+abbrev inH : Office
+inH = state [] (a ∷ d ∷ []) (a ∷ []) (c ∷ [])
+
+-- log a and no ballots
+abbrev settledA : Office
+settledA = state (a ∷ []) [] [] []
+
+-- "from office 0 an empty log with 0:ad"
+abbrev messageJ : Message
+messageJ = from 0 (state [] (a ∷ d ∷ []) [] [])
+
+abbrev afterJ : Office
+afterJ = state (a ∷ []) (d ∷ []) (d ∷ []) []
+
+-- "log a, message log b": office 1 has log a, and office 0's message with log b was sent
+abbrev inL : World
+inL = record { offices = state (b ∷ []) [] [] [] ∷ settledA ∷ fresh ∷ []; sent = from 0 (state (b ∷ []) [] [] []) ∷ [] }
+
+pub cases :
+    -- A: T 40, U 60; nothing settles
+    (Tally usual inA a 40 × Unheard usual inA 60 × Elects usual inA inA 0) ×
+    -- B: 65 > 35; a settles
+    (Tally usual inB a 65 × Unheard usual inB 35 × Elects usual inB settledA 1) ×
+    -- C: 40 is not above 35 + 25; nothing
+    (Tally usual inC a 40 × Tally usual inC b 35 × Unheard usual inC 25 × (ltb (35 + 25) 40 ≡ false) × Elects usual inC inC 0) ×
+    -- D: a settles, all ballots become none, count 1
+    (Tally usual inD a 40 × Tally usual inD b 35 × Tally usual inD c 25 × Unheard usual inD 0 × Elects usual inD settledA 1) ×
+    -- E, weights 50, 50, 0: tie, a settles by value
+    (Tally (three 50 50 0) inC a 50 × Tally (three 50 50 0) inC b 50 × Unheard (three 50 50 0) inC 0 × (ltb a b ≡ true) × Elects (three 50 50 0) inC settledA 1) ×
+    -- F, weights 50, 50 with n = 2: 50 is not above 50; nothing
+    (Tally (three 50 50 0) inA a 50 × Unheard (three 50 50 0) inA 50 × (ltb 50 50 ≡ false) × Elects (three 50 50 0) inA inA 0) ×
+    -- G: count 2
+    Elects usual inG (state (a ∷ d ∷ []) [] [] []) 2 ×
+    -- H, weights 40, 30, 30: a settles with 70, then d has 40 against U 60; count 1
+    (Tally (three 40 30 30) inH a 70 × Tally (three 40 30 30) inH c 30 × (settle a inH ≡ state (a ∷ []) (d ∷ []) [] [])
+    × Tally (three 40 30 30) (settle a inH) d 40 × Unheard (three 40 30 30) (settle a inH) 60 × Elects (three 40 30 30) inH (state (a ∷ []) (d ∷ []) [] []) 1) ×
+    -- I: log a, own ballot none
+    Takes 1 (from 2 settledA) (state [] [] (b ∷ []) []) settledA ×
+    -- J: 0:d and 1:d
+    Takes 1 messageJ settledA afterJ ×
+    -- K: no change
+    Takes 1 messageJ afterJ afterJ ×
+    -- L: 10, and a refused call changes nothing
+    ((refusal inL (take 1 0) ≡ 10) × (step (byWeights usual) inL (take 1 0) ≡ inL))
+unfolding begins extends tally unheard supported wins winner rebase catchUp withTake refuseTake settle electing withElect names refusal done step
+cases = (
+  (refl, refl, (refl, refl)),
+  (refl, refl, (refl, refl)),
+  (refl, refl, refl, refl, (refl, refl)),
+  (refl, refl, refl, refl, (refl, refl)),
+  (refl, refl, refl, refl, (refl, refl)),
+  (refl, refl, refl, (refl, refl)),
+  (refl, refl),
+  (refl, refl, refl, refl, refl, (refl, refl)),
+  (refl, refl),
+  (refl, refl),
+  (refl, refl),
+  (refl, refl),
+)
