@@ -1,0 +1,189 @@
+/*
+ * The shared coding frame of up to eight field offices: the proved engine, for a service to link.
+ *
+ * The engine holds no state, takes no memory and opens no file. One office's state is a record, passed
+ * and answered by value, and a log, an array of at least 1,024 words that the caller lends. A call gives
+ * a defined answer to every record, log, message and number. It answers 0 when it is done; any other
+ * number is a refusal (below), and then the record in the answer is the one that was handed in, and log
+ * and output keep their contents.
+ *
+ * What is asked of a caller is what C asks of every call: a pointer with its count names that many
+ * elements (count elements, not bytes), is aligned and is not null, even where the count is 0; a log
+ * that a call writes is not the memory of its message; an output is not the memory of its log.
+ *
+ * Link with target/staticlib/libembed.a (x86-64 Linux), which `rt staticlib embed` writes.
+ */
+#ifndef JOUKERPAN_H
+#define JOUKERPAN_H
+
+#include <stdbool.h>
+#include <stddef.h>
+#include <stdint.h>
+
+#ifdef __cplusplus
+extern "C" {
+#endif
+
+/* Limits. */
+enum {
+    JOUKERPAN_OFFICES = 8,     /* offices, at most; places of a record */
+    JOUKERPAN_TAIL = 32,       /* entries of a ballot's tail, at most */
+    JOUKERPAN_LINES = 64,      /* lines of the frame: 0 to 63 */
+    JOUKERPAN_CODES = 10000,   /* codes of a line: 0 to 9999 */
+    JOUKERPAN_LOG = 1024,      /* settled entries, at most; words of a log, at least */
+    JOUKERPAN_MESSAGE = 7032   /* bytes of a message, at most */
+};
+
+/* Numbers that a call answers. Where several hold, the smallest is given. */
+enum {
+    JOUKERPAN_DONE = 0,           /* the call was done */
+    JOUKERPAN_UNSOUND = 1,        /* record unsound, or log below 1,024 words */
+    JOUKERPAN_FOUNDING = 2,       /* founding: n, own office or weights outside the limits */
+    JOUKERPAN_NO_ENTRY = 3,       /* line above 63, or code above 9999 */
+    JOUKERPAN_TAIL_FULL = 4,      /* own tail is 32 long */
+    JOUKERPAN_LOG_FULL = 5,       /* settled length and own tail length make 1,024 */
+    JOUKERPAN_OUTPUT_SHORT = 6,   /* output shorter than the message */
+    JOUKERPAN_NO_MESSAGE = 7,     /* message not of the layout, or a number in it outside the limits */
+    JOUKERPAN_OTHER_OFFICES = 8,  /* message's n or weights differ from the record's */
+    JOUKERPAN_OWN_MESSAGE = 9,    /* sender is the receiver's own office */
+    JOUKERPAN_OTHER_LOG = 10      /* neither settled log is a beginning of the other */
+};
+
+/* A ballot: a tail of entries. Length 0 means none, or unknown. Unused cells are zero. */
+typedef struct {
+    size_t len;
+    uint32_t cells[JOUKERPAN_TAIL];
+} joukerpan_ballot;
+
+/*
+ * What one office knows, apart from its log. The first `settled` words of the log are the settled log,
+ * one entry a word: office * 16777216 + line * 65536 + code. Store record and log as they are; sound()
+ * says whether what was read back is a record with its log.
+ */
+typedef struct {
+    size_t n;                                     /* offices there are */
+    size_t own;                                   /* this office, below n */
+    uint16_t weights[JOUKERPAN_OFFICES];          /* zero from place n on */
+    size_t settled;                               /* settled length, at most 1,024 */
+    joukerpan_ballot ballots[JOUKERPAN_OFFICES];  /* last known ballot of each office */
+} joukerpan_record;
+
+/* Eight weights, by value. */
+typedef struct {
+    uint16_t of[JOUKERPAN_OFFICES];
+} joukerpan_weights;
+
+typedef struct {
+    uint32_t number;
+    joukerpan_record record;  /* all zero where the founding is refused */
+} joukerpan_founded;
+
+typedef struct {
+    uint32_t number;
+    joukerpan_record record;
+} joukerpan_issued;
+
+typedef struct {
+    uint32_t number;
+    size_t length;  /* settled words at the front of the log; 0 where refused */
+} joukerpan_part;
+
+typedef struct {
+    uint32_t number;
+    uint32_t code;  /* 0 where there is no entry for the line, and where refused */
+} joukerpan_framed;
+
+typedef struct {
+    uint32_t number;
+    size_t count;  /* entries settled; 0 where none won, and where refused */
+    joukerpan_record record;
+} joukerpan_elected;
+
+typedef struct {
+    uint32_t number;
+    size_t length;  /* bytes written; 0 where refused */
+} joukerpan_sent;
+
+typedef struct {
+    uint32_t number;
+    joukerpan_record record;
+} joukerpan_taken;
+
+/* A fresh record: an empty log and no ballots. Refused: 1 (log size alone), 2. */
+joukerpan_founded joukerpan_found(size_t n, size_t own, joukerpan_weights weights,
+                                  const uint32_t *log, size_t log_len);
+
+/* Whether the record with its log is sound: a log of 1,024 words or more, and every limit kept. */
+bool joukerpan_sound(joukerpan_record record, const uint32_t *log, size_t log_len);
+
+/* Appends the entry to the office's own ballot. Refused: 1, 3, 4, 5. */
+joukerpan_issued joukerpan_issue(joukerpan_record record, const uint32_t *log, size_t log_len,
+                                 uint32_t line, uint32_t code);
+
+/* How many words at the front of the log are settled: the entries that no office will contradict. Refused: 1. */
+joukerpan_part joukerpan_settled(joukerpan_record record, const uint32_t *log, size_t log_len);
+
+/* The code of the last entry for the line in the settled log. Refused: 1, 3. */
+joukerpan_framed joukerpan_settled_frame(joukerpan_record record, const uint32_t *log, size_t log_len,
+                                         uint32_t line);
+
+/* The code of the last entry for the line in the settled log followed by the own tail. Refused: 1, 3. */
+joukerpan_framed joukerpan_tentative_frame(joukerpan_record record, const uint32_t *log, size_t log_len,
+                                           uint32_t line);
+
+/*
+ * Settles entries, one a step, until none wins, and answers how many. Each winner is written to the log
+ * behind the settled words; other words keep their contents. Refused: 1.
+ */
+joukerpan_elected joukerpan_elect(joukerpan_record record, uint32_t *log, size_t log_len);
+
+/*
+ * Writes the office's message and answers its length, at most JOUKERPAN_MESSAGE. Later bytes of the
+ * output keep their contents. Refused: 1, 6.
+ */
+joukerpan_sent joukerpan_send(joukerpan_record record, const uint32_t *log, size_t log_len,
+                              uint8_t *output, size_t output_len);
+
+/*
+ * Works in another office's message, any bytes: first the settled entries that this office misses,
+ * then every ballot whose path extends the known one. Refused: 1, 7, 8, 9, 10.
+ */
+joukerpan_taken joukerpan_take(joukerpan_record record, uint32_t *log, size_t log_len,
+                               const uint8_t *message, size_t message_len);
+
+#ifdef __cplusplus
+}
+#define JOUKERPAN_ASSERT static_assert
+#else
+#define JOUKERPAN_ASSERT _Static_assert
+#endif
+
+/* The layout that the engine was compiled for. */
+JOUKERPAN_ASSERT(sizeof(size_t) == 8, "joukerpan: a 64-bit target");
+JOUKERPAN_ASSERT(sizeof(joukerpan_ballot) == 136, "joukerpan_ballot: size");
+JOUKERPAN_ASSERT(offsetof(joukerpan_ballot, cells) == 8, "joukerpan_ballot: cells");
+JOUKERPAN_ASSERT(sizeof(joukerpan_record) == 1128, "joukerpan_record: size");
+JOUKERPAN_ASSERT(offsetof(joukerpan_record, own) == 8, "joukerpan_record: own");
+JOUKERPAN_ASSERT(offsetof(joukerpan_record, weights) == 16, "joukerpan_record: weights");
+JOUKERPAN_ASSERT(offsetof(joukerpan_record, settled) == 32, "joukerpan_record: settled");
+JOUKERPAN_ASSERT(offsetof(joukerpan_record, ballots) == 40, "joukerpan_record: ballots");
+JOUKERPAN_ASSERT(sizeof(joukerpan_weights) == 16, "joukerpan_weights: size");
+JOUKERPAN_ASSERT(sizeof(joukerpan_founded) == 1136, "joukerpan_founded: size");
+JOUKERPAN_ASSERT(offsetof(joukerpan_founded, record) == 8, "joukerpan_founded: record");
+JOUKERPAN_ASSERT(sizeof(joukerpan_issued) == 1136, "joukerpan_issued: size");
+JOUKERPAN_ASSERT(offsetof(joukerpan_issued, record) == 8, "joukerpan_issued: record");
+JOUKERPAN_ASSERT(sizeof(joukerpan_part) == 16, "joukerpan_part: size");
+JOUKERPAN_ASSERT(offsetof(joukerpan_part, length) == 8, "joukerpan_part: length");
+JOUKERPAN_ASSERT(sizeof(joukerpan_framed) == 8, "joukerpan_framed: size");
+JOUKERPAN_ASSERT(offsetof(joukerpan_framed, code) == 4, "joukerpan_framed: code");
+JOUKERPAN_ASSERT(sizeof(joukerpan_elected) == 1144, "joukerpan_elected: size");
+JOUKERPAN_ASSERT(offsetof(joukerpan_elected, count) == 8, "joukerpan_elected: count");
+JOUKERPAN_ASSERT(offsetof(joukerpan_elected, record) == 16, "joukerpan_elected: record");
+JOUKERPAN_ASSERT(sizeof(joukerpan_sent) == 16, "joukerpan_sent: size");
+JOUKERPAN_ASSERT(offsetof(joukerpan_sent, length) == 8, "joukerpan_sent: length");
+JOUKERPAN_ASSERT(sizeof(joukerpan_taken) == 1136, "joukerpan_taken: size");
+JOUKERPAN_ASSERT(offsetof(joukerpan_taken, record) == 8, "joukerpan_taken: record");
+
+#undef JOUKERPAN_ASSERT
+
+#endif

@@ -1,0 +1,183 @@
+//! The proved engine's functions as C sees them: `include/joukerpan.h` in Rust.
+//!
+//! The crate `joukerpan` wraps them; use that one. A slice crosses as a pointer and a count of
+//! elements. The functions read and write what these name and nothing else, keep no pointer, take
+//! no memory and do not unwind. Nothing checks these declarations against the engine, so the
+//! layout is asserted here, and `rust/compare` compares the answers.
+
+#![no_std]
+#![warn(missing_docs)]
+
+/// Most offices, and places of a record.
+pub const OFFICES: usize = 8;
+/// Most entries of a ballot's tail.
+pub const TAIL: usize = 32;
+/// Lines of the frame: 0 to 63.
+pub const LINES: u32 = 64;
+/// Codes of a line: 0 to 9999.
+pub const CODES: u32 = 10_000;
+/// Most settled entries, and fewest words of a log.
+pub const LOG: usize = 1024;
+/// Most bytes of a message.
+pub const MESSAGE_MAX: usize = 7032;
+
+/// A ballot: a tail of entries. Length 0 means none, or unknown. Unused cells are zero.
+#[repr(C)]
+#[derive(Clone, Copy, Debug, PartialEq, Eq)]
+pub struct Ballot {
+    /// Entries of the tail.
+    pub len: usize,
+    /// The tail, then zeros.
+    pub cells: [u32; TAIL],
+}
+
+/// What one office knows, apart from its log.
+#[repr(C)]
+#[derive(Clone, Copy, Debug, PartialEq, Eq)]
+pub struct Record {
+    /// Offices there are.
+    pub n: usize,
+    /// This office, below n.
+    pub own: usize,
+    /// Weight of each office; zero from place n on.
+    pub weights: [u16; OFFICES],
+    /// How many words at the front of the log are settled.
+    pub settled: usize,
+    /// Last known ballot of each office; none from place n on.
+    pub ballots: [Ballot; OFFICES],
+}
+
+/// Eight weights, by value.
+#[repr(C)]
+#[derive(Clone, Copy, Debug, PartialEq, Eq)]
+pub struct Weights {
+    /// The weight of each office.
+    pub of: [u16; OFFICES],
+}
+
+/// Found's answer: the record is all zero where it is refused.
+#[repr(C)]
+#[derive(Clone, Copy, Debug, PartialEq, Eq)]
+pub struct Founded {
+    /// 0, or the refusal's number.
+    pub number: u32,
+    /// The fresh record.
+    pub record: Record,
+}
+
+/// Issue's answer.
+#[repr(C)]
+#[derive(Clone, Copy, Debug, PartialEq, Eq)]
+pub struct Issued {
+    /// 0, or the refusal's number.
+    pub number: u32,
+    /// The next record; the one handed in where the call is refused.
+    pub record: Record,
+}
+
+/// Settled's answer.
+#[repr(C)]
+#[derive(Clone, Copy, Debug, PartialEq, Eq)]
+pub struct Part {
+    /// 0, or the refusal's number.
+    pub number: u32,
+    /// Settled words at the front of the log; 0 where the call is refused.
+    pub length: usize,
+}
+
+/// A frame's answer.
+#[repr(C)]
+#[derive(Clone, Copy, Debug, PartialEq, Eq)]
+pub struct Framed {
+    /// 0, or the refusal's number.
+    pub number: u32,
+    /// The line's code; 0 where it has none, and where the call is refused.
+    pub code: u32,
+}
+
+/// Elect's answer.
+#[repr(C)]
+#[derive(Clone, Copy, Debug, PartialEq, Eq)]
+pub struct Elected {
+    /// 0, or the refusal's number.
+    pub number: u32,
+    /// Entries settled; 0 where the call is refused.
+    pub count: usize,
+    /// The next record; the one handed in where the call is refused.
+    pub record: Record,
+}
+
+/// Send's answer.
+#[repr(C)]
+#[derive(Clone, Copy, Debug, PartialEq, Eq)]
+pub struct Sent {
+    /// 0, or the refusal's number.
+    pub number: u32,
+    /// Bytes written; 0 where the call is refused.
+    pub length: usize,
+}
+
+/// Take's answer.
+#[repr(C)]
+#[derive(Clone, Copy, Debug, PartialEq, Eq)]
+pub struct Taken {
+    /// 0, or the refusal's number.
+    pub number: u32,
+    /// The next record; the one handed in where the call is refused.
+    pub record: Record,
+}
+
+// Each function asks what C asks: a pointer is aligned, not null, and names as many elements as the
+// count after it says; memory that a call writes is named by no other argument of it.
+extern "C" {
+    /// A fresh record: an empty log and no ballots.
+    pub fn joukerpan_found(n: usize, own: usize, weights: Weights, log: *const u32, log_len: usize) -> Founded;
+
+    /// Whether the record with its log is sound.
+    pub fn joukerpan_sound(record: Record, log: *const u32, log_len: usize) -> bool;
+
+    /// The record with the entry appended to its own ballot.
+    pub fn joukerpan_issue(record: Record, log: *const u32, log_len: usize, line: u32, code: u32) -> Issued;
+
+    /// How many words at the front of the log are settled.
+    pub fn joukerpan_settled(record: Record, log: *const u32, log_len: usize) -> Part;
+
+    /// The code of the last entry for the line in the settled log.
+    pub fn joukerpan_settled_frame(record: Record, log: *const u32, log_len: usize, line: u32) -> Framed;
+
+    /// The code of the last entry for the line in the own path.
+    pub fn joukerpan_tentative_frame(record: Record, log: *const u32, log_len: usize, line: u32) -> Framed;
+
+    /// The record after election steps until no entry wins.
+    pub fn joukerpan_elect(record: Record, log: *mut u32, log_len: usize) -> Elected;
+
+    /// Writes the office's message.
+    pub fn joukerpan_send(record: Record, log: *const u32, log_len: usize, output: *mut u8, output_len: usize) -> Sent;
+
+    /// The record after another office's message.
+    pub fn joukerpan_take(
+        record: Record,
+        log: *mut u32,
+        log_len: usize,
+        message: *const u8,
+        message_len: usize,
+    ) -> Taken;
+}
+
+/// The layout that the engine was compiled for.
+const _: () = {
+    use core::mem::{align_of, offset_of, size_of};
+    assert!(size_of::<usize>() == 8);
+    assert!(size_of::<Ballot>() == 136 && offset_of!(Ballot, cells) == 8);
+    assert!(size_of::<Record>() == 1128 && align_of::<Record>() == 8);
+    assert!(offset_of!(Record, own) == 8 && offset_of!(Record, weights) == 16);
+    assert!(offset_of!(Record, settled) == 32 && offset_of!(Record, ballots) == 40);
+    assert!(size_of::<Weights>() == 16 && align_of::<Weights>() == 2);
+    assert!(size_of::<Founded>() == 1136 && offset_of!(Founded, record) == 8);
+    assert!(size_of::<Issued>() == 1136 && offset_of!(Issued, record) == 8);
+    assert!(size_of::<Part>() == 16 && offset_of!(Part, length) == 8);
+    assert!(size_of::<Framed>() == 8 && offset_of!(Framed, code) == 4);
+    assert!(size_of::<Elected>() == 1144 && offset_of!(Elected, count) == 8 && offset_of!(Elected, record) == 16);
+    assert!(size_of::<Sent>() == 16 && offset_of!(Sent, length) == 8);
+    assert!(size_of::<Taken>() == 1136 && offset_of!(Taken, record) == 8);
+};

@@ -1,0 +1,41 @@
+//! The shared coding frame of up to eight field offices, over the proved engine.
+//!
+//! The frame has 64 lines; each says which class an answer is counted under. Offices edit it when
+//! they like, connected or not, and exchange messages. An edit shows in its office's *tentative*
+//! frame when it is made. Offices vote on edits with fixed weights; the *settled* frame holds only
+//! those that have won, and no office will ever contradict it.
+//!
+//! An [`Office`] is one office's state. It opens no file and no socket: messages are bytes that the
+//! service carries, late, twice or never. A call that is refused says why ([`Refused`]) and changes
+//! nothing.
+//!
+//! ```
+//! use joukerpan::{Office, Refused};
+//!
+//! let weights = [40, 35, 25];
+//! let mut here = Office::found(0, &weights)?;
+//! let mut there = Office::found(2, &weights)?;
+//!
+//! here.issue(5, 120)?;                          // line 5 is counted under 120
+//! assert_eq!(here.tentative_frame(5), Ok(120)); // seen at once by the supervisor
+//! assert_eq!(here.settled_frame(5), Ok(0));     // not yet by the tabulator
+//!
+//! there.take(&here.message())?;                 // office 2 hears of it and joins: 65 of 100
+//! assert_eq!(there.elect(), 1);
+//! assert_eq!(there.settled_frame(5), Ok(120));
+//! # Ok::<(), Refused>(())
+//! ```
+//!
+//! What is proved and of what, docs/READING.md of the repository says; this crate adds the
+//! memory that the engine borrows, and no rule of its own.
+
+#![warn(missing_docs)]
+
+mod entry;
+mod office;
+mod refused;
+
+pub use entry::Entry;
+pub use joukerpan_sys::{Ballot, Record, CODES, LINES, LOG, MESSAGE_MAX, OFFICES, TAIL};
+pub use office::{sound, Office};
+pub use refused::Refused;

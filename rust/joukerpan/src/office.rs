@@ -1,0 +1,228 @@
+//! One office: its record and its log, and every call of the engine on them.
+
+use std::fmt;
+
+use joukerpan_sys as engine;
+use joukerpan_sys::{Record, Weights, LOG, MESSAGE_MAX, OFFICES};
+
+use crate::Refused;
+
+/// One office's state: its record and its log, which are always sound together.
+///
+/// Two offices are equal when their records and their settled logs are.
+#[derive(Clone)]
+pub struct Office {
+    record: Record,
+    log: Box<[u32; LOG]>,
+}
+
+/// Whether the record with its log is sound: the log has 1,024 words or more, and every limit is kept.
+///
+/// Every record, log and number has its answer; [`Office::from_parts`] asks this one.
+pub fn sound(record: &Record, log: &[u32]) -> bool {
+    // SAFETY: the log names its words for as long as the call lasts; the engine only reads them.
+    unsafe { engine::joukerpan_sound(*record, log.as_ptr(), log.len()) }
+}
+
+impl Office {
+    /// Founds an office: an empty log and no ballots. There is a weight for each office, and `own` is this one.
+    ///
+    /// All offices of a frame are founded with the same weights.
+    ///
+    /// # Errors
+    ///
+    /// [`Refused::Founding`] unless there are 1 to 8 offices, `own` is one of them and the weights
+    /// add up to at least 1.
+    ///
+    /// ```
+    /// use joukerpan::{Office, Refused};
+    ///
+    /// assert!(Office::found(1, &[50, 50]).is_ok());
+    /// assert_eq!(Office::found(2, &[50, 50]).unwrap_err(), Refused::Founding);
+    /// assert_eq!(Office::found(0, &[0, 0]).unwrap_err(), Refused::Founding);
+    /// assert_eq!(Office::found(0, &[1; 9]).unwrap_err(), Refused::Founding);
+    /// ```
+    pub fn found(own: usize, weights: &[u16]) -> Result<Office, Refused> {
+        let mut of = [0; OFFICES];
+        for (place, &weight) in of.iter_mut().zip(weights) {
+            *place = weight;
+        }
+        let log = Box::new([0; LOG]);
+        // SAFETY: the log names its words for as long as the call lasts; the engine only reads them.
+        let founded = unsafe { engine::joukerpan_found(weights.len(), own, Weights { of }, log.as_ptr(), LOG) };
+        Refused::check(founded.number)?;
+        Ok(Office { record: founded.record, log })
+    }
+
+    /// The office that [`Office::into_parts`] took apart, for a service that stores offices.
+    ///
+    /// # Errors
+    ///
+    /// [`Refused::Unsound`] unless the record with its log is sound, whatever they hold.
+    ///
+    /// ```
+    /// use joukerpan::{Office, Refused};
+    ///
+    /// let mut office = Office::found(1, &[50, 50])?;
+    /// office.issue(5, 130)?;
+    /// let (mut record, log) = office.clone().into_parts();
+    /// assert_eq!(Office::from_parts(record, log.clone()), Ok(office));
+    /// record.settled = 1025;
+    /// assert_eq!(Office::from_parts(record, log), Err(Refused::Unsound));
+    /// # Ok::<(), Refused>(())
+    /// ```
+    pub fn from_parts(record: Record, log: Box<[u32; LOG]>) -> Result<Office, Refused> {
+        if sound(&record, &log[..]) {
+            Ok(Office { record, log })
+        } else {
+            Err(Refused::Unsound)
+        }
+    }
+
+    /// The record and the log, to be stored. The words past the settled ones mean nothing.
+    pub fn into_parts(self) -> (Record, Box<[u32; LOG]>) {
+        (self.record, self.log)
+    }
+
+    /// The record: offices, weights, settled length and the ballots that are known.
+    pub fn record(&self) -> &Record {
+        &self.record
+    }
+
+    /// Edits the frame: appends the entry to the office's own ballot.
+    ///
+    /// # Errors
+    ///
+    /// [`Refused::NoEntry`], [`Refused::TailFull`] or [`Refused::LogFull`].
+    pub fn issue(&mut self, line: u32, code: u32) -> Result<(), Refused> {
+        // SAFETY: the log names its words for as long as the call lasts; the engine only reads them.
+        let issued = unsafe { engine::joukerpan_issue(self.record, self.log.as_ptr(), LOG, line, code) };
+        self.record = issued.record;
+        Refused::check(issued.number)
+    }
+
+    /// The settled log, an entry to each word ([`Entry`](crate::Entry) reads them): those that no office
+    /// will contradict.
+    ///
+    /// ```
+    /// use joukerpan::{Entry, Office, Refused};
+    ///
+    /// let mut office = Office::found(0, &[1])?;
+    /// office.issue(5, 120)?;
+    /// office.elect();
+    /// let settled: Vec<Entry> = office.settled().iter().map(|&word| word.into()).collect();
+    /// assert_eq!(settled, [Entry { office: 0, line: 5, code: 120 }]);
+    /// # Ok::<(), Refused>(())
+    /// ```
+    pub fn settled(&self) -> &[u32] {
+        // SAFETY: the log names its words for as long as the call lasts; the engine only reads them.
+        let part = unsafe { engine::joukerpan_settled(self.record, self.log.as_ptr(), LOG) };
+        debug_assert_eq!(part.number, 0, "an office is sound");
+        &self.log[..part.length]
+    }
+
+    /// The line's code in the settled frame, which the tabulator prints from; 0 if it has none.
+    ///
+    /// # Errors
+    ///
+    /// [`Refused::NoEntry`] for a line above 63.
+    pub fn settled_frame(&self, line: u32) -> Result<u32, Refused> {
+        // SAFETY: the log names its words for as long as the call lasts; the engine only reads them.
+        let framed = unsafe { engine::joukerpan_settled_frame(self.record, self.log.as_ptr(), LOG, line) };
+        Refused::check(framed.number)?;
+        Ok(framed.code)
+    }
+
+    /// The line's code in the tentative frame, which the supervisor reads; 0 if it has none.
+    ///
+    /// # Errors
+    ///
+    /// [`Refused::NoEntry`] for a line above 63.
+    pub fn tentative_frame(&self, line: u32) -> Result<u32, Refused> {
+        // SAFETY: the log names its words for as long as the call lasts; the engine only reads them.
+        let framed = unsafe { engine::joukerpan_tentative_frame(self.record, self.log.as_ptr(), LOG, line) };
+        Refused::check(framed.number)?;
+        Ok(framed.code)
+    }
+
+    /// Settles the entries that have won, and answers how many: 0 where none has.
+    pub fn elect(&mut self) -> usize {
+        // SAFETY: the log names its words, which nothing else does, for as long as the call lasts.
+        let elected = unsafe { engine::joukerpan_elect(self.record, self.log.as_mut_ptr(), LOG) };
+        debug_assert_eq!(elected.number, 0, "an office is sound");
+        self.record = elected.record;
+        elected.count
+    }
+
+    /// Writes the office's message to the front of the output and answers that part.
+    /// An output of [`MESSAGE_MAX`] bytes always does.
+    ///
+    /// # Errors
+    ///
+    /// [`Refused::OutputShort`], and the output keeps its contents.
+    ///
+    /// ```
+    /// use joukerpan::{Office, Refused, MESSAGE_MAX};
+    ///
+    /// let office = Office::found(0, &[40, 35, 25])?;
+    /// let mut output = [0; MESSAGE_MAX];
+    /// assert_eq!(office.send(&mut output)?.len(), 14);
+    /// assert_eq!(office.send(&mut output[..13]), Err(Refused::OutputShort));
+    /// # Ok::<(), Refused>(())
+    /// ```
+    pub fn send<'a>(&self, output: &'a mut [u8]) -> Result<&'a [u8], Refused> {
+        // SAFETY: log and output name their elements for as long as the call lasts; the output, which
+        // the engine writes, is lent to this call alone.
+        let sent =
+            unsafe { engine::joukerpan_send(self.record, self.log.as_ptr(), LOG, output.as_mut_ptr(), output.len()) };
+        Refused::check(sent.number)?;
+        Ok(&output[..sent.length])
+    }
+
+    /// The office's message, for any other office to take.
+    pub fn message(&self) -> Vec<u8> {
+        let mut output = vec![0; MESSAGE_MAX];
+        let length = self.send(&mut output).expect("no message is longer").len();
+        output.truncate(length);
+        output
+    }
+
+    /// Works in another office's message: the settled entries that are missing here, then every ballot
+    /// that is more than what is known. The same message again changes nothing.
+    ///
+    /// # Errors
+    ///
+    /// [`Refused::NoMessage`], [`Refused::OtherOffices`], [`Refused::OwnMessage`] or
+    /// [`Refused::OtherLog`]. Any bytes have their answer.
+    ///
+    /// ```
+    /// use joukerpan::{Office, Refused};
+    ///
+    /// let mut office = Office::found(0, &[40, 35, 25])?;
+    /// assert_eq!(office.take(b"no message"), Err(Refused::NoMessage));
+    /// assert_eq!(office.take(&office.message()), Err(Refused::OwnMessage));
+    /// # Ok::<(), Refused>(())
+    /// ```
+    pub fn take(&mut self, message: &[u8]) -> Result<(), Refused> {
+        // SAFETY: log and message name their elements for as long as the call lasts; the log, which
+        // the engine writes, is this office's own.
+        let taken =
+            unsafe { engine::joukerpan_take(self.record, self.log.as_mut_ptr(), LOG, message.as_ptr(), message.len()) };
+        self.record = taken.record;
+        Refused::check(taken.number)
+    }
+}
+
+impl PartialEq for Office {
+    fn eq(&self, other: &Office) -> bool {
+        self.record == other.record && self.settled() == other.settled()
+    }
+}
+
+impl Eq for Office {}
+
+impl fmt::Debug for Office {
+    fn fmt(&self, f: &mut fmt::Formatter<'_>) -> fmt::Result {
+        f.debug_struct("Office").field("record", &self.record).field("settled", &self.settled()).finish()
+    }
+}

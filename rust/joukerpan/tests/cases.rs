@@ -1,0 +1,177 @@
+//! The paper's cases through the safe crate: the rehearsal, A to L, and each refusal.
+
+use joukerpan::{Ballot, Entry, Office, Record, Refused, LOG, MESSAGE_MAX, OFFICES, TAIL};
+
+const A: Entry = Entry { office: 0, line: 5, code: 120 };
+const B: Entry = Entry { office: 1, line: 5, code: 130 };
+const C: Entry = Entry { office: 2, line: 5, code: 140 };
+const D: Entry = Entry { office: 0, line: 6, code: 7 };
+const WEIGHTS: [u16; 3] = [40, 35, 25];
+
+/// The words of some entries.
+fn words(entries: &[Entry]) -> Vec<u32> {
+    entries.iter().map(|entry| entry.value()).collect()
+}
+
+/// An office with this settled log and these ballots.
+fn office(own: usize, weights: &[u16], settled: &[Entry], ballots: &[(usize, &[Entry])]) -> Office {
+    let (mut record, mut log) = Office::found(own, weights).unwrap().into_parts();
+    record.settled = settled.len();
+    log[..settled.len()].copy_from_slice(&words(settled));
+    for &(place, tail) in ballots {
+        let ballot = &mut record.ballots[place];
+        ballot.len = tail.len();
+        ballot.cells[..tail.len()].copy_from_slice(&words(tail));
+    }
+    Office::from_parts(record, log).unwrap()
+}
+
+/// The office's known tail of a place.
+fn tail(office: &Office, place: usize) -> Vec<Entry> {
+    let Ballot { len, cells } = office.record().ballots[place];
+    cells[..len].iter().map(|&word| word.into()).collect()
+}
+
+/// How many entries an election settles, and the log after it.
+fn elected(weights: &[u16], ballots: &[(usize, &[Entry])]) -> (usize, Vec<u32>) {
+    let mut office = office(0, weights, &[], ballots);
+    (office.elect(), office.settled().to_vec())
+}
+
+#[test]
+fn the_rehearsal() {
+    let [mut zero, mut one, mut two] = [0, 1, 2].map(|own| Office::found(own, &WEIGHTS).unwrap());
+    zero.issue(5, 120).unwrap();
+    one.issue(5, 130).unwrap();
+    let message = zero.message();
+    assert_eq!(message.len(), 22);
+    two.take(&message).unwrap();
+    assert_eq!(two.elect(), 1);
+    assert_eq!((two.settled_frame(5), two.tentative_frame(5)), (Ok(120), Ok(120)));
+    assert_eq!((one.settled_frame(5), one.tentative_frame(5)), (Ok(0), Ok(130)));
+}
+
+#[test]
+fn a_to_h_elect() {
+    assert_eq!(elected(&WEIGHTS, &[(0, &[A])]), (0, vec![]), "A");
+    assert_eq!(elected(&WEIGHTS, &[(0, &[A]), (2, &[A])]), (1, words(&[A])), "B");
+    assert_eq!(elected(&WEIGHTS, &[(0, &[A]), (1, &[B])]), (0, vec![]), "C");
+    assert_eq!(elected(&WEIGHTS, &[(0, &[A]), (1, &[B]), (2, &[C])]), (1, words(&[A])), "D");
+    assert_eq!(elected(&[50, 50, 0], &[(0, &[A]), (1, &[B])]), (1, words(&[A])), "E");
+    assert_eq!(elected(&[50, 50], &[(0, &[A])]), (0, vec![]), "F");
+    assert_eq!(elected(&WEIGHTS, &[(0, &[A, D]), (2, &[A, D])]), (2, words(&[A, D])), "G");
+    assert_eq!(elected(&[40, 30, 30], &[(0, &[A, D]), (1, &[A]), (2, &[C])]), (1, words(&[A])), "H");
+}
+
+#[test]
+fn i_a_longer_log_resets_the_own_ballot() {
+    let mut one = office(1, &WEIGHTS, &[], &[(1, &[B])]);
+    one.take(&office(2, &WEIGHTS, &[A], &[]).message()).unwrap();
+    assert_eq!(one, office(1, &WEIGHTS, &[A], &[]));
+}
+
+#[test]
+fn j_and_k_a_shorter_log_still_counts_once() {
+    let mut one = office(1, &WEIGHTS, &[A], &[]);
+    let message = office(0, &WEIGHTS, &[], &[(0, &[A, D])]).message();
+    one.take(&message).unwrap();
+    let after = office(1, &WEIGHTS, &[A], &[(0, &[D]), (1, &[D])]);
+    assert_eq!(one, after, "J");
+    one.take(&message).unwrap();
+    assert_eq!(one, after, "K");
+}
+
+#[test]
+fn l_neither_log_begins_the_other() {
+    let mut one = office(1, &WEIGHTS, &[A], &[]);
+    let before = one.clone();
+    let message = office(0, &WEIGHTS, &[B], &[]).message();
+    assert_eq!(one.take(&message), Err(Refused::OtherLog));
+    assert_eq!(one, before);
+}
+
+#[test]
+fn a_ballot_that_merely_has_more_entries_is_not_adopted() {
+    let mut one = office(1, &WEIGHTS, &[], &[(0, &[A]), (1, &[B])]);
+    one.take(&office(0, &WEIGHTS, &[], &[(0, &[D, A])]).message()).unwrap();
+    assert_eq!((tail(&one, 0), tail(&one, 1)), (vec![A], vec![B]));
+}
+
+#[test]
+fn the_limits_of_an_issue() {
+    let mut office = Office::found(1, &WEIGHTS).unwrap();
+    assert_eq!(office.issue(64, 0), Err(Refused::NoEntry));
+    assert_eq!(office.issue(0, 10_000), Err(Refused::NoEntry));
+    assert_eq!(office.issue(u32::MAX, u32::MAX), Err(Refused::NoEntry));
+    for _ in 0..TAIL {
+        office.issue(63, 9999).unwrap();
+    }
+    let full = office.clone();
+    assert_eq!(office.issue(63, 9999), Err(Refused::TailFull));
+    assert_eq!(office, full);
+}
+
+#[test]
+fn a_full_log() {
+    let mut office = office(0, &[1], &[A; LOG - 1], &[]);
+    office.issue(0, 1).unwrap();
+    assert_eq!(office.issue(0, 2), Err(Refused::LogFull));
+    assert_eq!(office.elect(), 1);
+    assert_eq!((office.settled().len(), office.settled_frame(0)), (LOG, Ok(1)));
+    assert_eq!(office.issue(0, 2), Err(Refused::LogFull));
+}
+
+#[test]
+fn the_longest_message() {
+    let all: Vec<(usize, &[Entry])> = (0..OFFICES).map(|place| (place, &[A; TAIL][..])).collect();
+    let office = office(0, &[1; OFFICES], &[A; LOG - TAIL], &all);
+    let mut output = [0xEE; MESSAGE_MAX];
+    assert_eq!(office.send(&mut output[1..]), Err(Refused::OutputShort));
+    assert!(output.iter().all(|&byte| byte == 0xEE));
+    assert_eq!(office.send(&mut output).unwrap().len(), MESSAGE_MAX);
+}
+
+#[test]
+fn messages_that_are_refused() {
+    let mut one = office(1, &WEIGHTS, &[A], &[(1, &[D])]);
+    let before = one.clone();
+    let message = office(0, &WEIGHTS, &[A], &[(0, &[B])]).message();
+    for length in 0..message.len() {
+        assert_eq!(one.take(&message[..length]), Err(Refused::NoMessage));
+    }
+    assert_eq!(one.take(&[&message[..], &[0]].concat()), Err(Refused::NoMessage));
+    assert_eq!(one.take(&office(0, &[40, 35, 26], &[], &[]).message()), Err(Refused::OtherOffices));
+    assert_eq!(one.take(&office(0, &[40, 35], &[], &[]).message()), Err(Refused::OtherOffices));
+    assert_eq!(one.take(&one.message()), Err(Refused::OwnMessage));
+    assert_eq!(one, before);
+}
+
+#[test]
+fn parts_that_are_not_sound() {
+    let sound = office(1, &WEIGHTS, &[A], &[(1, &[D])]);
+    let breaks: [fn(&mut Record); 6] = [
+        |record| record.n = 9,
+        |record| record.own = 3,
+        |record| record.weights = [0; OFFICES],
+        |record| record.settled = 2,
+        |record| record.ballots[2].len = 33,
+        |record| record.ballots[7].len = 1,
+    ];
+    for broken in breaks {
+        let (mut record, mut log) = sound.clone().into_parts();
+        log[1] = 64 << 16;
+        broken(&mut record);
+        assert_eq!(Office::from_parts(record, log), Err(Refused::Unsound));
+    }
+    assert!(!joukerpan::sound(sound.record(), &[0; LOG - 1]));
+}
+
+#[test]
+fn an_office_goes_to_another_thread() {
+    let mut office = Office::found(0, &[1]).unwrap();
+    let office = std::thread::spawn(move || {
+        office.issue(5, 120).unwrap();
+        office
+    });
+    assert_eq!(office.join().unwrap().tentative_frame(5), Ok(120));
+}

@@ -1,0 +1,268 @@
+/* The engine through its C calls: the paper's rehearsal, some lettered cases, each refusal once. */
+#include <stdio.h>
+#include <stdlib.h>
+#include <string.h>
+
+#include "joukerpan.h"
+
+/* Words of every log here; the words past 1,024 must keep their contents. */
+enum { WORDS = JOUKERPAN_LOG + 3, FILL = 0x5A5A5A5A };
+
+typedef struct {
+    joukerpan_record record;
+    uint32_t log[WORDS];
+} office;
+
+static const joukerpan_weights WEIGHTS = {{40, 35, 25}};
+static int checks;
+
+static void expect(const char *what, unsigned long long got, unsigned long long wanted) {
+    checks++;
+    if (got != wanted) {
+        fprintf(stderr, "embed: %s is %llu, expected %llu\n", what, got, wanted);
+        exit(1);
+    }
+}
+
+static uint32_t entry(uint32_t office, uint32_t line, uint32_t code) {
+    return office * 16777216u + line * 65536u + code;
+}
+
+static bool same(const joukerpan_record *a, const joukerpan_record *b) {
+    return memcmp(a, b, sizeof *a) == 0; /* a record has no padding */
+}
+
+static void founded(office *of, size_t own, joukerpan_weights weights, size_t n) {
+    for (size_t i = 0; i < WORDS; i++) {
+        of->log[i] = FILL;
+    }
+    joukerpan_founded answer = joukerpan_found(n, own, weights, of->log, WORDS);
+    expect("found", answer.number, JOUKERPAN_DONE);
+    of->record = answer.record;
+}
+
+static void put(office *of, size_t place, uint32_t e) {
+    joukerpan_ballot *ballot = &of->record.ballots[place];
+    ballot->cells[ballot->len++] = e;
+}
+
+static void settle(office *of, uint32_t e) {
+    of->log[of->record.settled++] = e;
+}
+
+static uint32_t issue(office *of, uint32_t line, uint32_t code) {
+    joukerpan_issued answer = joukerpan_issue(of->record, of->log, WORDS, line, code);
+    expect("a refused issue leaves the record",
+           answer.number == JOUKERPAN_DONE || same(&answer.record, &of->record), true);
+    of->record = answer.record;
+    return answer.number;
+}
+
+static uint32_t take(office *of, const uint8_t *message, size_t length) {
+    joukerpan_taken answer = joukerpan_take(of->record, of->log, WORDS, message, length);
+    expect("a refused take leaves the record",
+           answer.number == JOUKERPAN_DONE || same(&answer.record, &of->record), true);
+    of->record = answer.record;
+    return answer.number;
+}
+
+static size_t elect(office *of) {
+    size_t before = of->record.settled;
+    joukerpan_elected answer = joukerpan_elect(of->record, of->log, WORDS);
+    expect("elect", answer.number, JOUKERPAN_DONE);
+    expect("the settled length rises by the count", answer.record.settled, before + answer.count);
+    of->record = answer.record;
+    expect("the word behind the settled log", of->log[of->record.settled], FILL);
+    return answer.count;
+}
+
+static size_t send(const office *of, uint8_t *output, size_t length) {
+    joukerpan_sent answer = joukerpan_send(of->record, of->log, WORDS, output, length);
+    expect("send", answer.number, JOUKERPAN_DONE);
+    return answer.length;
+}
+
+static void rehearsal(void) {
+    static office of[3];
+    uint8_t message[JOUKERPAN_MESSAGE];
+    memset(message, 0xEE, sizeof message);
+    for (size_t own = 0; own < 3; own++) {
+        founded(&of[own], own, WEIGHTS, 3);
+    }
+    expect("issue at 0", issue(&of[0], 5, 120), JOUKERPAN_DONE);
+    expect("issue at 1", issue(&of[1], 5, 130), JOUKERPAN_DONE);
+    size_t length = send(&of[0], message, sizeof message);
+    expect("the message's length", length, 22);
+    static const uint8_t wanted[22] = {0x53, 0x48, 0, 3, 0, 40, 0, 35, 0, 25, 0, 0, 0x42, 0x41, 0, 1, 0, 5, 0, 120, 0x45, 0x4E};
+    expect("the message's bytes", memcmp(message, wanted, sizeof wanted), 0);
+    expect("the byte behind the message", message[22], 0xEE);
+    expect("take at 2", take(&of[2], message, length), JOUKERPAN_DONE);
+    expect("elect at 2", elect(&of[2]), 1);
+    expect("the settled word", of[2].log[0], entry(0, 5, 120));
+    joukerpan_framed settled = joukerpan_settled_frame(of[2].record, of[2].log, WORDS, 5);
+    joukerpan_framed tentative = joukerpan_tentative_frame(of[2].record, of[2].log, WORDS, 5);
+    expect("settled frame", settled.number, JOUKERPAN_DONE);
+    expect("settled frame's code", settled.code, 120);
+    expect("tentative frame", tentative.number, JOUKERPAN_DONE);
+    expect("tentative frame's code", tentative.code, 120);
+    joukerpan_part part = joukerpan_settled(of[2].record, of[2].log, WORDS);
+    expect("settled", part.number, JOUKERPAN_DONE);
+    expect("settled's length", part.length, 1);
+    joukerpan_framed first = joukerpan_tentative_frame(of[1].record, of[1].log, WORDS, 5);
+    expect("office 1 sees its own edit", first.code, 130);
+    first = joukerpan_settled_frame(of[1].record, of[1].log, WORDS, 5);
+    expect("which is not settled", first.code, 0);
+}
+
+/* D, G, I, J, K and L of the paper's lettered cases. */
+static void cases(void) {
+    const uint32_t a = entry(0, 5, 120), b = entry(1, 5, 130), c = entry(2, 5, 140), d = entry(0, 6, 7);
+    static office x, y;
+    uint8_t message[JOUKERPAN_MESSAGE];
+
+    founded(&x, 0, WEIGHTS, 3);
+    put(&x, 0, a), put(&x, 1, b), put(&x, 2, c);
+    expect("D: count", elect(&x), 1);
+    expect("D: the entry", x.log[0], a);
+    expect("D: no ballots", x.record.ballots[0].len + x.record.ballots[1].len + x.record.ballots[2].len, 0);
+
+    founded(&x, 0, WEIGHTS, 3);
+    put(&x, 0, a), put(&x, 0, d), put(&x, 2, a), put(&x, 2, d);
+    expect("G: count", elect(&x), 2);
+
+    founded(&x, 2, WEIGHTS, 3), founded(&y, 1, WEIGHTS, 3);
+    settle(&x, a), put(&y, 1, b);
+    expect("I: take", take(&y, message, send(&x, message, sizeof message)), JOUKERPAN_DONE);
+    expect("I: settled", y.record.settled, 1);
+    expect("I: the entry", y.log[0], a);
+    expect("I: own ballot", y.record.ballots[1].len, 0);
+
+    founded(&x, 0, WEIGHTS, 3), founded(&y, 1, WEIGHTS, 3);
+    put(&x, 0, a), put(&x, 0, d), settle(&y, a);
+    size_t length = send(&x, message, sizeof message);
+    expect("J: take", take(&y, message, length), JOUKERPAN_DONE);
+    expect("J: office 0", y.record.ballots[0].len == 1 && y.record.ballots[0].cells[0] == d, true);
+    expect("J: office 1", y.record.ballots[1].len == 1 && y.record.ballots[1].cells[0] == d, true);
+    joukerpan_record before = y.record;
+    expect("K: take", take(&y, message, length), JOUKERPAN_DONE);
+    expect("K: no change", same(&before, &y.record), true);
+
+    founded(&x, 0, WEIGHTS, 3), founded(&y, 1, WEIGHTS, 3);
+    settle(&x, b), settle(&y, a);
+    expect("L", take(&y, message, send(&x, message, sizeof message)), JOUKERPAN_OTHER_LOG);
+    expect("L: log", y.log[0], a);
+}
+
+static void founding_refusals(void) {
+    static uint32_t log[JOUKERPAN_LOG];
+    static const joukerpan_record zero;
+    const joukerpan_weights none = {{0}}, past = {{1, 1, 1, 1}};
+    joukerpan_founded answer = joukerpan_found(0, 9, none, log, JOUKERPAN_LOG - 1);
+    expect("found: 1 before 2", answer.number, JOUKERPAN_UNSOUND);
+    expect("found: an all-zero record", same(&answer.record, &zero), true);
+    answer = joukerpan_found(9, 0, WEIGHTS, log, JOUKERPAN_LOG);
+    expect("found: n", answer.number, JOUKERPAN_FOUNDING);
+    expect("found: an all-zero record", same(&answer.record, &zero), true);
+    expect("found: own", joukerpan_found(3, 3, WEIGHTS, log, JOUKERPAN_LOG).number, JOUKERPAN_FOUNDING);
+    expect("found: no weight", joukerpan_found(3, 0, none, log, JOUKERPAN_LOG).number, JOUKERPAN_FOUNDING);
+    expect("found: past n", joukerpan_found(3, 0, past, log, JOUKERPAN_LOG).number, JOUKERPAN_FOUNDING);
+}
+
+static void issue_refusals(void) {
+    static office x;
+    founded(&x, 1, WEIGHTS, 3);
+    expect("line 64", issue(&x, JOUKERPAN_LINES, 0), JOUKERPAN_NO_ENTRY);
+    expect("code 10000", issue(&x, 0, JOUKERPAN_CODES), JOUKERPAN_NO_ENTRY);
+    for (int i = 0; i < JOUKERPAN_TAIL; i++) {
+        expect("issue", issue(&x, 63, 9999), JOUKERPAN_DONE);
+    }
+    expect("entry 33", issue(&x, 63, 9999), JOUKERPAN_TAIL_FULL);
+    founded(&x, 1, WEIGHTS, 3);
+    for (int i = 0; i < JOUKERPAN_LOG; i++) {
+        settle(&x, entry(2, 0, 1));
+    }
+    expect("entry 1025", issue(&x, 0, 0), JOUKERPAN_LOG_FULL);
+    expect("3 before 5", issue(&x, 64, 0), JOUKERPAN_NO_ENTRY);
+}
+
+static void unsound_records(void) {
+    static office x;
+    static uint8_t output[4];
+    founded(&x, 1, WEIGHTS, 3);
+    expect("sound", joukerpan_sound(x.record, x.log, WORDS), true);
+    expect("a short log", joukerpan_sound(x.record, x.log, JOUKERPAN_LOG - 1), false);
+    x.record.ballots[2].cells[31] = 1;
+    expect("a used cell past the tail", joukerpan_sound(x.record, x.log, WORDS), false);
+    expect("issue", issue(&x, 5, 120), JOUKERPAN_UNSOUND);
+    expect("take", take(&x, output, 0), JOUKERPAN_UNSOUND);
+    joukerpan_part part = joukerpan_settled(x.record, x.log, WORDS);
+    expect("settled", part.number, JOUKERPAN_UNSOUND);
+    expect("settled's length", part.length, 0);
+    joukerpan_elected elected = joukerpan_elect(x.record, x.log, WORDS);
+    expect("elect", elected.number, JOUKERPAN_UNSOUND);
+    expect("elect's count", elected.count, 0);
+    expect("elect leaves the record", same(&elected.record, &x.record), true);
+    joukerpan_sent sent = joukerpan_send(x.record, x.log, WORDS, output, sizeof output);
+    expect("send", sent.number, JOUKERPAN_UNSOUND);
+    expect("send's length", sent.length, 0);
+    joukerpan_framed framed = joukerpan_settled_frame(x.record, x.log, WORDS, 64);
+    expect("settled frame", framed.number, JOUKERPAN_UNSOUND);
+    framed = joukerpan_tentative_frame(x.record, x.log, WORDS, 64);
+    expect("tentative frame", framed.number, JOUKERPAN_UNSOUND);
+    expect("tentative frame's code", framed.code, 0);
+}
+
+static void message_refusals(void) {
+    static office x, y;
+    uint8_t message[JOUKERPAN_MESSAGE];
+    const joukerpan_weights others = {{40, 35, 26}};
+    founded(&x, 0, WEIGHTS, 3), founded(&y, 1, WEIGHTS, 3);
+    memset(message, 0xEE, sizeof message);
+    joukerpan_sent sent = joukerpan_send(x.record, x.log, WORDS, message, 13);
+    expect("an output of 13 bytes", sent.number, JOUKERPAN_OUTPUT_SHORT);
+    expect("its length", sent.length, 0);
+    expect("its bytes", message[0], 0xEE);
+    size_t length = send(&x, message, 14);
+    expect("an output of 14 bytes", length, 14);
+    expect("one byte short", take(&y, message, length - 1), JOUKERPAN_NO_MESSAGE);
+    expect("one byte more", take(&y, message, length + 1), JOUKERPAN_NO_MESSAGE);
+    expect("no bytes", take(&y, message, 0), JOUKERPAN_NO_MESSAGE);
+    expect("own message", take(&x, message, length), JOUKERPAN_OWN_MESSAGE);
+    founded(&x, 0, others, 3);
+    expect("other weights", take(&y, message, send(&x, message, sizeof message)), JOUKERPAN_OTHER_OFFICES);
+    joukerpan_framed framed = joukerpan_settled_frame(y.record, y.log, WORDS, 64);
+    expect("settled frame of line 64", framed.number, JOUKERPAN_NO_ENTRY);
+}
+
+/* The longest message: settled length 992 and eight tails of 32. */
+static void longest_message(void) {
+    static office x, y;
+    static uint8_t message[JOUKERPAN_MESSAGE];
+    const joukerpan_weights alike = {{1, 1, 1, 1, 1, 1, 1, 1}};
+    founded(&x, 0, alike, 8), founded(&y, 7, alike, 8);
+    for (int i = 0; i < 992; i++) {
+        settle(&x, entry((uint32_t)i % 8, (uint32_t)i % 64, 9999));
+    }
+    for (size_t place = 0; place < 8; place++) {
+        for (int i = 0; i < JOUKERPAN_TAIL; i++) {
+            put(&x, place, entry((uint32_t)i % 8, (uint32_t)i % 64, 1));
+        }
+    }
+    expect("the longest message", send(&x, message, sizeof message), JOUKERPAN_MESSAGE);
+    expect("take", take(&y, message, sizeof message), JOUKERPAN_DONE);
+    expect("settled by it", y.record.settled, 992);
+    expect("elect", elect(&y), 32);
+    expect("a full log", y.record.settled, JOUKERPAN_LOG);
+}
+
+int main(void) {
+    rehearsal();
+    cases();
+    founding_refusals();
+    issue_refusals();
+    unsound_records();
+    message_refusals();
+    longest_message();
+    printf("embed: %d answers as expected\n", checks);
+    return 0;
+}
