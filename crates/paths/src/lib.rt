@@ -1,0 +1,101 @@
+// Take's work on ballots. With the settled logs comparable, a path is compared with a longer log by its tail and the words by which that
+// log is longer, so that no path is ever put together.
+ghost use mathlib.Core.Path.{_≡_};
+ghost use mathlib.Core.List.{map};
+ghost use Prim.Native.Nat.{_≤_};
+ghost use lib.ListN.{length};
+ghost use Rattle.protocol.specs.Beginning.{extends};
+ghost use Rattle.ballots.specs.Ballots.{tailOf, ballotOf};
+ghost use Rattle.paths.specs.Paths.{pastBallot, longerBallot, adopted};
+use ballots::Ballot;
+
+// How many entries the ballot's tail has.
+fn tail_len(b: Ballot) -> usize
+    ensures { λ r. ⌜ (r ≡ length (tailOf b)) × (r ≤ 32) ⌝ }
+{
+    let len = b.len;
+    if len > Ballot::CELLS {
+        return Ballot::CELLS;
+    }
+    len
+}
+
+// Whether the tail begins with the words and is longer.
+fn extends(tail: &[u32], words: &[u32]) -> bool
+    ensures { λ r. ⌜ r ≡ extends (now (tail .entry)) (now (words .entry)) ⌝ }
+{
+    if tail.len() <= words.len() {
+        return false;
+    }
+    for i in 0..words.len() {
+        if tail[i] != words[i] {
+            return false;
+        }
+    }
+    true
+}
+
+// The ballot that holds the words.
+fn hold(words: &[u32]) -> Ballot
+    requires { ⌜ length (now words) ≤ 32 ⌝ }
+    ensures { λ r. ⌜ r ≡ ballotOf (now (words .entry)) ⌝ }
+{
+    let mut cells = [0u32; 32];
+    for i in 0..words.len() {
+        cells[i] = words[i];
+    }
+    let len = words.len();
+    Ballot { len, cells }
+}
+
+// What the ballot is beside a log that is longer by the words: its tail past them, or none where its tail does not extend them.
+pub fn past(b: Ballot, words: &[u32]) -> Ballot
+    ensures { λ r. ⌜ r ≡ pastBallot (now (words .entry)) b ⌝ }
+{
+    let len = tail_len(b);
+    let cells = b.cells;
+    if !extends(&cells[..len], words) {
+        return Ballot::none();
+    }
+    let from = words.len();
+    hold(&cells[from..len])
+}
+
+// The offered ballot where its tail extends the ballot's own, else the ballot.
+pub fn longer(b: Ballot, offer: Ballot) -> Ballot
+    ensures { λ r. ⌜ r ≡ longerBallot b offer ⌝ }
+{
+    let own_len = tail_len(b);
+    let own = b.cells;
+    let offer_len = tail_len(offer);
+    let offered = offer.cells;
+    if extends(&offered[..offer_len], &own[..own_len]) {
+        return offer;
+    }
+    b
+}
+
+// Every ballot beside a log that is longer by the words.
+pub fn rebase(ballots: [Ballot; 8], words: &[u32]) -> [Ballot; 8]
+    ensures { λ r. ⌜ r ≡ map (pastBallot (now (words .entry))) ballots ⌝ }
+{
+    let mut next = ballots;
+    for i in 0..8 {
+        let b = ballots[i];
+        next[i] = past(b, words);
+    }
+    next
+}
+
+// Every ballot after its offer, which stands beside a log that is shorter by the words.
+pub fn adopt(ballots: [Ballot; 8], offers: [Ballot; 8], words: &[u32]) -> [Ballot; 8]
+    ensures { λ r. ⌜ r ≡ adopted (now (words .entry)) ballots offers ⌝ }
+{
+    let mut next = ballots;
+    for i in 0..8 {
+        let b = ballots[i];
+        let offer = offers[i];
+        next[i] = longer(b, past(offer, words));
+    }
+    next
+}
