@@ -1,0 +1,4 @@
+-- Laws of what the writer stores, part by part.
+pub mod Ballots
+pub mod Whole
+pub mod Contents

@@ -1,0 +1,46 @@
+use Prim.Native.Nat.{_-_}
+use mathlib.Core.List.{[]}
+use mathlib.Core.Path.{_≡_, ap}
+use native.Mathlib.Omega.{arith}
+use lib.ListN.{length}
+use borrow.Author.Needs.{needs}
+use Rattle.writer.proofs.Ballots.{ToCount, count-again, len-at, rest-all, rest-none}
+use Rattle.writer.proofs.ballots_size.Statement.{statement}
+use Rattle.writer.proofs.ballots_size.Tie as tie
+
+abbrev Inv-loop : tie.InvT-loop
+Inv-loop n of size₀ o₀ size o = ToCount n of size o
+
+abbrev μ-loop : tie.MeasureT-loop
+μ-loop n of size₀ o₀ size o = n - o
+
+full : (c : tie.Start Inv-loop μ-loop) → length (c .args .t2) ≡ 8
+full c = search needs
+
+loop-holds : tie.Need-loop-holds Inv-loop μ-loop
+loop-holds c = (omega arith, (rw rest-all (omega arith), omega arith))
+
+ballot-size-requires : tie.Need-ballot-size-requires Inv-loop μ-loop
+ballot-size-requires c κs = len-at (c .before .before .before .args .t2) _ _ (c .before .before .before .pre .1) (omega (arith, full (c .before .before .before)))
+
+loop-again : tie.Need-loop-again Inv-loop μ-loop
+loop-again c = count-again _ _ _ _ (record { len = 0; cells = [] }) _ (c .before .before .before .loop .inv) (c .before .before .loop-test .taken) (omega (arith, full (c .before .before .before .before))) (c .ballot-size .ensures .0) (c .ballot-size .ensures .1)
+
+returns : tie.Need-returns Inv-loop μ-loop
+returns c = (omega (arith, ap length (rest-none (c .before .before .args .n) (c .before .before .args .t2) (c .before .loop .o) (c .loop-test .left))), omega arith)
+
+pub ballots-size-spec : {M : Type 1} → statement M
+ballots-size-spec =
+    tie.close
+    (tie.spec
+    Inv-loop
+    μ-loop
+    loop-holds
+    (λ c. omega arith)
+    (λ c. omega arith)
+    ballot-size-requires
+    (λ c. omega arith)
+    (λ c. omega arith)
+    (λ c. omega arith)
+    loop-again
+    returns)

@@ -1,0 +1,161 @@
+// Writing the message of a record to a buffer. `size` and `write` are public only for the crate above, which proves what they require.
+use ballots::Ballot;
+use spelling::put16;
+use spelling::put32;
+ghost use mathlib.Core.Path.{_≡_};
+ghost use mathlib.Core.Bool.{true};
+ghost use mathlib.Core.List.{_++_};
+ghost use Prim.Native.Nat.{_+_, _*_, _<_, _≤_};
+ghost use lib.ListN.{length, take, drop};
+ghost use lib.Seq.{sets};
+ghost use Rattle.protocol.specs.Tests.{allB};
+ghost use Rattle.ballots.specs.Ballots.{tailOf, ballotShape};
+ghost use Rattle.spelling.specs.Numbers.{bytes16, bytes32, run};
+ghost use Rattle.spelling.specs.Spelling.{headBytes, logRecord, ballotBytes, ballotsBytes, spelling};
+ghost use Rattle.writer.specs.Written.{tailsOf, contentOf, size, Writable};
+
+// One log record at a position.
+fn put_record(out: &mut [u8], at: usize, value: u32)
+    requires { ⌜ at + 6 ≤ length (now out) ⌝ }
+    ensures { λ _. ⌜ now (out .exit) ≡ sets (now (out .entry)) at (logRecord value) ⌝ }
+{
+    out[at] = 0x4C;
+    out[at + 1] = 0x47;
+    put32(out, at + 2, value);
+}
+
+// The first k values of the log, as log records from a position on; the position after them.
+fn put_log(out: &mut [u8], at: usize, log: &[u32], k: usize) -> usize
+    requires { ⌜ (k ≤ length (now log)) × (at + 6 * k ≤ length (now out)) ⌝ }
+    ensures { λ r. ⌜ (r ≡ at + 6 * k) × (now (out .exit) ≡ sets (now (out .entry)) at (run logRecord (take k (now (log .entry))))) ⌝ }
+{
+    let mut p = at;
+    for i in 0..k {
+        put_record(out, p, log[i]);
+        p += 6;
+    }
+    p
+}
+
+// The first k values, four bytes each, from a position on; the position after them.
+fn put_values(out: &mut [u8], at: usize, values: &[u32], k: usize) -> usize
+    requires { ⌜ (k ≤ length (now values)) × (at + 4 * k ≤ length (now out)) ⌝ }
+    ensures { λ r. ⌜ (r ≡ at + 4 * k) × (now (out .exit) ≡ sets (now (out .entry)) at (run bytes32 (take k (now (values .entry))))) ⌝ }
+{
+    let mut p = at;
+    for i in 0..k {
+        put32(out, p, values[i]);
+        p += 4;
+    }
+    p
+}
+
+// The first k weights, two bytes each, from a position on; the position after them.
+fn put_weights(out: &mut [u8], at: usize, weights: &[u16], k: usize) -> usize
+    requires { ⌜ (k ≤ length (now weights)) × (at + 2 * k ≤ length (now out)) ⌝ }
+    ensures { λ r. ⌜ (r ≡ at + 2 * k) × (now (out .exit) ≡ sets (now (out .entry)) at (run bytes16 (take k (now (weights .entry))))) ⌝ }
+{
+    let mut p = at;
+    for i in 0..k {
+        put16(out, p, weights[i]);
+        p += 2;
+    }
+    p
+}
+
+// The ballot of an office from a position on, nothing where it is empty; the position after it.
+fn put_ballot(out: &mut [u8], at: usize, o: usize, b: Ballot) -> usize
+    requires { ⌜ (b .len ≤ 32) × ((o < 256) × (at + length (ballotBytes o (tailOf b)) ≤ length (now out))) ⌝ }
+    ensures { λ r. ⌜ (r ≡ at + length (ballotBytes o (tailOf b))) × (now (out .exit) ≡ sets (now (out .entry)) at (ballotBytes o (tailOf b))) ⌝ }
+{
+    let len = b.len;
+    if len == 0 {
+        return at;
+    }
+    let cells = b.cells;
+    out[at] = 0x42;
+    out[at + 1] = 0x41;
+    out[at + 2] = o as u8;
+    out[at + 3] = len as u8;
+    put_values(out, at + 4, &cells, len)
+}
+
+// The ballots of n offices from a position on; the position after them.
+fn put_ballots(out: &mut [u8], at: usize, n: usize, ballots: [Ballot; 8]) -> usize
+    requires { ⌜ (n ≤ 8) × ((allB ballotShape ballots ≡ true) × (at + length (ballotsBytes 0 (tailsOf n ballots)) ≤ length (now out))) ⌝ }
+    ensures { λ r. ⌜ (r ≡ at + length (ballotsBytes 0 (tailsOf n ballots))) × (now (out .exit) ≡ sets (now (out .entry)) at (ballotsBytes 0 (tailsOf n ballots))) ⌝ }
+{
+    let mut p = at;
+    for o in 0..n {
+        let b = ballots[o];
+        p = put_ballot(out, p, o, b);
+    }
+    p
+}
+
+// The head, at the start of the buffer; the position after it.
+fn put_head(out: &mut [u8], sender: usize, n: usize, weights: [u16; 8], settled: usize) -> usize
+    requires { ⌜ (n ≤ 8) × ((sender < 256) × ((settled ≤ 1024) × (6 + 2 * n ≤ length (now out)))) ⌝ }
+    ensures { λ r. ⌜ (r ≡ 6 + 2 * n) × (now (out .exit) ≡ sets (now (out .entry)) 0 (headBytes sender n (take n weights) settled)) ⌝ }
+{
+    out[0] = 0x53;
+    out[1] = 0x48;
+    out[2] = sender as u8;
+    out[3] = n as u8;
+    let p = put_weights(out, 4, &weights, n);
+    put16(out, p, settled as u16);
+    p + 2
+}
+
+// How many bytes the ballot of an office takes.
+fn ballot_size(o: usize, b: Ballot) -> usize
+    requires { ⌜ b .len ≤ 32 ⌝ }
+    ensures { λ r. ⌜ (r ≡ length (ballotBytes o (tailOf b))) × (r ≤ 132) ⌝ }
+{
+    let len = b.len;
+    if len == 0 {
+        return 0;
+    }
+    4 + 4 * len
+}
+
+// How many bytes the ballots of n offices take.
+fn ballots_size(n: usize, ballots: [Ballot; 8]) -> usize
+    requires { ⌜ (n ≤ 8) × (allB ballotShape ballots ≡ true) ⌝ }
+    ensures { λ r. ⌜ (r ≡ length (ballotsBytes 0 (tailsOf n ballots))) × (r ≤ 1056) ⌝ }
+{
+    let mut size: usize = 0;
+    for o in 0..n {
+        let b = ballots[o];
+        size += ballot_size(o, b);
+    }
+    size
+}
+
+// How many bytes the message of a record takes.
+pub fn size(n: usize, settled: usize, ballots: [Ballot; 8]) -> usize
+    requires { ⌜ (n ≤ 8) × ((settled ≤ 1024) × (allB ballotShape ballots ≡ true)) ⌝ }
+    ensures { λ r. ⌜ r ≡ size n settled ballots ⌝ }
+{
+    6 + 2 * n + (6 * settled + (ballots_size(n, ballots) + 2))
+}
+
+// Writes the message of a record to the start of a buffer that has room for it. "Later bytes of the buffer keep their contents."
+pub fn write(
+    sender: usize,
+    n: usize,
+    weights: [u16; 8],
+    log: &[u32],
+    settled: usize,
+    ballots: [Ballot; 8],
+    out: &mut [u8],
+)
+    requires { ⌜ Writable sender n (now log) settled ballots × (size n settled ballots ≤ length (now out)) ⌝ }
+    ensures { λ _. ⌜ now (out .exit) ≡ spelling (contentOf sender n weights (now (log .entry)) settled ballots) ++ drop (length (spelling (contentOf sender n weights (now (log .entry)) settled ballots))) (now (out .entry)) ⌝ }
+{
+    let h = put_head(out, sender, n, weights, settled);
+    let b = put_log(out, h, log, settled);
+    let e = put_ballots(out, b, n, ballots);
+    out[e] = 0x45;
+    out[e + 1] = 0x4E;
+}
