@@ -14,5 +14,8 @@ pub mod message;
 pub mod random;
 pub mod record;
 pub mod rehearsal;
+pub mod samples;
 pub mod survey;
 pub mod take;
+pub mod trial;
+pub mod trials;

@@ -6,11 +6,15 @@ use std::process::ExitCode;
 use second::generate;
 use second::rehearsal::rehearse;
 use second::survey::survey;
+use second::trial::trial;
+use second::trials;
 
 const USAGE: &str = "usage:
   second rehearse < SCRIPT            answer a rehearsal script
   second generate KIND SEED LINES     write one (mixed contested tails long malformed everything)
-  second survey < SCRIPT              count what it shows";
+  second survey < SCRIPT              count what it shows
+  second trial < SCRIPT               answer a trial script
+  second generate-trials KIND SEED COUNT   write one (boundaries elections takes damaged random)";
 
 /// An error about the arguments.
 fn wrong(what: &str) -> Error {
@@ -26,9 +30,15 @@ fn run(words: &[&str]) -> Result<()> {
     let mut output = stdout().lock();
     match *words {
         ["rehearse"] => rehearse(stdin().lock(), output),
+        ["trial"] => trial(stdin().lock(), output),
         ["survey"] => survey(stdin().lock(), output),
         ["generate", kind, seed, lines] => {
             let script = generate::script(kind, number(seed)?, number(lines)? as usize);
+            output.write_all(&script.ok_or_else(|| wrong("no such kind"))?)?;
+            output.flush()
+        }
+        ["generate-trials", kind, seed, count] => {
+            let script = trials::script(kind, number(seed)?, number(count)? as usize);
             output.write_all(&script.ok_or_else(|| wrong("no such kind"))?)?;
             output.flush()
         }

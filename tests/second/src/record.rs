@@ -64,6 +64,13 @@ impl Ballot {
     /// The ballot of an office that is not known to have voted.
     pub const NONE: Ballot = Ballot { len: 0, cells: [0; TAIL] };
 
+    /// The ballot with this tail, or with as much of it as there are cells.
+    pub fn of(tail: &[u32]) -> Ballot {
+        let mut ballot = Ballot { len: tail.len().min(TAIL), ..Ballot::NONE };
+        ballot.cells.iter_mut().zip(tail).for_each(|(cell, &value)| *cell = value);
+        ballot
+    }
+
     /// The tail: the first `len` cells, or all of them where `len` is past the end.
     pub fn tail(&self) -> &[u32] {
         &self.cells[..self.len.min(TAIL)]

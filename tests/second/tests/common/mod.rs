@@ -1,8 +1,8 @@
 //! What the tests share: short ways to say records, logs and messages.
 #![allow(dead_code)]
 
-use second::message::{send, LONGEST};
-use second::record::{entry, Ballot, Record, DONE, LOG, OFFICES, TAIL};
+use second::record::{entry, Ballot, Record, LOG};
+use second::samples::{Sample, FILLER};
 
 /// Document 01's entries a, b, c, d.
 pub const A: u32 = 5 << 16 | 120;
@@ -15,32 +15,22 @@ pub const WEIGHTS: [u16; 3] = [40, 35, 25];
 
 /// A ballot with this tail.
 pub fn ballot(tail: &[u32]) -> Ballot {
-    let mut cells = [0; TAIL];
-    cells[..tail.len()].copy_from_slice(tail);
-    Ballot { len: tail.len(), cells }
+    Ballot::of(tail)
 }
 
 /// A record with these ballots, over a log of this length.
 pub fn record(own: usize, weights: &[u16], settled: usize, ballots: &[(usize, &[u32])]) -> Record {
-    let mut all = [0; OFFICES];
-    all[..weights.len()].copy_from_slice(weights);
-    let mut record = Record { n: weights.len(), own, weights: all, settled, ..Record::ZERO };
-    for &(office, tail) in ballots {
-        record.ballots[office] = ballot(tail);
-    }
-    record
+    Record { settled, ..Sample::new(own, weights, &[], ballots).record }
 }
 
 /// A log of 1024 words that begins with these, the rest made up.
 pub fn log(settled: &[u32]) -> Vec<u32> {
-    let mut log = vec![0xDEAD_BEEF; LOG];
-    log[..settled.len()].copy_from_slice(settled);
-    log
+    Sample::new(0, &[], settled, &[]).log
 }
 
 /// A log of 1024 words whose first `length` are entries of office 0, all different.
 pub fn long_log(length: usize) -> Vec<u32> {
-    let mut log = vec![0xDEAD_BEEF; LOG];
+    let mut log = vec![FILLER; LOG];
     for (at, word) in log[..length].iter_mut().enumerate() {
         *word = entry(0, at as u32 % 64, at as u32 % 10_000);
     }
@@ -54,8 +44,7 @@ pub fn long_tail(length: usize) -> Vec<u32> {
 
 /// The message of a sound record.
 pub fn message(record: &Record, log: &[u32]) -> Vec<u8> {
-    let mut output = [0; LONGEST];
-    let (number, length) = send(record, log, &mut output);
-    assert_eq!(number, DONE);
-    output[..length].to_vec()
+    let sent = Sample { record: *record, log: log.to_vec() }.message();
+    assert!(!sent.is_empty());
+    sent
 }

@@ -1,0 +1,166 @@
+//! Random records with their logs, related to each other so that calls on them have something to do.
+
+use crate::generate::weights;
+use crate::message::{send, LONGEST};
+use crate::random::Random;
+use crate::record::{entry, Ballot, Record, LOG, OFFICES, TAIL};
+
+/// A record and its log.
+#[derive(Clone, Debug, PartialEq, Eq)]
+pub struct Sample {
+    /// The record.
+    pub record: Record,
+    /// The log, words past the settled ones included.
+    pub log: Vec<u32>,
+}
+
+/// What the words past the settled log are, where nothing else is said: no entry.
+pub const FILLER: u32 = 0xDEAD_BEEF;
+
+impl Sample {
+    /// The record of an office with these weights, settled log and ballots, and a log of 1024 words.
+    pub fn new(own: usize, weights: &[u16], settled: &[u32], ballots: &[(usize, &[u32])]) -> Sample {
+        let mut record = Record { n: weights.len(), own, settled: settled.len(), ..Record::ZERO };
+        record.weights.iter_mut().zip(weights).for_each(|(place, &weight)| *place = weight);
+        for &(office, tail) in ballots {
+            record.ballots[office] = Ballot::of(tail);
+        }
+        let mut log = settled.to_vec();
+        log.resize(LOG.max(settled.len()), FILLER);
+        Sample { record, log }
+    }
+
+    /// The message that a sound record sends.
+    pub fn message(&self) -> Vec<u8> {
+        let mut output = [0; LONGEST];
+        let (_, length) = send(&self.record, &self.log, &mut output);
+        output[..length].to_vec()
+    }
+}
+
+/// What related samples have in common: offices, weights, and one path that they all stray from.
+pub struct Family {
+    n: usize,
+    weights: [u16; OFFICES],
+    /// Few entries, so that different paths meet often.
+    entries: Vec<u32>,
+    path: Vec<u32>,
+    /// Where the settled logs end, more or less.
+    around: usize,
+}
+
+/// Any entry among n offices.
+pub fn any_entry(random: &mut Random, n: usize) -> u32 {
+    let line = random.pick(&[0, 1, 5, 62, 63]);
+    let code = random.pick(&[0, 1, 120, 255, 256, 9998, 9999]);
+    entry(random.below(n), line, code)
+}
+
+impl Family {
+    /// A family with a settled log of few entries, or now and then of almost as many as can be.
+    pub fn new(random: &mut Random) -> Family {
+        let n = random.pick(&[1, 2, 2, 3, 3, 3, 4, 4, 5, 6, 7, 8]);
+        let mut all = [0; OFFICES];
+        for (place, weight) in all.iter_mut().zip(weights(random, n)) {
+            *place = weight as u16;
+        }
+        let entries: Vec<u32> = (0..random.within(2, 4)).map(|_| any_entry(random, n)).collect();
+        let around = if random.percent(85) { random.below(6) } else { random.within(LOG - TAIL - 8, LOG - 2) };
+        let mut path = vec![entries[0]; LOG];
+        for (at, word) in path.iter_mut().enumerate() {
+            if at + 40 > around || random.percent(2) {
+                *word = random.pick(&entries);
+            }
+        }
+        Family { n, weights: all, entries, path, around }
+    }
+
+    /// The same offices with another weight.
+    pub fn reweighted(&self, random: &mut Random) -> Family {
+        let mut weights = self.weights;
+        let office = random.below(self.n);
+        weights[office] = if weights[office] == 7 { 8 } else { 7 };
+        Family { weights, entries: self.entries.clone(), path: self.path.clone(), ..*self }
+    }
+
+    /// An office of the family.
+    pub fn office(&self, random: &mut Random) -> usize {
+        random.below(self.n)
+    }
+
+    /// A sound record of the office, with its log.
+    pub fn sample(&self, random: &mut Random, own: usize) -> Sample {
+        let near = (self.around + random.below(5)).min(LOG);
+        let settled = near.saturating_sub(2);
+        let mut log = self.blank_log(random);
+        log[..settled].copy_from_slice(&self.path[..settled]);
+        if settled > 0 && random.percent(4) {
+            log[random.below(settled)] = random.pick(&self.entries);
+        }
+        let mut record = Record { n: self.n, own, weights: self.weights, settled, ..Record::ZERO };
+        for ballot in &mut record.ballots[..self.n] {
+            *ballot = self.ballot(random, settled);
+        }
+        Sample { record, log }
+    }
+
+    /// A log of 1024 words or some more, none of which is settled.
+    fn blank_log(&self, random: &mut Random) -> Vec<u32> {
+        let length = if random.percent(70) { LOG } else { random.within(LOG, LOG + 76) };
+        let filler = random.pick(&[0, u32::MAX, 0xDEAD_BEEF, self.entries[0], 64 << 16]);
+        vec![filler; length]
+    }
+
+    /// A ballot over a settled log of this length: none, or the family's path, or one that strays from it.
+    fn ballot(&self, random: &mut Random, settled: usize) -> Ballot {
+        let most = TAIL.min(LOG - settled);
+        let length = match random.below(20) {
+            0..=4 => 0,
+            5..=9 if most < TAIL => most,
+            5..=16 => random.within(1, 5),
+            17 | 18 => random.below(TAIL + 1),
+            _ => most,
+        };
+        let length = length.min(most);
+        let mut ballot = Ballot { len: length, ..Ballot::NONE };
+        ballot.cells[..length].copy_from_slice(&self.path[settled..settled + length]);
+        if length > 0 && random.percent(35) {
+            ballot.cells[random.below(length)] = random.pick(&self.entries);
+        }
+        ballot
+    }
+}
+
+/// Breaks one clause of soundness, or now and then none, of any record.
+pub fn break_one(random: &mut Random, sample: &mut Sample) {
+    let Sample { record, log } = sample;
+    let huge = random.pick(&[33, 255, 256, 1025, 65536, 1 << 32, usize::MAX - 1, usize::MAX]);
+    let n = record.n.min(OFFICES);
+    let (office, past) = (random.below(n), random.within(n.min(OFFICES - 1), OFFICES - 1));
+    let wrong = random.pick(&[(n as u32) << 24, 64 << 16, 10_000, u32::MAX, 0x00FF_0000]);
+    match random.below(10) {
+        0 => record.n = random.pick(&[0, 9, n.saturating_sub(1), huge]),
+        1 => record.own = random.pick(&[record.n, huge]),
+        2 => record.weights[past] = random.pick(&[1, 256, 65535]),
+        3 => record.weights = [0; OFFICES],
+        4 => record.settled = random.pick(&[LOG + 1, log.len().saturating_add(1), huge.max(LOG + 1)]),
+        5 if record.settled > 0 => {
+            let at = random.below(record.settled);
+            log.iter_mut().skip(at).take(1).for_each(|word| *word = wrong);
+        }
+        5 | 6 => log.truncate(random.pick(&[0, 1, LOG - 1])),
+        7 => break_ballot(random, &mut record.ballots[past], wrong, 0),
+        _ => break_ballot(random, &mut record.ballots[office], wrong, huge),
+    }
+}
+
+/// Breaks a ballot's length, one of its entries, or the zeros after them.
+fn break_ballot(random: &mut Random, ballot: &mut Ballot, wrong: u32, huge: usize) {
+    let length = ballot.len.min(TAIL);
+    match random.below(3) {
+        0 => ballot.len = random.pick(&[TAIL + 1, huge.max(TAIL + 1), length + 1]),
+        1 if length > 0 => ballot.cells[random.below(length)] = wrong,
+        _ if length < TAIL => ballot.cells[random.within(length, TAIL - 1)] = random.pick(&[1, wrong]),
+        _ => ballot.len = TAIL + 1,
+    }
+}

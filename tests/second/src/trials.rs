@@ -1,0 +1,188 @@
+//! Trial scripts: boundaries worked from document 01, damaged messages, and random records and messages.
+
+use crate::record::Record;
+use crate::samples::Sample;
+use crate::trial::State;
+
+mod boundaries;
+mod cases;
+mod damaged;
+mod layout;
+mod product;
+mod random;
+
+/// The kinds of trial script there are.
+pub const KINDS: [&str; 5] = ["boundaries", "elections", "takes", "damaged", "random"];
+
+/// Words or bytes of a line that has several.
+const WORDS: usize = 10;
+const BYTES: usize = 20;
+/// Bytes of a settled entry in a message.
+const REPEATED: usize = 6;
+
+/// A script that is being written, and the state that it leaves.
+#[derive(Default)]
+pub(crate) struct Trials {
+    state: State,
+    text: Vec<u8>,
+}
+
+impl Trials {
+    /// Writes a line and runs it.
+    pub(crate) fn say(&mut self, line: &str) {
+        let start = self.text.len();
+        self.text.extend_from_slice(line.as_bytes());
+        self.state.answer(&self.text[start..], &mut vec![]);
+        self.text.push(b'\n');
+    }
+
+    /// Writes a letter and numbers.
+    fn set(&mut self, letter: char, numbers: impl IntoIterator<Item = u64>) {
+        let numbers: String = numbers.into_iter().map(|number| format!(" {number}")).collect();
+        self.say(&format!("{letter}{numbers}"));
+    }
+
+    /// Begins anew.
+    pub(crate) fn begin(&mut self) {
+        self.say("d");
+    }
+
+    /// Makes the record what is given, by the lines that this needs.
+    pub(crate) fn record(&mut self, record: &Record) {
+        let held = self.state.record;
+        if (Record { ballots: held.ballots, ..*record }) != held {
+            let weights = record.weights.iter().map(|&weight| u64::from(weight));
+            let head = [record.n as u64, record.own as u64].into_iter().chain(weights);
+            self.set('r', head.chain([record.settled as u64]));
+        }
+        for (office, ballot) in record.ballots.iter().enumerate() {
+            if held.ballots[office] == *ballot {
+                continue;
+            }
+            self.set('b', [office as u64, ballot.len as u64]);
+            let used = ballot.cells.iter().rposition(|&cell| cell != 0).map_or(0, |last| last + 1);
+            for (piece, cells) in ballot.cells[..used].chunks(WORDS).enumerate() {
+                let place = [office as u64, (piece * WORDS) as u64];
+                self.set('a', place.into_iter().chain(cells.iter().map(|&cell| cell.into())));
+            }
+        }
+    }
+
+    /// Makes the log what is given, by the lines that this needs.
+    pub(crate) fn log(&mut self, log: &[u32]) {
+        if self.state.log == log {
+            return;
+        }
+        let filler = most_common(log);
+        self.set('l', [log.len() as u64, filler.into()]);
+        let mut at = 0;
+        while let Some(skipped) = log[at..].iter().position(|&word| word != filler) {
+            at += skipped;
+            let rest = &log[at..log.len().min(at + WORDS)];
+            let run = rest.iter().position(|&word| word == filler).unwrap_or(rest.len());
+            self.set('w', std::iter::once(at as u64).chain(rest[..run].iter().map(|&word| word.into())));
+            at += run;
+        }
+    }
+
+    /// Makes record and log what is given.
+    pub(crate) fn sample(&mut self, sample: &Sample) {
+        self.record(&sample.record);
+        self.log(&sample.log);
+    }
+
+    /// An output of this length, full of one byte.
+    pub(crate) fn output(&mut self, length: usize) {
+        self.set('o', [length as u64, 170]);
+    }
+
+    /// Makes the message what is given; a settled entry that is repeated is said once.
+    pub(crate) fn message(&mut self, bytes: &[u8]) {
+        self.say("c 0");
+        let (mut from, mut at) = (0, 0);
+        while at < bytes.len() {
+            let times = repeats(&bytes[at..]);
+            if times < 4 {
+                at += 1;
+                continue;
+            }
+            self.append(1, &bytes[from..at]);
+            self.append(times, &bytes[at..at + REPEATED]);
+            at += times * REPEATED;
+            from = at;
+        }
+        self.append(1, &bytes[from..]);
+    }
+
+    /// Appends the bytes to the message this many times; once, if they take more than a line.
+    fn append(&mut self, times: usize, bytes: &[u8]) {
+        for piece in bytes.chunks(BYTES) {
+            self.set('m', std::iter::once(times as u64).chain(piece.iter().map(|&byte| byte.into())));
+        }
+    }
+
+    /// Overwrites one byte of the message.
+    pub(crate) fn overwrite(&mut self, at: usize, byte: u8) {
+        self.set('x', [at as u64, byte.into()]);
+    }
+
+    /// Cuts the message to a length.
+    pub(crate) fn cut(&mut self, length: usize) {
+        self.set('c', [length as u64]);
+    }
+
+    /// Has the message of a sound record sent, and makes it the message that is taken.
+    pub(crate) fn sent(&mut self, sample: &Sample) {
+        self.sample(sample);
+        let length = crate::message::length(&sample.record);
+        self.output(length);
+        self.say("S");
+        self.set('g', [length as u64]);
+    }
+
+    /// Every call on the state as it is. Those that change nothing come first; take goes before elect.
+    pub(crate) fn all_calls(&mut self) {
+        for line in ["U", "P", "V 5", "V 64", "S", "I 64 0", "T", "I 5 9999", "E"] {
+            self.say(line);
+        }
+    }
+
+    /// The state as the script leaves it so far.
+    pub(crate) fn state(&self) -> &State {
+        &self.state
+    }
+}
+
+/// How many times in a row the first bytes stand there, as many as a settled entry has.
+fn repeats(bytes: &[u8]) -> usize {
+    let first = bytes.get(..REPEATED).unwrap_or(&[]);
+    bytes.chunks_exact(REPEATED).take_while(|&part| part == first).count()
+}
+
+/// The word that occurs most often, 0 if there is none.
+fn most_common(log: &[u32]) -> u32 {
+    let mut sorted = log.to_vec();
+    sorted.sort_unstable();
+    let runs = sorted.chunk_by(|a, b| a == b);
+    runs.max_by_key(|run| run.len()).map_or(0, |run| run[0])
+}
+
+/// A trial script of one kind; nothing if there is no such kind.
+/// `count` is how many messages are damaged, or how many random records are tried; the other kinds have neither
+/// seed nor count.
+pub fn script(kind: &str, seed: u64, count: usize) -> Option<Vec<u8>> {
+    let mut trials = Trials::default();
+    match kind {
+        "boundaries" => {
+            boundaries::write(&mut trials);
+            cases::write(&mut trials);
+            layout::write(&mut trials);
+        }
+        "elections" => product::elections(&mut trials),
+        "takes" => product::takes(&mut trials),
+        "damaged" => damaged::write(&mut trials, seed, count),
+        "random" => random::write(&mut trials, seed, count),
+        _ => return None,
+    }
+    Some(trials.text)
+}

@@ -1,0 +1,179 @@
+//! Every clause of the message's layout broken singly, and lengths around their limits.
+
+use super::boundaries::{A, B, C, D, WEIGHTS};
+use super::Trials;
+use crate::samples::Sample;
+
+/// Bytes of a proper message that make it improper, or proper but refused: place and value.
+/// The message is that of `proper`; marks, sender, n, weights, settled length, entries, ballots, end.
+const CHANGES: [(usize, u8); 44] = [
+    (0, 0x52),
+    (1, 0x47),
+    (2, 0),
+    (2, 1),
+    (2, 3),
+    (2, 255),
+    (3, 0),
+    (3, 2),
+    (3, 4),
+    (3, 8),
+    (3, 9),
+    (3, 255),
+    (4, 1),
+    (5, 41),
+    (9, 0),
+    (10, 1),
+    (10, 4),
+    (10, 255),
+    (11, 0),
+    (11, 1),
+    (11, 3),
+    (12, 0x4D),
+    (13, 0x48),
+    (14, 2),
+    (14, 3),
+    (15, 63),
+    (15, 64),
+    (16, 39),
+    (16, 40),
+    (24, 0x43),
+    (25, 0x42),
+    (26, 1),
+    (26, 2),
+    (26, 3),
+    (27, 0),
+    (27, 2),
+    (28, 3),
+    (29, 64),
+    (30, 40),
+    (34, 0),
+    (35, 1),
+    (35, 33),
+    (44, 0x44),
+    (45, 0x4F),
+];
+
+/// Writes the trials of messages that no record sends.
+pub(super) fn write(trials: &mut Trials) {
+    changes(trials);
+    ends(trials);
+    ballots(trials);
+    lengths(trials);
+    weights(trials);
+}
+
+/// The message of office 2 with log a, d and the ballots 0:b 2:cd, and its receiver.
+fn proper(trials: &mut Trials) -> Sample {
+    trials.begin();
+    trials.sent(&Sample::new(2, &WEIGHTS, &[A, D], &[(0, &[B]), (2, &[C, D])]));
+    trials.output(0);
+    Sample::new(1, &WEIGHTS, &[], &[(1, &[A, D, C]), (2, &[A])])
+}
+
+/// One byte changed.
+fn changes(trials: &mut Trials) {
+    let receiver = proper(trials);
+    let bytes = trials.state().message.clone();
+    for (at, value) in CHANGES {
+        trials.sample(&receiver);
+        trials.overwrite(at, value);
+        trials.say("T");
+        trials.overwrite(at, bytes[at]);
+    }
+    trials.say("T");
+}
+
+/// Bytes missing at the end or put after it.
+fn ends(trials: &mut Trials) {
+    for more in [&[0][..], &[0x45], &[0x45, 0x4E], &[0x42, 0x41, 2, 1, 0, 6, 0, 7, 0x45, 0x4E]] {
+        let receiver = proper(trials);
+        trials.sample(&receiver);
+        let bytes = [&trials.state().message[..], more].concat();
+        trials.message(&bytes);
+        trials.say("T");
+    }
+    let receiver = proper(trials);
+    trials.sample(&receiver);
+    for length in (0..trials.state().message.len()).rev() {
+        trials.cut(length);
+        trials.say("T");
+    }
+}
+
+/// A message of office 0 with the paper's weights, a settled log of d only and these ballots of d only,
+/// taken by office 1 with an empty log.
+fn spelled(trials: &mut Trials, settled: usize, ballots: &[(u8, u8, usize)]) {
+    trials.begin();
+    trials.sample(&Sample::new(1, &WEIGHTS, &[], &[(1, &[B])]));
+    let [high, low] = (settled as u16).to_be_bytes();
+    trials.message(&[0x53, 0x48, 0, 3, 0, 40, 0, 35, 0, 25, high, low]);
+    trials.say(&format!("m {settled} 76 71 0 6 0 7"));
+    for (office, length, entries) in ballots {
+        trials.say(&format!("m 1 66 65 {office} {length}"));
+        trials.say(&format!("m {entries} 0 6 0 7"));
+    }
+    trials.say("m 1 69 78");
+    for line in ["T", "P", "V 6", "T"] {
+        trials.say(line);
+    }
+}
+
+/// Ballots out of order, twice, empty, of an office that isn't there, shorter or longer than said.
+fn ballots(trials: &mut Trials) {
+    let cases: [&[(u8, u8, usize)]; 20] = [
+        &[],
+        &[(0, 1, 1)],
+        &[(0, 1, 1), (1, 1, 1), (2, 1, 1)],
+        &[(0, 1, 1), (2, 1, 1)],
+        &[(2, 1, 1), (0, 1, 1)],
+        &[(1, 1, 1), (0, 1, 1)],
+        &[(0, 1, 1), (0, 1, 1)],
+        &[(2, 1, 1), (2, 1, 1)],
+        &[(0, 0, 0)],
+        &[(0, 1, 1), (1, 0, 0)],
+        &[(3, 1, 1)],
+        &[(255, 1, 1)],
+        &[(0, 1, 1), (1, 1, 1), (2, 1, 1), (3, 1, 1)],
+        &[(0, 31, 31)],
+        &[(0, 32, 32)],
+        &[(0, 33, 33)],
+        &[(0, 255, 255)],
+        &[(0, 2, 1)],
+        &[(0, 1, 2)],
+        &[(0, 32, 33)],
+    ];
+    for case in cases {
+        spelled(trials, 0, case);
+    }
+}
+
+/// Settled lengths and tails around 1024.
+fn lengths(trials: &mut Trials) {
+    for settled in [991, 992, 993, 1022, 1023, 1024, 1025] {
+        spelled(trials, settled, &[]);
+        for tail in [1, 2, 31, 32] {
+            spelled(trials, settled, &[(2, tail, usize::from(tail))]);
+        }
+    }
+    spelled(trials, 1023, &[(0, 1, 1), (2, 2, 2)]);
+    spelled(trials, 1023, &[(0, 1, 1), (1, 1, 1), (2, 1, 1)]);
+}
+
+/// Messages whose weights are other ones: their sum 0, fewer or more offices; each also from the receiver itself.
+fn weights(trials: &mut Trials) {
+    trials.begin();
+    trials.sample(&Sample::new(1, &WEIGHTS, &[A], &[(1, &[B])]));
+    for sender in [0, 1, 2] {
+        for message in [
+            &[0x53, 0x48, sender, 3, 0, 0, 0, 0, 0, 0, 0, 0, 0x45, 0x4E][..],
+            &[0x53, 0x48, sender, 2, 0, 40, 0, 35, 0, 0, 0x45, 0x4E],
+            &[0x53, 0x48, sender, 4, 0, 40, 0, 35, 0, 25, 0, 0, 0, 0, 0x45, 0x4E],
+            &[0x53, 0x48, sender, 3, 0, 40, 0, 35, 0, 25, 0, 1, 0x4C, 0x47, 1, 5, 0, 130, 0x45, 0x4E],
+            &[0x53, 0x48, sender, 3, 0, 40, 0, 35, 0, 26, 0, 1, 0x4C, 0x47, 1, 5, 0, 130, 0x45, 0x4E],
+            &[0x53, 0x48, sender, 3, 0, 40, 0, 35, 0, 26, 0, 1, 0x4C, 0x47, 3, 5, 0, 130, 0x45, 0x4E],
+        ] {
+            trials.message(message);
+            trials.say("T");
+        }
+    }
+}

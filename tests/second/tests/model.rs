@@ -1,0 +1,294 @@
+//! The calls against document 01's sentences on plain lists, over random records and messages.
+
+use second::calls::{issue, settled, settled_frame, tentative_frame};
+use second::elect::elect;
+use second::message::read;
+use second::random::Random;
+use second::record::{sound, Ballot, Record};
+use second::samples::{break_one, Family, Sample};
+use second::take::take;
+
+type Path = Vec<u32>;
+
+/// An office as lists: the settled log, and a path for each office, known or not.
+#[derive(Clone, Debug, PartialEq)]
+struct Lists {
+    own: usize,
+    weights: Vec<u64>,
+    log: Path,
+    tails: Vec<Path>,
+}
+
+fn lists(sample: &Sample) -> Lists {
+    let Record { n, own, weights, settled, ballots } = sample.record;
+    Lists {
+        own,
+        weights: weights[..n].iter().map(|&weight| weight.into()).collect(),
+        log: sample.log[..settled].to_vec(),
+        tails: ballots[..n].iter().map(|ballot| ballot.cells[..ballot.len].to_vec()).collect(),
+    }
+}
+
+/// "Extends" means begins with and is longer.
+fn extends(longer: &[u32], shorter: &[u32]) -> bool {
+    longer.len() > shorter.len() && longer[..shorter.len()] == *shorter
+}
+
+impl Lists {
+    fn path(&self, office: usize) -> Path {
+        [&self.log[..], &self.tails[office]].concat()
+    }
+
+    fn take(&mut self, sender: &Lists) -> u32 {
+        if sender.weights != self.weights {
+            return 8;
+        }
+        if sender.own == self.own {
+            return 9;
+        }
+        if !self.log.starts_with(&sender.log) && !sender.log.starts_with(&self.log) {
+            return 10;
+        }
+        if extends(&sender.log, &self.log) {
+            let paths: Vec<Path> = (0..self.tails.len()).map(|office| self.path(office)).collect();
+            self.log = sender.log.clone();
+            for (tail, path) in self.tails.iter_mut().zip(paths) {
+                *tail = if extends(&path, &self.log) { path[self.log.len()..].to_vec() } else { vec![] };
+            }
+        }
+        let theirs = sender.path(sender.own);
+        let none = self.tails[self.own].is_empty();
+        if extends(&theirs, &self.log) && none || extends(&theirs, &self.path(self.own)) {
+            self.tails[self.own] = theirs[self.log.len()..].to_vec();
+        }
+        for office in (0..self.tails.len()).filter(|&office| office != self.own) {
+            let theirs = sender.path(office);
+            let none = self.tails[office].is_empty();
+            if extends(&theirs, &self.log) && none || extends(&theirs, &self.path(office)) {
+                self.tails[office] = theirs[self.log.len()..].to_vec();
+            }
+        }
+        0
+    }
+
+    /// T(e).
+    fn support(&self, e: u32) -> u64 {
+        let supports = |tail: &Path| tail.first() == Some(&e);
+        self.tails.iter().zip(&self.weights).filter(|(tail, _)| supports(tail)).map(|(_, weight)| weight).sum()
+    }
+
+    /// U.
+    fn unheard(&self) -> u64 {
+        self.tails.iter().zip(&self.weights).filter(|(tail, _)| tail.is_empty()).map(|(_, weight)| weight).sum()
+    }
+
+    fn wins(&self, e: u32) -> bool {
+        let (t, u) = (self.support(e), self.unheard());
+        let beats = |f: u32| t > self.support(f) + u || t == self.support(f) + u && e < f;
+        t > u && self.tails.iter().flat_map(|tail| tail.first()).all(|&f| f == e || beats(f))
+    }
+
+    fn elect(&mut self) -> usize {
+        let mut count = 0;
+        loop {
+            let supported: Path = self.tails.iter().flat_map(|tail| tail.first().copied()).collect();
+            let winners: Path = supported.into_iter().filter(|&e| self.wins(e)).collect();
+            let Some(&winner) = winners.first() else { return count };
+            assert!(winners.iter().all(|&other| other == winner));
+            self.log.push(winner);
+            for tail in &mut self.tails {
+                *tail = if tail.first() == Some(&winner) { tail[1..].to_vec() } else { vec![] };
+            }
+            count += 1;
+        }
+    }
+
+    fn frames(&self, line: u32) -> (u32, u32) {
+        let last = |path: Path| path.iter().filter(|&&e| e / 65536 % 256 == line).last().map_or(0, |e| e % 65536);
+        (last(self.log.clone()), last(self.path(self.own)))
+    }
+
+    /// The message, byte by byte.
+    fn message(&self) -> Vec<u8> {
+        let mut bytes = vec![0x53, 0x48, self.own as u8, self.weights.len() as u8];
+        let value = |e: u32| [e / 16777216, e / 65536 % 256, e / 256 % 256, e % 256].map(|byte| byte as u8);
+        for &number in self.weights.iter().chain([&(self.log.len() as u64)]) {
+            bytes.extend([(number / 256) as u8, (number % 256) as u8]);
+        }
+        for &e in &self.log {
+            bytes.extend([0x4C, 0x47]);
+            bytes.extend(value(e));
+        }
+        for (office, tail) in self.tails.iter().enumerate().filter(|(_, tail)| !tail.is_empty()) {
+            bytes.extend([0x42, 0x41, office as u8, tail.len() as u8]);
+            tail.iter().for_each(|&e| bytes.extend(value(e)));
+        }
+        bytes.extend([0x45, 0x4E]);
+        bytes
+    }
+}
+
+/// Whether all the words past the settled log are as they were.
+fn rest_kept(before: &Sample, after: &Sample) -> bool {
+    before.log.len() == after.log.len() && before.log[after.record.settled..] == after.log[after.record.settled..]
+}
+
+#[test]
+fn takes_are_what_the_paper_says() {
+    let mut random = Random::new(1);
+    let mut numbers = [0; 11];
+    for _ in 0..60_000 {
+        let family = Family::new(&mut random);
+        let (own, from) = (family.office(&mut random), family.office(&mut random));
+        let before = family.sample(&mut random, own);
+        let sender = family.sample(&mut random, from);
+        let message = sender.message();
+        assert_eq!(message, lists(&sender).message());
+        let mut after = before.clone();
+        let (number, record) = take(after.record, &mut after.log, &message);
+        after.record = record;
+        let mut expected = lists(&before);
+        assert_eq!(number, expected.take(&lists(&sender)));
+        assert_eq!(lists(&after), expected);
+        assert!(sound(&after.record, &after.log) && rest_kept(&before, &after));
+        numbers[number as usize] += 1;
+        if number != 0 {
+            assert_eq!(after, before);
+        }
+    }
+    assert!(numbers[0] > 10_000 && numbers[9] > 1000 && numbers[10] > 1000, "{numbers:?}");
+}
+
+#[test]
+fn elections_are_what_the_paper_says() {
+    let mut random = Random::new(2);
+    for _ in 0..60_000 {
+        let family = Family::new(&mut random);
+        let own = family.office(&mut random);
+        let before = family.sample(&mut random, own);
+        let mut after = before.clone();
+        let (number, count, record) = elect(after.record, &mut after.log);
+        after.record = record;
+        let mut expected = lists(&before);
+        assert_eq!((number, count), (0, expected.elect()));
+        assert_eq!(lists(&after), expected);
+        assert!(sound(&after.record, &after.log) && rest_kept(&before, &after));
+    }
+}
+
+#[test]
+fn issues_and_frames_are_what_the_paper_says() {
+    let mut random = Random::new(3);
+    for _ in 0..20_000 {
+        let family = Family::new(&mut random);
+        let own = family.office(&mut random);
+        let before = family.sample(&mut random, own);
+        let Sample { record, log } = &before;
+        let model = lists(&before);
+        let line = random.pick(&[0, 1, 5, 62, 63]);
+        let frames = model.frames(line);
+        assert_eq!(settled_frame(record, log, line), (0, frames.0));
+        assert_eq!(tentative_frame(record, log, line), (0, frames.1));
+        assert_eq!(settled(record, log), (0, &model.log[..]));
+        let (number, after) = issue(*record, log, line, 77);
+        let length = model.tails[own].len();
+        let expected = if length == 32 { 4 } else { 5 * u32::from(model.log.len() + length == 1024) };
+        assert_eq!(number, expected);
+        let mut tail = model.tails[own].clone();
+        if number == 0 {
+            tail.push(own as u32 * 16777216 + line * 65536 + 77);
+        }
+        let mut wanted = *record;
+        wanted.ballots[own] = Ballot::of(&tail);
+        assert_eq!(after, wanted);
+    }
+}
+
+/// Soundness, sentence by sentence.
+fn sound_by_sentences(sample: &Sample) -> bool {
+    let Record { n, own, weights, settled, ballots } = sample.record;
+    if !(1..=8).contains(&n) || own >= n || settled > 1024 || sample.log.len() < 1024 {
+        return false;
+    }
+    let proper = |e: u32| (e / 16777216) < n as u32 && e / 65536 % 256 <= 63 && e % 65536 <= 9999;
+    let total: u64 = weights.iter().map(|&weight| u64::from(weight)).sum();
+    let mut good = total >= 1 && (n..8).all(|office| weights[office] == 0);
+    good &= (0..settled).all(|at| proper(sample.log[at]));
+    for (office, ballot) in ballots.iter().enumerate() {
+        good &= ballot.len <= 32 && (office < n || ballot.len == 0) && ballot.len.saturating_add(settled) <= 1024;
+        good &= (0..32).all(|at| if at < ballot.len { proper(ballot.cells[at]) } else { ballot.cells[at] == 0 });
+    }
+    good
+}
+
+#[test]
+fn soundness_is_what_the_paper_says() {
+    let mut random = Random::new(4);
+    let mut broken = 0;
+    for _ in 0..30_000 {
+        let family = Family::new(&mut random);
+        let own = family.office(&mut random);
+        let mut sample = family.sample(&mut random, own);
+        assert!(sound(&sample.record, &sample.log) && sound_by_sentences(&sample));
+        break_one(&mut random, &mut sample);
+        assert_eq!(sound(&sample.record, &sample.log), sound_by_sentences(&sample));
+        broken += usize::from(!sound_by_sentences(&sample));
+    }
+    assert!(broken > 28_000, "{broken}");
+}
+
+/// The record that bytes spell if each field is believed, and whether all of it is within the limits.
+fn believed(bytes: &[u8]) -> Option<Lists> {
+    let number = |at: usize, size: usize| -> Option<u64> {
+        bytes.get(at..at + size)?.iter().try_fold(0, |number, &byte| Some(number * 256 + u64::from(byte)))
+    };
+    let n = number(3, 1)? as usize;
+    let weights = (0..n).map(|k| number(4 + 2 * k, 2)).collect::<Option<_>>()?;
+    let settled = number(4 + 2 * n, 2)? as usize;
+    let mut at = 6 + 2 * n;
+    let log = (0..settled).map(|k| Some(number(at + 6 * k + 2, 4)? as u32)).collect::<Option<_>>()?;
+    at += 6 * settled;
+    let mut tails = vec![vec![]; n];
+    while at + 2 < bytes.len() {
+        let (office, length) = (number(at + 2, 1)? as usize, number(at + 3, 1)? as usize);
+        *tails.get_mut(office)? = (0..length).map(|k| Some(number(at + 4 + 4 * k, 4)? as u32)).collect::<Option<_>>()?;
+        at += 4 + 4 * length;
+    }
+    let lists = Lists { own: number(2, 1)? as usize, weights, log, tails };
+    let proper = |e: &u32| (e / 16777216) < n as u32 && e / 65536 % 256 <= 63 && e % 65536 <= 9999;
+    let good = (1..=8).contains(&n)
+        && lists.own < n
+        && settled <= 1024
+        && lists.log.iter().all(proper)
+        && lists.tails.iter().all(|tail| tail.len() <= 32 && settled + tail.len() <= 1024 && tail.iter().all(proper));
+    good.then_some(lists)
+}
+
+#[test]
+fn a_message_is_read_if_it_is_what_would_be_written() {
+    let mut random = Random::new(5);
+    let mut read_changed = 0;
+    for _ in 0..60_000 {
+        let family = Family::new(&mut random);
+        let own = family.office(&mut random);
+        let whole = family.sample(&mut random, own).message();
+        let mut bytes = whole.clone();
+        for _ in 0..random.below(3) {
+            let at = random.below(bytes.len());
+            match random.below(6) {
+                0 => bytes.truncate(at),
+                1 => drop(bytes.remove(at)),
+                2 => bytes.insert(at, 0),
+                3 => bytes[at] ^= 1 << random.below(8),
+                _ => bytes[at] = random.below(256) as u8,
+            }
+            if bytes.is_empty() {
+                break;
+            }
+        }
+        let expected = believed(&bytes).filter(|lists| lists.message() == bytes);
+        assert_eq!(read(&bytes).is_some(), expected.is_some());
+        read_changed += usize::from(expected.is_some() && bytes != whole);
+    }
+    assert!(read_changed > 2000, "{read_changed}");
+}
