@@ -1,13 +1,16 @@
--- Document 01's lettered cases A to L, computed on the definitions, as one list. Assumes nothing.
+-- Document 01's lettered cases A to L, computed on the definitions, as one list; the mistakes that it names, and the limits. Assumes nothing.
 use mathlib.Core.Path.{_≡_, refl}
 use mathlib.Core.List.{List, [], _∷_}
+use mathlib.Core.Option.{none}
 use mathlib.Core.Bool.{true, false}
 use Prim.Native.Nat.{ℕ, _+_}
 use lib.Dec.{ltb}
+use lib.ListN.{replicate}
 use Rattle.protocol.specs.Entry.{value}
 use Rattle.protocol.specs.Beginning.{begins, extends}
 use Rattle.protocol.specs.Vote.{tally, unheard, supported, wins, winner, byWeights}
 use Rattle.protocol.specs.Office.{Office, Message, votes, fresh}
+use Rattle.protocol.specs.Issue.{refuseIssue}
 use Rattle.protocol.specs.Take.{rebase, catchUp, withTake, refuseTake}
 use Rattle.protocol.specs.Elect.{settle, electing, withElect, electCount}
 use Rattle.protocol.specs.World.{World, take, names, refusal, done, step}
@@ -130,3 +133,28 @@ cases = (
   (refl, refl),
   (refl, refl),
 )
+
+-- "Mistakes that suggest themselves", where each would show
+pub mistakes :
+    -- "comparing paths by per-office counts": 1:ab has as many entries of each office as 0:bad, or fewer, and does not become it
+    Takes 1 (from 0 (state [] (b ∷ a ∷ d ∷ []) [] [])) (state [] [] (a ∷ b ∷ []) []) (state [] (b ∷ a ∷ d ∷ []) (a ∷ b ∷ []) []) ×
+    -- "leaving an office whose ballot was just reset out of U": in H office 2's ballot c was reset, and d stays unsettled
+    (votes (settle a inH) 2 ≡ none) × (winner (three 40 30 30) ltb (votes (settle a inH)) ≡ none) ×
+    -- "breaking a tie before U is added": T(a) = T(b) = 40, U 20
+    (Tally (three 40 40 20) inC a 40 × Tally (three 40 40 20) inC b 40 × Unheard (three 40 40 20) inC 20 × Elects (three 40 40 20) inC inC 0) ×
+    -- "adopting a ballot that merely has more entries": 1:b does not become 0:ad
+    Takes 1 messageJ (state [] [] (b ∷ []) []) (state [] (a ∷ d ∷ []) (b ∷ []) [])
+unfolding begins extends tally unheard supported wins winner rebase catchUp withTake refuseTake settle electing withElect
+mistakes = ((refl, refl), refl, refl, (refl, refl, refl, (refl, refl)), (refl, refl))
+
+-- "Tails of 31 and 32, lengths of 1023 and 1024, line 63 and 64, code 9999 and 10000": the number of an issue at office 0
+abbrev full : ℕ → ℕ → Office
+full settled own = state (replicate settled a) (replicate own a) [] []
+
+pub limits :
+    (refuseIssue 0 63 9999 (full 0 0) ≡ 0) × (refuseIssue 0 64 9999 (full 0 0) ≡ 3) × (refuseIssue 0 63 10000 (full 0 0) ≡ 3) ×
+    (refuseIssue 0 63 9999 (full 0 31) ≡ 0) × (refuseIssue 0 63 9999 (full 0 32) ≡ 4) × (refuseIssue 0 64 9999 (full 0 32) ≡ 3) ×
+    (refuseIssue 0 63 9999 (full 1023 0) ≡ 0) × (refuseIssue 0 63 9999 (full 1024 0) ≡ 5) × (refuseIssue 0 63 9999 (full 992 31) ≡ 0) ×
+    (refuseIssue 0 63 9999 (full 993 31) ≡ 5) × (refuseIssue 0 63 9999 (full 992 32) ≡ 4)
+unfolding refuseIssue
+limits = (refl, refl, refl, refl, refl, refl, refl, refl, refl, refl, refl)

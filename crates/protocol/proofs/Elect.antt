@@ -1,5 +1,5 @@
 -- Elect goes on until no entry wins, whatever number of steps it is allowed beyond the tails' entries, and counts what it settled.
---     elect-stops                    no entry wins afterwards
+--     elect-stops, elect-no-winner   no entry wins afterwards
 --     elect-none, elect-some         one step of it
 --     electing-enough                more steps than the tails have entries change nothing
 --     elect-log, elect-most          the count is the log's growth, and at most the tails' entries
@@ -11,12 +11,13 @@ use mathlib.Core.Bool.{Bool, true, false, cond}
 use Prim.Native.Nat.{ℕ, zero, suc, _+_, _-_, _≤_, _<_}
 use native.Mathlib.Nat.{le-refl}
 use native.Mathlib.Omega.{arith}
-use lib.Dec.{eqb}
+use lib.Dec.{eqb, ltb}
 use lib.ListN.{length, getD, length-append}
-use Rattle.protocol.specs.Vote.{Rule}
+use Rattle.protocol.specs.Vote.{Rule, byWeights}
+use Rattle.protocol.specs.Winning.{Wins}
 use Rattle.protocol.specs.Office.{Office, first, votes}
 use Rattle.protocol.specs.Elect.{lose, settle, total, next, electing, withElect, electCount}
-use Rattle.protocol.proofs.Vote.{NamesVoted}
+use Rattle.protocol.proofs.Vote.{NamesVoted, byWeights-voted, winner-none}
 use Rattle.protocol.proofs.Office.{next-cases}
 
 lose-short : (e : ℕ) (t : List ℕ) → length (lose e t) ≤ length t
@@ -155,3 +156,7 @@ module _ (rule : Rule) (law : NamesVoted rule) where
       let g = elect-log rule (settle e o) in
       let whole : l ≡ length (o .log ++ (e ∷ [])) + length (g .0) = ap length (g .1) ∙ length-append (o .log ++ (e ∷ [])) (g .0) in
       omega (arith, ap (λ (r : Office). length (r .log)) (elect-some o e q), whole, length-append (o .log) (e ∷ []))
+
+-- document 01's rule: after elect no entry wins
+pub elect-no-winner : (ws : List ℕ) (o : Office) (e : ℕ) → Wins ws ltb (votes (withElect (byWeights ws) o)) e → ⊥
+elect-no-winner ws o e w = winner-none ws ltb (votes (withElect (byWeights ws) o)) .0 (elect-stops (byWeights ws) (byWeights-voted ws) o) e w

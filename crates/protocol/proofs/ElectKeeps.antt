@@ -22,29 +22,29 @@ module _ (rule : Rule) (n : ℕ) (law : Lawful rule) where
   pub record Elects (cs : List Call) (q : List ℕ) (k : ℕ) (o r : Office) : Type 0 where
     pub order : List ℕ
     pub grows : q ⊑ order
-    pub ok : EachElected rule n law cs order
+    pub elected : EachElected rule n law cs order
     pub low : o .log ⊑ r .log
     pub same : (order ≡ q) ⊎ (r .log ≡ order)
-    pub mid : Passing rule n law cs order k r
+    pub passing : Passing rule n law cs order k r
 
   no-more : (cs : List Call) (q : List ℕ) (k : ℕ) (o : Office) → EachElected rule n law cs q → Passing rule n law cs q k o → Elects cs q k o o
-  no-more cs q k o ok m = record { order = q; grows = ⊑-refl q; ok = ok; low = ⊑-refl (o .log); same = inl refl; mid = m }
+  no-more cs q k o ok m = record { order = q; grows = ⊑-refl q; elected = ok; low = ⊑-refl (o .log); same = inl refl; passing = m }
 
   one-more : (cs : List Call) (q : List ℕ) (k : ℕ) (o : Office) (e : ℕ) (r : Office) → (x : Extended rule n law cs q (o .log) e) → Elects cs (x .order) k (settle e o) r → Elects cs q k o r
   unfolding settle
   one-more cs q k o e r x t = record {
     order = t .order;
     grows = ⊑-trans q (x .order) (t .order) (x .grows) (t .grows);
-    ok = t .ok;
+    elected = t .elected;
     low = ⊑-trans (o .log) (o .log ++ (e ∷ [])) (r .log) (⊑-append (o .log) (e ∷ [])) (t .low);
     same = go (t .same) (x .same);
-    mid = t .mid;
+    passing = t .passing;
   }
     where
       go : (t .order ≡ x .order) ⊎ (r .log ≡ t .order) → (x .order ≡ q) ⊎ (o .log ++ (e ∷ []) ≡ x .order) → (t .order ≡ q) ⊎ (r .log ≡ t .order)
       go (inr a) b = inr a
       go (inl a) (inl b) = inl (a ∙ b)
-      go (inl a) (inr b) = inr (⊑-antisym (r .log) (t .order) (t .mid .settled) (subst (λ (z : List ℕ). z ⊑ r .log) (b ∙ sym a) (t .low)))
+      go (inl a) (inr b) = inr (⊑-antisym (r .log) (t .order) (t .passing .settled) (subst (λ (z : List ℕ). z ⊑ r .log) (b ∙ sym a) (t .low)))
 
   electing-passing : (cs : List Call) (k : ℕ) → ((h : List Call) → Past h cs → (j : ℕ) → EachIssued rule n cs (logAt rule n j h) (ownAt rule n j h)) → (fuel : ℕ) (q : List ℕ) (o : Office) → EachElected rule n law cs q → Passing rule n law cs q k o → Elects cs q k o (electing rule fuel o)
   unfolding electing settle
@@ -55,12 +55,12 @@ module _ (rule : Rule) (n : ℕ) (law : Lawful rule) where
       (λ e w.
       let x = extend rule n law cs q (o .log) e ok (m .settled) (rule-elects rule n law cs o e (m .known) w) in
       one-more cs q k o e (electing rule fuel (settle e o)) x
-      (electing-passing cs k pr fuel (x .order) (settle e o) (x .ok)
-      (kept-passing rule n law cs q (x .order) k o (settle e o) (⊑-append (o .log) (e ∷ [])) (settle-path e o) (x .has) (order-issued rule n law cs (x .order) (x .ok) pr) m)))
+      (electing-passing cs k pr fuel (x .order) (settle e o) (x .elected)
+      (kept-passing rule n law cs q (x .order) k o (settle e o) (⊑-append (o .log) (e ∷ [])) (settle-path e o) (x .has) (order-issued rule n law cs (x .order) (x .elected) pr) m)))
 
   pub elect-change : (c : Call) (cs : List Call) (inv : Invariant rule n law cs) (k : ℕ) → NextOffice rule n law c cs (inv .order) k (withElect rule (officeAt rule n k cs))
   unfolding withElect
   elect-change c cs inv k =
       let o : Office = officeAt rule n k cs in
-      let t = electing-passing cs k (inv .issued) _ (inv .order) o (inv .ok) (now-passing rule n law cs inv k) in
-      record { order = t .order; grows = t .grows; ok = t .ok; longest = t .same; good = passing-left rule n law c cs (t .order) k _ (t .mid) }
+      let t = electing-passing cs k (inv .issued) _ (inv .order) o (inv .elected) (now-passing rule n law cs inv k) in
+      record { order = t .order; grows = t .grows; elected = t .elected; longest = t .same; left = passing-left rule n law c cs (t .order) k _ (t .passing) }

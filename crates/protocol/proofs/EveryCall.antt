@@ -49,9 +49,9 @@ module _ (rule : Rule) (n : ℕ) (law : Lawful rule) where
   send-next c cs inv k = record {
     order = inv .order;
     grows = ⊑-refl (inv .order);
-    ok = inv .ok;
+    elected = inv .elected;
     longest = inl refl;
-    good = same-left rule n law c cs inv (inv .order) (⊑-refl (inv .order));
+    left = same-left rule n law c cs inv (inv .order) (⊑-refl (inv .order));
     sent = new;
   }
     where

@@ -24,7 +24,7 @@ module _ (rule : Rule) (n : ℕ) (law : Lawful rule) where
   -- ── the invariant ──
   pub record Invariant (cs : List Call) : Type 0 where
     pub order : List ℕ
-    pub ok : EachElected rule n law cs order
+    pub elected : EachElected rule n law cs order
     pub longest : (k : ℕ) × (k < n) × (logAt rule n k cs ≡ order)
     pub logs : (k : ℕ) → logAt rule n k cs ⊑ order
     pub known : (h : List Call) → Past h cs → (k : ℕ) → BallotsKnown rule n cs (officeAt rule n k h)
@@ -42,17 +42,17 @@ module _ (rule : Rule) (n : ℕ) (law : Lawful rule) where
   pub record NextWorld (c : Call) (cs : List Call) (q : List ℕ) (w : World) : Type 0 where
     pub order : List ℕ
     pub grows : q ⊑ order
-    pub ok : EachElected rule n law cs order
+    pub elected : EachElected rule n law cs order
     pub longest : (order ≡ q) ⊎ ((k : ℕ) × (k < n) × (at w k .log ≡ order))
-    pub good : (k : ℕ) → Left c cs order k (at w k)
+    pub left : (k : ℕ) → Left c cs order k (at w k)
     pub sent : (i : ℕ) (m : Message) → getElem? (w .sent) i ≡ some m → (h : List Call) × Past h cs × (officeAt rule n (m .sender) h ≡ m .state)
 
   pub advance : (c : Call) (cs : List Call) (inv : Invariant cs) → NextWorld c cs (inv .order) (after rule n (c ∷ cs)) → Invariant (c ∷ cs)
   advance c cs inv nx = record {
     order = nx .order;
-    ok = λ p e i. elected-later rule n law one (nx .ok p e i);
+    elected = λ p e i. elected-later rule n law one (nx .elected p e i);
     longest = long (nx .longest);
-    logs = λ k. nx .good k .settled;
+    logs = λ k. nx .left k .settled;
     known = λ h p k. backs h (past-cases p) k;
     issued = λ h p k. provs h (past-cases p) k;
     sent = λ i m e. let r = nx .sent i m e in (r .0, past-trans (r .1) one, r .2);
@@ -67,12 +67,12 @@ module _ (rule : Rule) (n : ℕ) (law : Lawful rule) where
           let k : ℕ = inv .longest .0 in (
             k,
             inv .longest .1,
-            ⊑-antisym (logAt rule n k (c ∷ cs)) (nx .order) (nx .good k .settled)
+            ⊑-antisym (logAt rule n k (c ∷ cs)) (nx .order) (nx .left k .settled)
                 (rw (e, ← inv .longest .2) (past-moves rule n one k .0)),
           )
 
       fresh-back : (k j : ℕ) → Dec (j ≡ k) → logAt rule n k (c ∷ cs) ⊏ path (officeAt rule n k (c ∷ cs)) j → Snapshot rule n (c ∷ cs) j (logAt rule n k (c ∷ cs)) (path (officeAt rule n k (c ∷ cs)) j)
-      fresh-back k j (no d) x = snapshot-later rule n one (nx .good k .known j d x)
+      fresh-back k j (no d) x = snapshot-later rule n one (nx .left k .known j d x)
       fresh-back k j (yes d) x = rw d (record { moment = c ∷ cs; past = past-refl (c ∷ cs); within = ⊑-refl (logAt rule n k (c ∷ cs)); own = refl })
 
       backs : (h : List Call) → (c ∷ cs ≡ h) ⊎ Past h cs → (k : ℕ) → BallotsKnown rule n (c ∷ cs) (officeAt rule n k h)
@@ -80,7 +80,7 @@ module _ (rule : Rule) (n : ℕ) (law : Lawful rule) where
       backs h (inr p) k = λ j x. snapshot-later rule n one (inv .known h p k j x)
 
       provs : (h : List Call) → (c ∷ cs ≡ h) ⊎ Past h cs → (k : ℕ) → EachIssued rule n (c ∷ cs) (logAt rule n k h) (ownAt rule n k h)
-      provs h (inl e) k = subst (λ (g : List Call). EachIssued rule n (c ∷ cs) (logAt rule n k g) (ownAt rule n k g)) e (nx .good k .issued)
+      provs h (inl e) k = subst (λ (g : List Call). EachIssued rule n (c ∷ cs) (logAt rule n k g) (ownAt rule n k g)) e (nx .left k .issued)
       provs h (inr p) k = λ q e i. issued-later rule n one (inv .issued h p k q e i)
 
   -- an office that the call leaves alone
@@ -95,9 +95,9 @@ module _ (rule : Rule) (n : ℕ) (law : Lawful rule) where
   same-next c cs inv = record {
     order = inv .order;
     grows = ⊑-refl (inv .order);
-    ok = inv .ok;
+    elected = inv .elected;
     longest = inl refl;
-    good = same-left c cs inv (inv .order) (⊑-refl (inv .order));
+    left = same-left c cs inv (inv .order) (⊑-refl (inv .order));
     sent = inv .sent;
   }
 
@@ -105,17 +105,17 @@ module _ (rule : Rule) (n : ℕ) (law : Lawful rule) where
   pub record NextOffice (c : Call) (cs : List Call) (q : List ℕ) (k : ℕ) (o : Office) : Type 0 where
     pub order : List ℕ
     pub grows : q ⊑ order
-    pub ok : EachElected rule n law cs order
+    pub elected : EachElected rule n law cs order
     pub longest : (order ≡ q) ⊎ (o .log ≡ order)
-    pub good : Left c cs order k o
+    pub left : Left c cs order k o
 
   pub put-next : (c : Call) (cs : List Call) (inv : Invariant cs) (k : ℕ) (o : Office) → k < n → NextOffice c cs (inv .order) k o → NextWorld c cs (inv .order) (put (after rule n cs) k o)
   put-next c cs inv k o known ch = record {
     order = ch .order;
     grows = ch .grows;
-    ok = ch .ok;
+    elected = ch .elected;
     longest = long (ch .longest);
-    good = λ j. each j (ℕ-discrete j k);
+    left = λ j. each j (ℕ-discrete j k);
     sent = inv .sent;
   }
     where
@@ -130,14 +130,14 @@ module _ (rule : Rule) (n : ℕ) (law : Lawful rule) where
       long (inr e) = inr (k, known, ap (λ (x : Office). x .log) here ∙ e)
 
       each : (j : ℕ) → Dec (j ≡ k) → Left c cs (ch .order) j (at (put w k o) j)
-      each j (yes e) = rw (e, here) (ch .good)
+      each j (yes e) = rw (e, here) (ch .left)
       each j (no e) = rw (getD-set-other (w .offices) k j o fresh e) (same-left c cs inv (ch .order) (ch .grows) j)
 
   pub invariant-start : 0 < n → Invariant []
   unfolding after
   invariant-start pos = record {
     order = [];
-    ok = λ p e i. absurd (⊏-nil p (snoc-⊏ p [] e i));
+    elected = λ p e i. absurd (⊏-nil p (snoc-⊏ p [] e i));
     longest = (0, pos, ap (λ (o : Office). o .log) (sym (start rule n 0)));
     logs = λ k. subst (λ (o : Office). o .log ⊑ []) (start rule n k) tt;
     known = λ h p k. subst (λ (g : List Call). BallotsKnown rule n [] (officeAt rule n k g)) (past-nil p) (subst (λ (o : Office). BallotsKnown rule n [] o) (start rule n k) none-back);

@@ -62,7 +62,7 @@ module _ (rule : Rule) (n : ℕ) (law : Lawful rule) where
 
       new : path o' k ≡ path o k ++ (e ∷ []) → (p : List ℕ) (x : ℕ) → ((p ++ (x ∷ [])) ⊑ path o k) ⊎ ((p ≡ path o k) × (x ≡ e)) → Issued rule n (c ∷ cs) (o .log) p x
       new q p x (inl i) = old p x i
-      new q p x (inr i) = record { k = k; line = line; code = code; moment = cs; call = past-refl (c ∷ cs); known = b; ok = r; entry = sym (i .1); view = sym (i .0); heard = ⊑-refl (o .log); cast = rw (i .0, i .1) (vote q) }
+      new q p x (inr i) = record { k = k; line = line; code = code; moment = cs; call = past-refl (c ∷ cs); known = b; done = r; entry = sym (i .1); view = sym (i .0); heard = ⊑-refl (o .log); cast = rw (i .0, i .1) (vote q) }
 
       own : (path o' k ≡ path o k) ⊎ ((k ≡ k) × (path o' k ≡ path o k ++ (e ∷ []))) → EachIssued rule n (c ∷ cs) (o .log) (path o' k)
       own (inl q) = rw q old
@@ -73,9 +73,9 @@ module _ (rule : Rule) (n : ℕ) (law : Lawful rule) where
   issue-change cs inv k line code r b = record {
     order = inv .order;
     grows = ⊑-refl (inv .order);
-    ok = inv .ok;
+    elected = inv .elected;
     longest = inl refl;
-    good = record {
+    left = record {
       settled = inv .logs k;
       known = issue-known cs inv k (value k line code);
       issued = issue-issued cs inv k line code r b;

@@ -21,7 +21,7 @@ module _ (rule : Rule) (n : ℕ) where
     pub moment : List Call
     pub call : Past (issue k line code ∷ moment) cs
     pub known : k < n
-    pub ok : refusal (after rule n moment) (issue k line code) ≡ 0
+    pub done : refusal (after rule n moment) (issue k line code) ≡ 0
     pub entry : value k line code ≡ e
     pub view : ownAt rule n k moment ≡ p
     pub heard : logAt rule n k moment ⊑ l
@@ -33,10 +33,10 @@ module _ (rule : Rule) (n : ℕ) where
   EachIssued cs l q = (p : List ℕ) (e : ℕ) → (p ++ (e ∷ [])) ⊑ q → Issued cs l p e
 
   pub issued-later : {h cs : List Call} {l p : List ℕ} {e : ℕ} → Past h cs → Issued h l p e → Issued cs l p e
-  issued-later a i = record { k = i .k; line = i .line; code = i .code; moment = i .moment; call = past-trans (i .call) a; known = i .known; ok = i .ok; entry = i .entry; view = i .view; heard = i .heard; cast = i .cast }
+  issued-later a i = record { k = i .k; line = i .line; code = i .code; moment = i .moment; call = past-trans (i .call) a; known = i .known; done = i .done; entry = i .entry; view = i .view; heard = i .heard; cast = i .cast }
 
   pub issued-under : {cs : List Call} {l p : List ℕ} {e : ℕ} (l' : List ℕ) (i : Issued cs l p e) → logAt rule n (i .k) (i .moment) ⊑ l' → Issued cs l' p e
-  issued-under l' i h = record { k = i .k; line = i .line; code = i .code; moment = i .moment; call = i .call; known = i .known; ok = i .ok; entry = i .entry; view = i .view; heard = h; cast = i .cast }
+  issued-under l' i h = record { k = i .k; line = i .line; code = i .code; moment = i .moment; call = i .call; known = i .known; done = i .done; entry = i .entry; view = i .view; heard = h; cast = i .cast }
 
   pub each-issued-wider : (cs : List Call) (l l' q : List ℕ) → l ⊑ l' → EachIssued cs l q → EachIssued cs l' q
   each-issued-wider cs l l' q h f p e j = let i = f p e j in issued-under l' i (⊑-trans (logAt rule n (i .k) (i .moment)) l l' (i .heard) h)

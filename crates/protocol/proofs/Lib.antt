@@ -1,10 +1,12 @@
 -- The laws of document 01's definitions.
+pub mod Cases
 pub mod Tests
 pub mod Beginning
 pub mod Vote
 pub mod Office
 pub mod Elect
 pub mod Limits
+pub mod WorldLimits
 pub mod Lawful
 pub mod History
 pub mod Steady
@@ -19,5 +21,4 @@ pub mod ElectKeeps
 pub mod EveryCall
 pub mod OneOrder
 pub mod Machine
-pub mod Archive
-pub mod Cases
+pub mod Held

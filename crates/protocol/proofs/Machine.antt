@@ -7,12 +7,12 @@ use lib.ListN as L
 use lib.ListN.{length, getD}
 use Rattle.protocol.specs.Entry.{value}
 use Rattle.protocol.specs.Beginning.{_⊑_}
-use Rattle.protocol.specs.Vote.{Rule}
+use Rattle.protocol.specs.Vote.{Rule, byWeights}
 use Rattle.protocol.specs.Office.{path}
 use Rattle.protocol.specs.World.{World, Call, issue, at, founded, refusal, step, run}
 use Rattle.protocol.specs.OneOrder.{longest, settledLogs, world, IssuedIn, OneOrder}
 use Rattle.protocol.specs.Machine.{Machine, runs, Follows, reached, IssuedBy, OneOrderOf}
-use Rattle.protocol.proofs.Lawful.{Lawful}
+use Rattle.protocol.proofs.Lawful.{Lawful, byWeights-lawful}
 use Rattle.protocol.proofs.OneOrder.{one-order-of}
 
 -- document 01's calls behind the machine's
@@ -100,11 +100,15 @@ module _ (m : Machine) (rule : Rule) (n : ℕ) (f : Follows m rule n) where
             view = subst (λ (w : World). path (at w (i .k)) (i .k) ≡ p) same (i .view);
           }
 
+-- with document 01's rule
+pub one-order-weights : (m : Machine) (ws : List ℕ) (n : ℕ) → Follows m (byWeights ws) n → 0 < n → (cs : List (m .C)) → OneOrderOf m n cs
+one-order-weights m ws n f pos cs = one-order-machine m (byWeights ws) n f (byWeights-lawful ws) pos cs
+
 -- document 01's world on lists is such a machine
-self : Rule → ℕ → Machine
+pub self : Rule → ℕ → Machine
 self rule n = record { W = World; C = Call; start = founded n; move = step rule; number = refusal; view = λ w. w; call = λ w c. c }
 
-self-follows : (rule : Rule) (n : ℕ) → Follows (self rule n) rule n
+pub self-follows : (rule : Rule) (n : ℕ) → Follows (self rule n) rule n
 unfolding self
 self-follows rule n = record {
   Sound = λ w. Unit {0};

@@ -119,9 +119,9 @@ module _ (rule : Rule) (n : ℕ) where
             later = q .1;
             listed = q .2;
             known = i .known;
-            done = subst (λ (w : World). refusal w c ≡ 0) same (i .ok);
+            done = subst (λ (w : World). refusal w c ≡ 0) same (i .done);
             entry = i .entry;
-            mine = ap (officeOf) (sym (i .entry)) ∙ office-of (i .k) (i .line) (i .code) (at (after rule n (i .moment)) (i .k)) (i .ok);
+            mine = ap (officeOf) (sym (i .entry)) ∙ office-of (i .k) (i .line) (i .code) (at (after rule n (i .moment)) (i .k)) (i .done);
             view = subst (λ (w : World). path (at w (i .k)) (i .k) ≡ p) same (i .view);
           }
 
@@ -134,7 +134,7 @@ module _ (rule : Rule) (n : ℕ) where
     present = (inv .longest .0, inv .longest .1, rw (world-after cs) (inv .longest .2));
     logs = λ a b e k. log-in a b e k;
     issued = λ p h. issued-in cs (inv .order) (L.take p (inv .order)) (getD (inv .order) p 0)
-        (order-issued rule n law (reverse cs) (inv .order) (inv .ok) (inv .issued) (L.take p (inv .order)) (getD (inv .order) p 0)
+        (order-issued rule n law (reverse cs) (inv .order) (inv .elected) (inv .issued) (L.take p (inv .order)) (getD (inv .order) p 0)
         (subst (λ (l : List ℕ). l ⊑ inv .order) (take-suc (inv .order) p 0 h) (take-⊑ (suc p) (inv .order))));
     never = λ a b c e h. never-10 rule n law (reverse a) (invariant rule n law pos (reverse a)) c (rw (world-after a) at h);
   }

@@ -66,7 +66,7 @@ module _ (rule : Rule) (n : ℕ) (law : Lawful rule) where
   pub record Extended (cs : List Call) (q l : List ℕ) (e : ℕ) : Type 0 where
     pub order : List ℕ
     pub grows : q ⊑ order
-    pub ok : EachElected cs order
+    pub elected : EachElected cs order
     pub has : (l ++ (e ∷ [])) ⊑ order
     pub same : (order ≡ q) ⊎ (l ++ (e ∷ []) ≡ order)
 
@@ -78,7 +78,7 @@ module _ (rule : Rule) (n : ℕ) (law : Lawful rule) where
       go (inl d) = record {
         order = l ++ (e ∷ []);
         grows = subst (λ (z : List ℕ). z ⊑ (l ++ (e ∷ []))) d (⊑-append l (e ∷ []));
-        ok = λ p x i. old p x (snoc-cases p l x e i);
+        elected = λ p x i. old p x (snoc-cases p l x e i);
         has = ⊑-refl (l ++ (e ∷ []));
         same = inr refl;
       }
@@ -91,7 +91,7 @@ module _ (rule : Rule) (n : ℕ) (law : Lawful rule) where
           record {
             order = q;
             grows = ⊑-refl q;
-            ok = ok;
+            elected = ok;
             has = rw (elected-unique cs l e (f .0) w (ok l (f .0) (f .1))) (f .1);
             same = inl refl;
           }

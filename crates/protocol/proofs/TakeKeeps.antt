@@ -89,7 +89,7 @@ module _ (rule : Rule) (n : ℕ) (law : Lawful rule) where
     pub issued : (j : ℕ) → EachIssued rule n cs (m .state .log) (path (m .state) j)
 
   pub known-message : (cs : List Call) (inv : Invariant rule n law cs) (i : ℕ) (m : Message) → getElem? (after rule n cs .sent) i ≡ some m → KnownMessage cs inv m
-  known-message cs inv i m e = record { settled = top; known = back; issued = ballot-issued rule n law cs (inv .order) (m .state) (order-issued rule n law cs (inv .order) (inv .ok) (inv .issued)) top back (inv .issued) }
+  known-message cs inv i m e = record { settled = top; known = back; issued = ballot-issued rule n law cs (inv .order) (m .state) (order-issued rule n law cs (inv .order) (inv .elected) (inv .issued)) top back (inv .issued) }
     where
       s : (h : List Call) × Past h cs × (officeAt rule n (m .sender) h ≡ m .state)
       s = inv .sent i m e
@@ -106,14 +106,14 @@ module _ (rule : Rule) (n : ℕ) (law : Lawful rule) where
   take-change c cs inv k m kn = record {
     order = inv .order;
     grows = ⊑-refl (inv .order);
-    ok = inv .ok;
+    elected = inv .elected;
     longest = inl refl;
-    good = adopting-left c cs (inv .order) k (catchUp (m .state .log) (officeAt rule n k cs)) m (up .0) (up .1) (kn .known) (kn .issued);
+    left = adopting-left c cs (inv .order) k (catchUp (m .state .log) (officeAt rule n k cs)) m (up .0) (up .1) (kn .known) (kn .issued);
   }
     where
       up : Passing rule n law cs (inv .order) k (catchUp (m .state .log) (officeAt rule n k cs)) × (m .state .log ⊑ catchUp (m .state .log) (officeAt rule n k cs) .log)
-      up = catchUp-passing cs (inv .order) k (officeAt rule n k cs) (m .state .log) (kn .settled) (order-issued rule n law cs (inv .order) (inv .ok) (inv .issued)) (now-passing rule n law cs inv k)
+      up = catchUp-passing cs (inv .order) k (officeAt rule n k cs) (m .state .log) (kn .settled) (order-issued rule n law cs (inv .order) (inv .elected) (inv .issued)) (now-passing rule n law cs inv k)
 
   pub taking-change : (c : Call) (cs : List Call) (inv : Invariant rule n law cs) (k i : ℕ) (m : Option Message) → getElem? (after rule n cs .sent) i ≡ m → NextOffice rule n law c cs (inv .order) k (taking k m (officeAt rule n k cs))
-  taking-change c cs inv k i none e = record { order = inv .order; grows = ⊑-refl (inv .order); ok = inv .ok; longest = inl refl; good = same-left rule n law c cs inv (inv .order) (⊑-refl (inv .order)) k }
+  taking-change c cs inv k i none e = record { order = inv .order; grows = ⊑-refl (inv .order); elected = inv .elected; longest = inl refl; left = same-left rule n law c cs inv (inv .order) (⊑-refl (inv .order)) k }
   taking-change c cs inv k i (some m) e = take-change c cs inv k m (known-message cs inv i m e)

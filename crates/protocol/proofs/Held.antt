@@ -24,7 +24,7 @@ module _ (rule : Rule) (n : ℕ) where
   -- an entry's office is the one that issued it
   pub issued-office : (cs : List Call) (l p : List ℕ) (e : ℕ) (i : Issued rule n cs l p e) → officeOf e ≡ i .k
   unfolding refusal
-  issued-office cs l p e i = ap officeOf (sym (i .entry)) ∙ office-of (i .k) (i .line) (i .code) (officeAt rule n (i .k) (i .moment)) (i .ok)
+  issued-office cs l p e i = ap officeOf (sym (i .entry)) ∙ office-of (i .k) (i .line) (i .code) (officeAt rule n (i .k) (i .moment)) (i .done)
 
   -- right after its issue the entry is its office's vote
   pub issued-voted : (cs : List Call) (l p : List ℕ) (e : ℕ) (i : Issued rule n cs l p e) → Voted rule n cs (i .k) p e
@@ -48,4 +48,4 @@ module _ (rule : Rule) (n : ℕ) where
   -- in any office of the world, for its log and each of its ballots' paths
   pub held-issued : (law : Lawful rule) (cs : List Call) → Invariant rule n law cs → (k j : ℕ) → EachIssued rule n cs (logAt rule n k cs) (path (officeAt rule n k cs) j)
   held-issued law cs inv k j =
-      ballot-issued rule n law cs (inv .order) (officeAt rule n k cs) (order-issued rule n law cs (inv .order) (inv .ok) (inv .issued)) (inv .logs k) (inv .known cs (past-refl cs) k) (inv .issued) j
+      ballot-issued rule n law cs (inv .order) (officeAt rule n k cs) (order-issued rule n law cs (inv .order) (inv .elected) (inv .issued)) (inv .logs k) (inv .known cs (past-refl cs) k) (inv .issued) j
