@@ -74,7 +74,10 @@ fn moved(trials: &mut Trials, random: &mut Random, receiver: &Sample, bytes: &[u
             1 => other.insert(at, random.below(256) as u8),
             2 => other.insert(at, bytes[at]),
             3 => other.swap(at, second),
-            _ => other[at.min(second)..].rotate_left(random.pick(&[1, 2, 4, 6])),
+            _ => {
+                let piece = &mut other[at.min(second)..];
+                piece.rotate_left(random.pick(&[1, 2, 4, 6]).min(piece.len()));
+            }
         }
         trials.message(&other);
         take(trials, receiver);
