@@ -1,20 +1,24 @@
 //! The program around the second implementation.
 
+use std::fs::read;
 use std::io::{stdin, stdout, Error, ErrorKind, Result, Write};
+use std::path::PathBuf;
 use std::process::ExitCode;
 
-use second::generate;
 use second::rehearsal::rehearse;
+use second::shrink::{program_differs, shrink};
 use second::survey::survey;
 use second::trial::trial;
-use second::trials;
+use second::{generate, trials};
 
 const USAGE: &str = "usage:
-  second rehearse < SCRIPT            answer a rehearsal script
-  second generate KIND SEED LINES     write one (mixed contested tails long malformed everything)
-  second survey < SCRIPT              count what it shows
-  second trial < SCRIPT               answer a trial script
-  second generate-trials KIND SEED COUNT   write one (boundaries elections takes damaged random)";
+  second rehearse < SCRIPT                  answer a rehearsal script
+  second generate KIND SEED LINES           write one: mixed contested tails long malformed everything
+  second survey < SCRIPT                    count what it shows
+  second trial < SCRIPT                     answer a trial script
+  second generate-trials KIND SEED COUNT    write one: boundaries elections takes damaged random
+  second shrink rehearse|trial FILE PROGRAM ARGUMENT…
+                                            the least of the script in FILE that PROGRAM answers otherwise";
 
 /// An error about the arguments.
 fn wrong(what: &str) -> Error {
@@ -26,24 +30,42 @@ fn number(word: &str) -> Result<u64> {
     word.parse().map_err(|_| wrong(&format!("{word} is not a number")))
 }
 
+/// What this program answers to a script.
+fn answers(language: &str, script: &[u8]) -> Result<Vec<u8>> {
+    let mut output = vec![];
+    match language {
+        "rehearse" => rehearse(script, &mut output)?,
+        "trial" => trial(script, &mut output)?,
+        _ => return Err(wrong("no such language")),
+    }
+    Ok(output)
+}
+
+/// The least of the script in the file that the program answers otherwise.
+fn shrunk(language: &str, file: &str, program: &[&str]) -> Result<Vec<u8>> {
+    let script = read(file)?;
+    let part = PathBuf::from(format!("{file}.part"));
+    let differs = |script: &[u8]| program_differs(program, script, &answers(language, script)?, &part);
+    if !differs(&script)? {
+        return Err(wrong("there is no difference"));
+    }
+    shrink(&script, differs)
+}
+
+/// What the words ask for, on the output.
 fn run(words: &[&str]) -> Result<()> {
     let mut output = stdout().lock();
-    match *words {
-        ["rehearse"] => rehearse(stdin().lock(), output),
-        ["trial"] => trial(stdin().lock(), output),
-        ["survey"] => survey(stdin().lock(), output),
-        ["generate", kind, seed, lines] => {
-            let script = generate::script(kind, number(seed)?, number(lines)? as usize);
-            output.write_all(&script.ok_or_else(|| wrong("no such kind"))?)?;
-            output.flush()
-        }
-        ["generate-trials", kind, seed, count] => {
-            let script = trials::script(kind, number(seed)?, number(count)? as usize);
-            output.write_all(&script.ok_or_else(|| wrong("no such kind"))?)?;
-            output.flush()
-        }
-        _ => Err(wrong("no such command")),
-    }
+    let text = match *words {
+        ["rehearse"] => return rehearse(stdin().lock(), output),
+        ["trial"] => return trial(stdin().lock(), output),
+        ["survey"] => return survey(stdin().lock(), output),
+        ["generate", kind, seed, lines] => generate::script(kind, number(seed)?, number(lines)? as usize),
+        ["generate-trials", kind, seed, count] => trials::script(kind, number(seed)?, number(count)? as usize),
+        ["shrink", language, file, ref program @ ..] => Some(shrunk(language, file, program)?),
+        _ => return Err(wrong("no such command")),
+    };
+    output.write_all(&text.ok_or_else(|| wrong("no such kind"))?)?;
+    output.flush()
 }
 
 fn main() -> ExitCode {
