@@ -1,6 +1,5 @@
 -- The walks over a line.
 --     digits-step, digits-end      a number, digit by digit
---     field-stop, field-next, field-end     a field, byte by byte
 --     fields-here, fields-none     the fields, one by one
 --     more-step, more-end      the numbers of the fields
 --     line-step     a line's first number
@@ -19,10 +18,11 @@ use borrow.Author.Tests.{le-ltb, lt-ltb, le-leb, lt-leb, eq-eqb, ne-eqb, leb-tru
 use Rattle.protocol.specs.Tests.{pick}
 use Rattle.commands.specs.declared.number.Number.{Number}
 use Rattle.commands.specs.declared.number.Number.the-variants.{Value, Not}
+use Rattle.lines.specs.Parts.{partLength}
 use Rattle.commands.specs.Command.{lineFrom, lineBy, withMore, noLine}
 use Rattle.commands.specs.Number.{byNumber, digitOf, digitsOf, numberOf}
 use Rattle.commands.specs.declared.fields.More.{More}
-use Rattle.commands.specs.Fields.{fields, fieldLength, fieldsFrom, longer, moreAfter, moreOf, noMore}
+use Rattle.commands.specs.Fields.{fields, fieldsFrom, longer, moreAfter, moreOf, noMore}
 
 module _ (v : ℕ) (s : List ℕ) (i : ℕ) where
   pub digits-step : i < length s → digitsOf v (drop i s) ≡ byNumber (digitOf v (getD s i 0)) (λ (w : ℕ). digitsOf w (drop (i + 1) s)) Not
@@ -33,30 +33,17 @@ module _ (v : ℕ) (s : List ℕ) (i : ℕ) where
   unfolding digitsOf
   digits-end h = rw (drop-of-length-le s h)
 
-module _ (s : List ℕ) (i : ℕ) where
-  pub field-stop : i < length s → getD s i 0 ≡ 32 → fieldLength (drop i s) ≡ 0
-  unfolding fieldLength pick
-  field-stop h e = rw (drop-cons s i 0 h, e)
-
-  pub field-next : i < length s → (getD s i 0 ≡ 32 → ⊥) → fieldLength (drop i s) ≡ suc (fieldLength (drop (i + 1) s))
-  unfolding fieldLength pick
-  field-next h e = rw (add-one, drop-cons s i 0 h, ne-eqb (getD s i 0) 32 e)
-
-  pub field-end : length s ≤ i → fieldLength (drop i s) ≡ 0
-  unfolding fieldLength
-  field-end h = rw (drop-of-length-le s h)
-
 -- the fields after the first
 abbrev after : ℕ → List ℕ → List (List ℕ)
 after k s = pick (ltb k (length s)) (fields (drop (suc k) s)) []
 
-split-by : (b : ℕ) (s : List ℕ) (t : Bool) → eqb b 32 ≡ t → fields s ≡ take (fieldLength s) s ∷ after (fieldLength s) s → fields (b ∷ s) ≡ take (fieldLength (b ∷ s)) (b ∷ s) ∷ after (fieldLength (b ∷ s)) (b ∷ s)
-unfolding fields fieldLength longer pick
+split-by : (b : ℕ) (s : List ℕ) (t : Bool) → eqb b 32 ≡ t → fields s ≡ take (partLength 32 s) s ∷ after (partLength 32 s) s → fields (b ∷ s) ≡ take (partLength 32 (b ∷ s)) (b ∷ s) ∷ after (partLength 32 (b ∷ s)) (b ∷ s)
+unfolding fields partLength longer pick
 split-by b s true e h = rw (e, lt-ltb 0 (length (b ∷ s)) (omega arith))
-split-by b s false e h = rw (e, h, leb·suc-suc (suc (fieldLength s)) (length s))
+split-by b s false e h = rw (e, h, leb·suc-suc (suc (partLength 32 s)) (length s))
 
-fields-split : (s : List ℕ) → fields s ≡ take (fieldLength s) s ∷ after (fieldLength s) s
-unfolding fields fieldLength pick
+fields-split : (s : List ℕ) → fields s ≡ take (partLength 32 s) s ∷ after (partLength 32 s) s
+unfolding fields partLength pick
 fields-split [] = refl
 fields-split (b ∷ s) = split-by b s (eqb b 32) refl (fields-split s)
 
@@ -68,9 +55,9 @@ after-from s at k true h e =
 after-from s at k false h e = rw (length-drop, e, lt-leb (at + k + 1) (length s) (omega (arith, leb-false (suc k) (length s - at) e)))
 
 module _ (s : List ℕ) (at : ℕ) where
-  pub fields-here : at ≤ length s → fieldsFrom s at ≡ take (fieldLength (drop at s)) (drop at s) ∷ fieldsFrom s (at + fieldLength (drop at s) + 1)
+  pub fields-here : at ≤ length s → fieldsFrom s at ≡ take (partLength 32 (drop at s)) (drop at s) ∷ fieldsFrom s (at + partLength 32 (drop at s) + 1)
   unfolding fieldsFrom pick
-  fields-here h = let k = fieldLength (drop at s) in rw (le-leb at (length s) h, fields-split (drop at s)) (ap (λ (fs : List (List ℕ)). take k (drop at s) ∷ fs) (after-from s at k (leb (suc k) (length s - at)) h refl))
+  fields-here h = let k = partLength 32 (drop at s) in rw (le-leb at (length s) h, fields-split (drop at s)) (ap (λ (fs : List (List ℕ)). take k (drop at s) ∷ fs) (after-from s at k (leb (suc k) (length s - at)) h refl))
 
   from-within : at ≤ length s → fieldsFrom s at ≡ fields (drop at s)
   unfolding fieldsFrom pick
@@ -81,19 +68,19 @@ module _ (s : List ℕ) (at : ℕ) where
   fields-none h = rw (lt-leb at (length s) h)
 
 module _ (s cells : List ℕ) (count at : ℕ) where
-  pub more-step : (end : ℕ) → at ≤ length s → end ≡ at + fieldLength (drop at s) → moreAfter count cells (fieldsFrom s at) ≡ pick (eqb count 8) noMore (byNumber (numberOf (take (end - at) (drop at s))) (λ (v : ℕ). moreAfter (count + 1) (set cells count v) (fieldsFrom s (end + 1))) noMore)
+  pub more-step : (end : ℕ) → at ≤ length s → end ≡ at + partLength 32 (drop at s) → moreAfter count cells (fieldsFrom s at) ≡ pick (eqb count 8) noMore (byNumber (numberOf (take (end - at) (drop at s))) (λ (v : ℕ). moreAfter (count + 1) (set cells count v) (fieldsFrom s (end + 1))) noMore)
   unfolding moreAfter
   more-step end h e =
-      let k : end - at ≡ fieldLength (drop at s) = omega arith in
+      let k : end - at ≡ partLength 32 (drop at s) = omega arith in
       rw (fields-here s at h, k, e)
 
   pub more-end : length s < at → moreAfter count cells (fieldsFrom s at) ≡ record { proper = true; count = count; cells = cells }
   unfolding moreAfter
   more-end h = rw (fields-none s at h)
 
-pub line-step : (letter : ℕ) (s : List ℕ) (end : ℕ) → 2 ≤ length s → end ≡ 2 + fieldLength (drop 2 s) → lineFrom letter (drop 2 s) ≡ byNumber (numberOf (take (end - 2) (drop 2 s))) (λ (first : ℕ). withMore letter first (moreOf (fieldsFrom s (end + 1)))) noLine
+pub line-step : (letter : ℕ) (s : List ℕ) (end : ℕ) → 2 ≤ length s → end ≡ 2 + partLength 32 (drop 2 s) → lineFrom letter (drop 2 s) ≡ byNumber (numberOf (take (end - 2) (drop 2 s))) (λ (first : ℕ). withMore letter first (moreOf (fieldsFrom s (end + 1)))) noLine
 unfolding lineBy
 line-step letter s end h e =
-    let k : end - 2 ≡ fieldLength (drop 2 s) = omega arith in
+    let k : end - 2 ≡ partLength 32 (drop 2 s) = omega arith in
     let f : fields (drop 2 s) ≡ fieldsFrom s 2 = sym (from-within s 2 h) in
     rw (f, fields-here s 2 h, k, e)

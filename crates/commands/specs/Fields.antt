@@ -18,11 +18,6 @@ unfoldable pub fields : List ℕ → List (List ℕ)
 fields [] = [] ∷ []
 fields (b ∷ bs) = pick (eqb b 32) ([] ∷ fields bs) (longer b (fields bs))
 
--- the length of the first field
-unfoldable pub fieldLength : List ℕ → ℕ
-fieldLength [] = 0
-fieldLength (b ∷ bs) = pick (eqb b 32) 0 (suc (fieldLength bs))
-
 -- the fields from a place on, none past the line's end
 unfoldable pub fieldsFrom : List ℕ → ℕ → List (List ℕ)
 fieldsFrom bytes at = pick (leb at (length bytes)) (fields (drop at bytes)) []

@@ -8,8 +8,8 @@ mod fields;
 mod number;
 
 use fields::More;
-use fields::field_end;
 use fields::more_of;
+use lines::part_end;
 use number::Number;
 use number::number_of;
 
@@ -134,7 +134,7 @@ fn line_from(bytes: &[u8], letter: u8) -> Line
     requires { ⌜ 1 < length (now bytes) ⌝ }
     ensures { λ r. ⌜ r ≡ lineFrom letter (drop 2 (now (bytes .entry))) ⌝ }
 {
-    let end = field_end(bytes, 2);
+    let end = part_end(bytes, 2, b' ');
     let Number::Value(first) = number_of(&bytes[2..end]) else {
         return no_line();
     };

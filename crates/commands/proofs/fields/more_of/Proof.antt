@@ -8,6 +8,7 @@ use lib.ListN.{length, drop, getD}
 use Rattle.protocol.specs.Tests.{pick}
 use Rattle.commands.specs.Number.{byNumber}
 use Rattle.commands.specs.Fields.{moreAfter, moreOf, fieldsFrom}
+use Rattle.lines.proofs.Parts.{part-within}
 use Rattle.commands.proofs.Walks.{more-step, more-end}
 use Rattle.commands.proofs.fields.more_of.Statement.{statement}
 use Rattle.commands.proofs.fields.more_of.Tie as tie
@@ -25,13 +26,20 @@ returns : tie.Need-returns Inv-loop μ-loop
 unfolding pick
 returns c = let l = c .before .before .before .loop in let s = c .before .before .before .before .before .args .bytes .now in c .no-more .ensures ∙ sym (sym (l .inv .1) ∙ more-step s (l .cells) (l .count) (l .at) _ (omega arith) refl ∙ rw (eq-eqb (l .count) 8 (c .before .if1 .taken)))
 
+part-number-of-end : tie.Need-part-number-of-end Inv-loop μ-loop
+part-number-of-end c = omega (arith, part-within 32 (c .before .before .before .before .before .args .bytes .now) (c .before .before .before .loop .at) (omega arith))
+
+add-at : tie.Need-add-at Inv-loop μ-loop
+add-at c =
+    omega (arith, part-within 32 (c .before .before .before .before .before .before .before .before .before .before .args .bytes .now) (c .before .before .before .before .before .before .before .before .loop .at) (omega arith))
+
 returns-2 : tie.Need-returns-2 Inv-loop μ-loop
 unfolding pick byNumber
 returns-2 c =
     let l = c .before .before .before .before .before .before .before .before .loop in
     let s = c .before .before .before .before .before .before .before .before .before .before .args .bytes .now in
     let e = sym (c .before .before .before .number-of .ensures) ∙ c .before .enum-told .given .1 in
-    c .no-more2 .ensures ∙ sym (sym (l .inv .1) ∙ more-step s (l .cells) (l .count) (l .at) _ (omega arith) (c .before .before .before .before .before .field-end .ensures .0) ∙ rw (ne-eqb (l .count) 8 (c .before .before .before .before .before .before .if1 .left), e))
+    c .no-more2 .ensures ∙ sym (sym (l .inv .1) ∙ more-step s (l .cells) (l .count) (l .at) _ (omega arith) (c .before .before .before .before .before .part-end .ensures) ∙ rw (ne-eqb (l .count) 8 (c .before .before .before .before .before .before .if1 .left), e))
 
 loop-again : tie.Need-loop-again Inv-loop μ-loop
 unfolding pick byNumber
@@ -39,7 +47,7 @@ loop-again c =
     let l = c .before .before .before .before .before .before .before .before .loop in
     let s = c .before .before .before .before .before .before .before .before .before .before .args .bytes .now in
     let e = sym (c .before .before .before .number-of .ensures) ∙ c .before .value .given .1 in
-    (omega arith, sym (sym (l .inv .1) ∙ more-step s (l .cells) (l .count) (l .at) _ (omega arith) (c .before .before .before .before .before .field-end .ensures .0) ∙ rw (ne-eqb (l .count) 8 (c .before .before .before .before .before .before .if1 .left), e)))
+    (omega arith, sym (sym (l .inv .1) ∙ more-step s (l .cells) (l .count) (l .at) _ (omega arith) (c .before .before .before .before .before .part-end .ensures) ∙ rw (ne-eqb (l .count) 8 (c .before .before .before .before .before .before .if1 .left), e)))
 
 returns-3 : tie.Need-returns-3 Inv-loop μ-loop
 returns-3 c = let l = c .before .loop in let s = c .before .before .before .args .bytes .now in sym (sym (l .inv .1) ∙ more-end s (l .cells) (l .count) (l .at) (omega arith))
@@ -56,7 +64,7 @@ more-of-spec =
     (λ c κs. search needs)
     (λ c. search needs)
     (λ c. search needs)
-    (λ c. search needs)
+    part-number-of-end
     (λ c κs. search needs)
     (λ c. search needs)
     (λ c. search needs)
@@ -65,7 +73,7 @@ more-of-spec =
     (λ c. search needs)
     (λ c. search needs)
     (λ c. search needs)
-    (λ c. search needs)
+    add-at
     (λ c. search needs)
     loop-again
     returns-3)

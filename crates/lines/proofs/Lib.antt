@@ -1,0 +1,3 @@
+-- Laws of parts and of the line that is held.
+pub mod Parts
+pub mod Holding

@@ -1,0 +1,3 @@
+-- Parts between marks, and a line that is held.
+pub mod Parts
+pub mod Held
