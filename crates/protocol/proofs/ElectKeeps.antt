@@ -1,5 +1,5 @@
 -- Elect keeps the invariant: each step settles an elected entry, which the order has there already or gets at its end. Assumes nothing.
-use mathlib.Core.Path.{_≡_, refl, sym, ap, subst, _∙_}
+use mathlib.Core.Path.{_≡_, refl, sym, subst, _∙_}
 use mathlib.Core.List.{List, [], _∷_, _++_}
 use mathlib.Core.Logic.{_⊎_, inl, inr}
 use Prim.Native.Nat.{ℕ, zero, suc}
@@ -11,8 +11,8 @@ use Rattle.protocol.specs.World.{Call}
 use Rattle.protocol.proofs.Beginning.{⊑-refl, ⊑-trans, ⊑-antisym, ⊑-append}
 use Rattle.protocol.proofs.Lawful.{Lawful}
 use Rattle.protocol.proofs.Office.{settle-path, next-cases}
-use Rattle.protocol.proofs.History.{Past, officeAt, logAt, ownAt}
-use Rattle.protocol.proofs.Issued.{EachIssued}
+use Rattle.protocol.proofs.History.{officeAt}
+use Rattle.protocol.proofs.Issued.{OwnIssued}
 use Rattle.protocol.proofs.Settled.{EachElected, Extended, extend, rule-elects, order-issued}
 use Rattle.protocol.proofs.Invariant.{Invariant, NextOffice}
 use Rattle.protocol.proofs.Passing.{Passing, now-passing, passing-left, kept-passing}
@@ -46,7 +46,7 @@ module _ (rule : Rule) (n : ℕ) (law : Lawful rule) where
       go (inl a) (inl b) = inl (a ∙ b)
       go (inl a) (inr b) = inr (⊑-antisym (r .log) (t .order) (t .passing .settled) (subst (λ (z : List ℕ). z ⊑ r .log) (b ∙ sym a) (t .low)))
 
-  electing-passing : (cs : List Call) (k : ℕ) → ((h : List Call) → Past h cs → (j : ℕ) → EachIssued rule n cs (logAt rule n j h) (ownAt rule n j h)) → (fuel : ℕ) (q : List ℕ) (o : Office) → EachElected rule n law cs q → Passing rule n law cs q k o → Elects cs q k o (electing rule fuel o)
+  electing-passing : (cs : List Call) (k : ℕ) → OwnIssued rule n cs → (fuel : ℕ) (q : List ℕ) (o : Office) → EachElected rule n law cs q → Passing rule n law cs q k o → Elects cs q k o (electing rule fuel o)
   unfolding electing settle
   electing-passing cs k pr zero q o ok m = no-more cs q k o ok m
   electing-passing cs k pr (suc fuel) q o ok m =

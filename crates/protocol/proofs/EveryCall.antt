@@ -1,6 +1,6 @@
 -- Every call keeps the invariant, so it holds after any list of calls; and no call of such a list is refused with 10. Assumes nothing.
-use mathlib.Core.Path.{_≡_, refl, sym, ap, subst, _∙_}
-use mathlib.Core.List.{List, [], _∷_, _++_}
+use mathlib.Core.Path.{_≡_, refl, sym, ap, _∙_}
+use mathlib.Core.List.{List, [], _∷_}
 use mathlib.Core.Option.{Option, none, some, Option·some-injective}
 use mathlib.Core.Bool.{Bool, true, false, _&&_, _||_, cond, true≢false}
 use mathlib.Core.Logic.{_⊎_, inl, inr}
@@ -12,20 +12,22 @@ use borrow.Author.Tests.{eqb-true, ltb-true}
 use Rattle.protocol.specs.Entry.{value}
 use Rattle.protocol.specs.Beginning.{_⊑_, _⊏_, begins}
 use Rattle.protocol.specs.Vote.{Rule}
-use Rattle.protocol.specs.Office.{Office, Message, tail}
+use Rattle.protocol.specs.Office.{Message, tail}
 use Rattle.protocol.specs.Issue.{withIssue, refuseIssue}
 use Rattle.protocol.specs.Take.{refuseTake}
 use Rattle.protocol.specs.Elect.{withElect}
-use Rattle.protocol.specs.World.{World, Call, issue, send, take, elect, idle, names, taking, refuseTaking, refusal, done, step}
+use Rattle.protocol.specs.World.{Call, issue, send, take, elect, idle, names, taking, refuseTaking, refusal, done, step}
 use Rattle.protocol.proofs.Tests.{and-true, or-right, if-cases}
 use Rattle.protocol.proofs.Beginning.{⊑-refl, ⊏-⊑, ⊑-either, begins-of}
 use Rattle.protocol.proofs.Lawful.{Lawful}
-use Rattle.protocol.proofs.History.{Past, past-refl, after, after-length, officeAt, logAt}
+use Rattle.protocol.proofs.History.{past-refl, after, after-length, officeAt, logAt}
+use Rattle.protocol.proofs.Known.{Sent}
 use Rattle.protocol.proofs.Invariant.{Invariant, NextWorld, advance, same-left, same-next, put-next, invariant-start}
 use Rattle.protocol.proofs.IssueKeeps.{issue-change}
 use Rattle.protocol.proofs.TakeKeeps.{known-message, taking-change}
 use Rattle.protocol.proofs.ElectKeeps.{elect-change}
 
+-- the refusals' numbers that are not 10
 ten-not : (t : Bool) → t ≡ true → _≡_ {A = ℕ} (cond t 0 10) 10 → ⊥
 ten-not true e h = omega arith
 ten-not false e h = true≢false (sym e)
@@ -45,6 +47,7 @@ module _ (rule : Rule) (n : ℕ) (law : Lawful rule) where
   there : (cs : List Call) (k : ℕ) → ltb k (length (after rule n cs .offices)) ≡ true → k < n
   there cs k h = omega (arith, ltb-true k (length (after rule n cs .offices)) h, after-length rule n cs)
 
+  -- a sent message holds what its office is now
   send-next : (c : Call) (cs : List Call) (inv : Invariant rule n law cs) (k : ℕ) → NextWorld rule n law c cs (inv .order) (record { offices = after rule n cs .offices; sent = record { sender = k; state = officeAt rule n k cs } ∷ after rule n cs .sent })
   send-next c cs inv k = record {
     order = inv .order;
@@ -55,7 +58,7 @@ module _ (rule : Rule) (n : ℕ) (law : Lawful rule) where
     sent = new;
   }
     where
-      new : (i : ℕ) (m : Message) → getElem? (record { sender = k; state = officeAt rule n k cs } ∷ after rule n cs .sent) i ≡ some m → (h : List Call) × Past h cs × (officeAt rule n (m .sender) h ≡ m .state)
+      new : (i : ℕ) (m : Message) → getElem? (record { sender = k; state = officeAt rule n k cs } ∷ after rule n cs .sent) i ≡ some m → Sent rule n cs m
       new zero m e = (cs, past-refl cs, ap (λ (x : Message). officeAt rule n (x .sender) cs) (sym (Option·some-injective _ m e)) ∙ ap (λ (x : Message). x .state) (Option·some-injective _ m e))
       new (suc i) m e = inv .sent i m e
 

@@ -3,28 +3,28 @@
 --     issued-once      one path in view, one entry: no office issues two entries with the same path in view
 --     never-again      after its issue the office never has that path in view again
 -- Assumes nothing.
-use mathlib.Core.Path.{_≡_, sym, ap, subst, _∙_}
-use mathlib.Core.List.{List, [], _∷_, _++_}
+use mathlib.Core.Path.{_≡_, subst}
+use mathlib.Core.List.{List, _∷_}
 use Prim.Native.Nat.{ℕ}
 use Rattle.protocol.specs.Entry.{officeOf}
 use Rattle.protocol.specs.Beginning.{_⊑_, _⊏_}
 use Rattle.protocol.specs.Vote.{Rule}
 use Rattle.protocol.specs.Office.{tail, path}
 use Rattle.protocol.specs.World.{Call, issue, refusal}
-use Rattle.protocol.proofs.Beginning.{⊑-trans, ⊑-append, ⊑-⊏-trans, ⊏-irrefl, snoc-⊏}
+use Rattle.protocol.proofs.Beginning.{⊑-append, ⊑-⊏-trans, ⊏-irrefl, snoc-⊏}
 use Rattle.protocol.proofs.Lawful.{Lawful}
 use Rattle.protocol.proofs.History.{Past, past-refl, past-trans, officeAt, logAt, ownAt}
 use Rattle.protocol.proofs.Steady.{past-moves, Voted, voted-unique, voted-later}
 use Rattle.protocol.proofs.Issued.{Issued, EachIssued}
 use Rattle.protocol.proofs.Settled.{order-issued, ballot-issued}
 use Rattle.protocol.proofs.Invariant.{Invariant}
-use Rattle.protocol.proofs.OneOrder.{office-of}
+use Rattle.protocol.proofs.OneOrder.{parts-of}
 
 module _ (rule : Rule) (n : ℕ) where
   -- an entry's office is the one that issued it
   pub issued-office : (cs : List Call) (l p : List ℕ) (e : ℕ) (i : Issued rule n cs l p e) → officeOf e ≡ i .k
   unfolding refusal
-  issued-office cs l p e i = ap officeOf (sym (i .entry)) ∙ office-of (i .k) (i .line) (i .code) (officeAt rule n (i .k) (i .moment)) (i .done)
+  issued-office cs l p e i = parts-of (i .k) (i .line) (i .code) (officeAt rule n (i .k) (i .moment)) (i .done) e (i .entry) .office
 
   -- right after its issue the entry is its office's vote
   pub issued-voted : (cs : List Call) (l p : List ℕ) (e : ℕ) (i : Issued rule n cs l p e) → Voted rule n cs (i .k) p e

@@ -1,14 +1,13 @@
 -- The world after a list of calls, newest call first. A moment of the world is the list of the calls before it, so the moments before a moment
 -- are the ends of its list. Assumes nothing.
 use mathlib.Core.Path.{_≡_, refl, sym, ap, subst, _∙_}
-use mathlib.Core.List.{List, [], _∷_, _++_}
-use mathlib.Core.Option.{Option, none, some}
-use mathlib.Core.Bool.{Bool, true, false, _&&_, cond}
+use mathlib.Core.List.{List, [], _∷_}
+use mathlib.Core.Bool.{Bool, true, _&&_, cond}
 use mathlib.Core.Logic.{_⊎_, inl, inr}
-use Prim.Native.Nat.{ℕ, zero, suc, _<_}
+use Prim.Native.Nat.{ℕ, _<_}
 use native.Mathlib.Omega.{arith}
-use lib.Dec.{eqb, ltb}
-use lib.ListN.{length, getD, set, replicate, getElem?, length-set, length-replicate}
+use lib.Dec.{eqb}
+use lib.ListN.{length, length-set, length-replicate}
 use lib.Seq.{getD-set-same}
 use borrow.Author.Tests.{eq-eqb, lt-ltb}
 use Rattle.protocol.specs.Entry.{value}
@@ -16,7 +15,7 @@ use Rattle.protocol.specs.Vote.{Rule}
 use Rattle.protocol.specs.Office.{Office, fresh, path}
 use Rattle.protocol.specs.Issue.{withIssue}
 use Rattle.protocol.specs.World.{World, Call, issue, send, take, elect, idle, founded, at, names, refusal, done, step}
-use Rattle.protocol.proofs.Tests.{and-of, if-cases}
+use Rattle.protocol.proofs.Tests.{and-of, if-cases, getD-replicate}
 
 -- h is g or a moment before it
 pub data Past (h : List Call) : List Call → Type 0 where
@@ -85,12 +84,7 @@ module _ (rule : Rule) (n : ℕ) where
   -- at the start every office is fresh
   pub start : (k : ℕ) → fresh ≡ officeAt k []
   unfolding after
-  start k = go n k
-    where
-      go : (m k : ℕ) → fresh ≡ getD (replicate m fresh) k fresh
-      go zero k = refl
-      go (suc m) zero = refl
-      go (suc m) (suc k) = go m k
+  start k = sym (getD-replicate n fresh k)
 
   -- an office after its done issue
   pub issue-office : (cs : List Call) (k line code : ℕ) → refusal (after cs) (issue k line code) ≡ 0 → k < n → officeAt k (issue k line code ∷ cs) ≡ withIssue k (value k line code) (officeAt k cs)
@@ -100,10 +94,6 @@ module _ (rule : Rule) (n : ℕ) where
       ap (λ (w : World). at w k) (step-done rule (after cs) (issue k line code) (lt-ltb k (length (after cs .offices)) there) r)
       ∙ getD-set-same (after cs .offices) k (withIssue k (value k line code) (officeAt k cs)) fresh there
 
+-- a fresh office's paths are empty
 pub fresh-path : (j : ℕ) → path fresh j ≡ []
-fresh-path j = go 8 j
-  where
-    go : (m j : ℕ) → _≡_ {A = List ℕ} (getD (replicate m []) j []) []
-    go zero j = refl
-    go (suc m) zero = refl
-    go (suc m) (suc j) = go m j
+fresh-path j = getD-replicate 8 [] j

@@ -1,12 +1,12 @@
 -- The invariant of the world, and what a call must leave for it to hold afterwards. Assumes nothing.
 use mathlib.Core.Path.{_≡_, refl, sym, ap, subst, _∙_}
-use mathlib.Core.List.{List, [], _∷_, _++_}
+use mathlib.Core.List.{List, [], _∷_}
 use mathlib.Core.Logic.{_⊎_, inl, inr}
-use mathlib.Core.Option.{Option, some, Option·none-ne-some}
+use mathlib.Core.Option.{some, Option·none-ne-some}
 use Prim.Native.Nat.{ℕ, _<_}
 use native.Mathlib.Decide.{ℕ-discrete}
 use native.Mathlib.Omega.{arith}
-use lib.ListN.{length, getElem?}
+use lib.ListN.{getElem?}
 use lib.Seq.{getD-set-same, getD-set-other}
 use Rattle.protocol.specs.Beginning.{_⊑_, _⊏_}
 use Rattle.protocol.specs.Vote.{Rule}
@@ -16,20 +16,23 @@ use Rattle.protocol.proofs.Beginning.{⊑-refl, ⊑-trans, ⊑-antisym,
 use Rattle.protocol.proofs.Lawful.{Lawful}
 use Rattle.protocol.proofs.History.{Past, before, past-refl, past-trans, past-cases, past-nil, after, after-length, officeAt, logAt, ownAt, start, fresh-path}
 use Rattle.protocol.proofs.Steady.{past-moves}
-use Rattle.protocol.proofs.Known.{Snapshot, BallotsKnown, snapshot-later}
-use Rattle.protocol.proofs.Issued.{EachIssued, issued-later, empty-issued}
+use Rattle.protocol.proofs.Known.{Sent, Snapshot, BallotsKnown, snapshot-later}
+use Rattle.protocol.proofs.Issued.{OwnIssued, EachIssued, issued-later, empty-issued}
 use Rattle.protocol.proofs.Settled.{EachElected, elected-later}
 
 module _ (rule : Rule) (n : ℕ) (law : Lawful rule) where
-  -- ── the invariant ──
+  -- after the calls cs, newest first; Steady holds of every call from every state, and needs no part here
   pub record Invariant (cs : List Call) : Type 0 where
+    -- Settled: the order's entries were elected, it is some office's log, and every log is a beginning of it
     pub order : List ℕ
     pub elected : EachElected rule n law cs order
     pub longest : (k : ℕ) × (k < n) × (logAt rule n k cs ≡ order)
     pub logs : (k : ℕ) → logAt rule n k cs ⊑ order
+    -- Known: the ballots of every office at every moment, and every message
     pub known : (h : List Call) → Past h cs → (k : ℕ) → BallotsKnown rule n cs (officeAt rule n k h)
-    pub issued : (h : List Call) → Past h cs → (k : ℕ) → EachIssued rule n cs (logAt rule n k h) (ownAt rule n k h)
-    pub sent : (i : ℕ) (m : Message) → getElem? (after rule n cs .sent) i ≡ some m → (h : List Call) × Past h cs × (officeAt rule n (m .sender) h ≡ m .state)
+    pub sent : (i : ℕ) (m : Message) → getElem? (after rule n cs .sent) i ≡ some m → Sent rule n cs m
+    -- Issued: every own path of every moment
+    pub issued : OwnIssued rule n cs
 
   -- ── one office changes ──
   -- office k may be left by call c as o
@@ -45,7 +48,7 @@ module _ (rule : Rule) (n : ℕ) (law : Lawful rule) where
     pub elected : EachElected rule n law cs order
     pub longest : (order ≡ q) ⊎ ((k : ℕ) × (k < n) × (at w k .log ≡ order))
     pub left : (k : ℕ) → Left c cs order k (at w k)
-    pub sent : (i : ℕ) (m : Message) → getElem? (w .sent) i ≡ some m → (h : List Call) × Past h cs × (officeAt rule n (m .sender) h ≡ m .state)
+    pub sent : (i : ℕ) (m : Message) → getElem? (w .sent) i ≡ some m → Sent rule n cs m
 
   pub advance : (c : Call) (cs : List Call) (inv : Invariant cs) → NextWorld c cs (inv .order) (after rule n (c ∷ cs)) → Invariant (c ∷ cs)
   advance c cs inv nx = record {
@@ -53,8 +56,8 @@ module _ (rule : Rule) (n : ℕ) (law : Lawful rule) where
     elected = λ p e i. elected-later rule n law one (nx .elected p e i);
     longest = long (nx .longest);
     logs = λ k. nx .left k .settled;
-    known = λ h p k. backs h (past-cases p) k;
-    issued = λ h p k. provs h (past-cases p) k;
+    known = λ h p k. knows h (past-cases p) k;
+    issued = λ h p k. issues h (past-cases p) k;
     sent = λ i m e. let r = nx .sent i m e in (r .0, past-trans (r .1) one, r .2);
   }
     where
@@ -71,17 +74,17 @@ module _ (rule : Rule) (n : ℕ) (law : Lawful rule) where
                 (rw (e, ← inv .longest .2) (past-moves rule n one k .0)),
           )
 
-      fresh-back : (k j : ℕ) → Dec (j ≡ k) → logAt rule n k (c ∷ cs) ⊏ path (officeAt rule n k (c ∷ cs)) j → Snapshot rule n (c ∷ cs) j (logAt rule n k (c ∷ cs)) (path (officeAt rule n k (c ∷ cs)) j)
-      fresh-back k j (no d) x = snapshot-later rule n one (nx .left k .known j d x)
-      fresh-back k j (yes d) x = rw d (record { moment = c ∷ cs; past = past-refl (c ∷ cs); within = ⊑-refl (logAt rule n k (c ∷ cs)); own = refl })
+      new-known : (k j : ℕ) → Dec (j ≡ k) → logAt rule n k (c ∷ cs) ⊏ path (officeAt rule n k (c ∷ cs)) j → Snapshot rule n (c ∷ cs) j (logAt rule n k (c ∷ cs)) (path (officeAt rule n k (c ∷ cs)) j)
+      new-known k j (no d) x = snapshot-later rule n one (nx .left k .known j d x)
+      new-known k j (yes d) x = rw d (record { moment = c ∷ cs; past = past-refl (c ∷ cs); within = ⊑-refl (logAt rule n k (c ∷ cs)); own = refl })
 
-      backs : (h : List Call) → (c ∷ cs ≡ h) ⊎ Past h cs → (k : ℕ) → BallotsKnown rule n (c ∷ cs) (officeAt rule n k h)
-      backs h (inl e) k = subst (λ (g : List Call). BallotsKnown rule n (c ∷ cs) (officeAt rule n k g)) e (λ j. fresh-back k j (ℕ-discrete j k))
-      backs h (inr p) k = λ j x. snapshot-later rule n one (inv .known h p k j x)
+      knows : (h : List Call) → (c ∷ cs ≡ h) ⊎ Past h cs → (k : ℕ) → BallotsKnown rule n (c ∷ cs) (officeAt rule n k h)
+      knows h (inl e) k = subst (λ (g : List Call). BallotsKnown rule n (c ∷ cs) (officeAt rule n k g)) e (λ j. new-known k j (ℕ-discrete j k))
+      knows h (inr p) k = λ j x. snapshot-later rule n one (inv .known h p k j x)
 
-      provs : (h : List Call) → (c ∷ cs ≡ h) ⊎ Past h cs → (k : ℕ) → EachIssued rule n (c ∷ cs) (logAt rule n k h) (ownAt rule n k h)
-      provs h (inl e) k = subst (λ (g : List Call). EachIssued rule n (c ∷ cs) (logAt rule n k g) (ownAt rule n k g)) e (nx .left k .issued)
-      provs h (inr p) k = λ q e i. issued-later rule n one (inv .issued h p k q e i)
+      issues : (h : List Call) → (c ∷ cs ≡ h) ⊎ Past h cs → (k : ℕ) → EachIssued rule n (c ∷ cs) (logAt rule n k h) (ownAt rule n k h)
+      issues h (inl e) k = subst (λ (g : List Call). EachIssued rule n (c ∷ cs) (logAt rule n k g) (ownAt rule n k g)) e (nx .left k .issued)
+      issues h (inr p) k = λ q e i. issued-later rule n one (inv .issued h p k q e i)
 
   -- an office that the call leaves alone
   pub same-left : (c : Call) (cs : List Call) (inv : Invariant cs) (q : List ℕ) → inv .order ⊑ q → (k : ℕ) → Left c cs q k (officeAt rule n k cs)
@@ -140,10 +143,10 @@ module _ (rule : Rule) (n : ℕ) (law : Lawful rule) where
     elected = λ p e i. absurd (⊏-nil p (snoc-⊏ p [] e i));
     longest = (0, pos, ap (λ (o : Office). o .log) (sym (start rule n 0)));
     logs = λ k. subst (λ (o : Office). o .log ⊑ []) (start rule n k) tt;
-    known = λ h p k. subst (λ (g : List Call). BallotsKnown rule n [] (officeAt rule n k g)) (past-nil p) (subst (λ (o : Office). BallotsKnown rule n [] o) (start rule n k) none-back);
+    known = λ h p k. subst (λ (g : List Call). BallotsKnown rule n [] (officeAt rule n k g)) (past-nil p) (subst (λ (o : Office). BallotsKnown rule n [] o) (start rule n k) none-known);
     issued = λ h p k. subst (λ (g : List Call). EachIssued rule n [] (logAt rule n k g) (ownAt rule n k g)) (past-nil p) (subst (λ (o : Office). EachIssued rule n [] (o .log) (path o k)) (start rule n k) (rw (fresh-path k) (empty-issued rule n)));
     sent = λ i m e. absurd (Option·none-ne-some m e);
   }
     where
-      none-back : BallotsKnown rule n [] fresh
-      none-back j x = absurd (⊏-nil [] (subst (λ (z : List ℕ). [] ⊏ z) (fresh-path j) x))
+      none-known : BallotsKnown rule n [] fresh
+      none-known j x = absurd (⊏-nil [] (subst (λ (z : List ℕ). [] ⊏ z) (fresh-path j) x))

@@ -1,12 +1,12 @@
 -- Issued: every entry of a path was issued by a done call at its own office, whose own path just before that call was exactly what stands before
 -- the entry, and whose log was a beginning of the log under which the path is held. Assumes nothing.
-use mathlib.Core.Path.{_≡_, refl, sym, ap, subst, _∙_}
+use mathlib.Core.Path.{_≡_}
 use mathlib.Core.List.{List, [], _∷_, _++_}
 use Prim.Native.Nat.{ℕ, _<_}
 use Rattle.protocol.specs.Entry.{value}
 use Rattle.protocol.specs.Beginning.{_⊑_}
 use Rattle.protocol.specs.Vote.{Rule}
-use Rattle.protocol.specs.Office.{Office, tail}
+use Rattle.protocol.specs.Office.{tail}
 use Rattle.protocol.specs.World.{Call, issue, refusal}
 use Rattle.protocol.proofs.Beginning.{⊑-trans, ⊏-⊑, ⊑-append, ⊏-nil, snoc-⊏}
 use Rattle.protocol.proofs.History.{Past, past-trans, after, officeAt, logAt, ownAt}
@@ -31,6 +31,10 @@ module _ (rule : Rule) (n : ℕ) where
   -- every entry of q was issued with what stands before it in view, under a log within l
   abbrev pub EachIssued : List Call → List ℕ → List ℕ → Type 0
   EachIssued cs l q = (p : List ℕ) (e : ℕ) → (p ++ (e ∷ [])) ⊑ q → Issued cs l p e
+
+  -- every own path that an office had by then
+  abbrev pub OwnIssued : List Call → Type 0
+  OwnIssued cs = (h : List Call) → Past h cs → (k : ℕ) → EachIssued cs (logAt rule n k h) (ownAt rule n k h)
 
   pub issued-later : {h cs : List Call} {l p : List ℕ} {e : ℕ} → Past h cs → Issued h l p e → Issued cs l p e
   issued-later a i = record { k = i .k; line = i .line; code = i .code; moment = i .moment; call = past-trans (i .call) a; known = i .known; done = i .done; entry = i .entry; view = i .view; heard = i .heard; cast = i .cast }

@@ -1,15 +1,15 @@
 -- Known: every ballot that an office or a message has is an own path that the ballot's office had at some moment, when its log was a beginning of
 -- this one's. Assumes nothing.
-use mathlib.Core.Path.{_≡_, refl, sym, ap, subst, _∙_}
-use mathlib.Core.List.{List, [], _∷_, _++_}
+use mathlib.Core.Path.{_≡_, sym, subst}
+use mathlib.Core.List.{List}
 use mathlib.Core.Logic.{_⊎_, inl, inr}
 use Prim.Native.Nat.{ℕ}
 use Rattle.protocol.specs.Beginning.{_⊑_, _⊏_}
 use Rattle.protocol.specs.Vote.{Rule}
-use Rattle.protocol.specs.Office.{Office, path}
+use Rattle.protocol.specs.Office.{Office, Message, path}
 use Rattle.protocol.specs.World.{Call}
 use Rattle.protocol.proofs.Beginning.{⊑-⊏-trans}
-use Rattle.protocol.proofs.History.{Past, past-trans, past-either, logAt, ownAt}
+use Rattle.protocol.proofs.History.{Past, past-trans, past-either, officeAt, logAt, ownAt}
 use Rattle.protocol.proofs.Steady.{past-moves}
 
 module _ (rule : Rule) (n : ℕ) where
@@ -24,12 +24,16 @@ module _ (rule : Rule) (n : ℕ) where
   abbrev pub BallotsKnown : List Call → Office → Type 0
   BallotsKnown cs o = (j : ℕ) → o .log ⊏ path o j → Snapshot cs j (o .log) (path o j)
 
+  -- message m holds the state that its sender had at some moment
+  abbrev pub Sent : List Call → Message → Type 0
+  Sent cs m = (h : List Call) × Past h cs × (officeAt rule n (m .sender) h ≡ m .state)
+
   pub snapshot-later : {h cs : List Call} {k : ℕ} {l q : List ℕ} → Past h cs → Snapshot h k l q → Snapshot cs k l q
   snapshot-later p s = record { moment = s .moment; past = past-trans (s .past) p; within = s .within; own = s .own }
 
   -- two paths of one office that extend a log are beginnings of one another, whoever has them
-  pub snaps-either : {cs : List Call} {k : ℕ} {l p q : List ℕ} → Snapshot cs k l p → Snapshot cs k l q → l ⊏ p → l ⊏ q → (p ⊑ q) ⊎ (q ⊑ p)
-  snaps-either {cs} {k} {l} {p} {q} a b hp hq = go (past-either (a .past) (b .past))
+  pub snapshots-either : {cs : List Call} {k : ℕ} {l p q : List ℕ} → Snapshot cs k l p → Snapshot cs k l q → l ⊏ p → l ⊏ q → (p ⊑ q) ⊎ (q ⊑ p)
+  snapshots-either {cs} {k} {l} {p} {q} a b hp hq = go (past-either (a .past) (b .past))
     where
       later : (p q : List ℕ) (a : Snapshot cs k l p) (b : Snapshot cs k l q) → l ⊏ p → Past (a .moment) (b .moment) → p ⊑ q
       later p q a b h m =

@@ -1,5 +1,7 @@
--- The laws of document 01's definitions.
+-- The laws of document 01's definitions, and demand 3 on lists.
+-- the lettered cases
 pub mod Cases
+-- tests, beginnings, the winning rule, the calls at one office
 pub mod Tests
 pub mod Beginning
 pub mod Vote
@@ -7,6 +9,7 @@ pub mod Office
 pub mod Elect
 pub mod Limits
 pub mod WorldLimits
+-- demand 3: what is asked of the rule, the four invariants, each call, the theorem
 pub mod Lawful
 pub mod History
 pub mod Steady
@@ -14,8 +17,8 @@ pub mod Known
 pub mod Issued
 pub mod Settled
 pub mod Invariant
-pub mod IssueKeeps
 pub mod Passing
+pub mod IssueKeeps
 pub mod TakeKeeps
 pub mod ElectKeeps
 pub mod EveryCall

@@ -5,18 +5,18 @@
 -- Assumes nothing.
 use mathlib.Core.Path.{_≡_, refl, sym, ap, subst, _∙_}
 use mathlib.Core.Bool.{Bool, true, false, _||_, cond, true≢false}
-use mathlib.Core.List.{List, [], _∷_, _++_, map, append-nil}
-use mathlib.Core.Option.{Option, none, some, Option·none-ne-some, Option·some-injective}
+use mathlib.Core.List.{List, [], _∷_, _++_, append-nil}
+use mathlib.Core.Option.{none, some, Option·none-ne-some, Option·some-injective}
 use mathlib.Core.Logic.{_⊎_, inl, inr}
-use Prim.Native.Nat.{ℕ, zero, suc, _+_, _-_, _<_, _≤_, _/_, _%_}
+use Prim.Native.Nat.{ℕ, zero, suc, _+_, _-_, _<_, _≤_}
 use native.Mathlib.Nat.{not-suc-le-zero, le-of-suc-le-suc}
 use native.Mathlib.Decide.{decLt}
 use native.Mathlib.Omega.{arith}
-use lib.Dec.{eqb, leb, ltb}
-use lib.ListN.{length, getD, drop, set, replicate, length-append, length-map, length-set, length-drop}
+use lib.Dec.{eqb, ltb}
+use lib.ListN.{length, getD, drop, replicate, length-append, length-map, length-set, length-drop}
 use lib.Seq.{drop-set-lt}
 use borrow.Author.Tests.{eqb-true, eqb-false, leb-true, ltb-false, eq-eqb, le-leb, lt-ltb}
-use Rattle.protocol.specs.Tests.{both, allB}
+use Rattle.protocol.specs.Tests.{allB}
 use Rattle.protocol.specs.Entry.{value, officeOf, lineOf, codeOf, isEntry}
 use Rattle.protocol.specs.Beginning.{_⊑_, _⊏_, begins, extends}
 use Rattle.protocol.specs.Vote.{Rule}
@@ -24,7 +24,7 @@ use Rattle.protocol.specs.Office.{Office, Message, fresh, tail, first, v
 use Rattle.protocol.specs.Limits.{isEmpty, tailFine, officeFine}
 use Rattle.protocol.specs.Issue.{withIssue, refuseIssue}
 use Rattle.protocol.specs.Take.{rebased, rebase, catchUp, adopt, adopts, adopting, offers, withTake, refuseTake}
-use Rattle.protocol.specs.Elect.{lose, settle, next, electing, withElect}
+use Rattle.protocol.specs.Elect.{lose, settle, electing, withElect}
 use Rattle.protocol.proofs.Tests.{both-0, both-1, both-true, all-getD, all-one, all-append, all-map, all-set, all-drop, all-replicate, drop-map, if-cases}
 use Rattle.protocol.proofs.Beginning.{⊑-refl, ⊑-cases, ⊏-⊑, ⊑-⊏-trans, ⊑-length, ⊏-length, ⊏-irrefl, ⊑-append, ⊑-trans, begins-true, extends-true, extends-false}
 use Rattle.protocol.proofs.Vote.{NamesVoted}

@@ -1,12 +1,10 @@
 -- A machine that follows document 01's steps has one order. Assumes nothing.
 use mathlib.Core.Path.{_≡_, refl, sym, ap, subst, _∙_}
 use mathlib.Core.List.{List, [], _∷_, _++_}
-use Prim.Native.Nat.{ℕ, zero, suc, _<_}
+use Prim.Native.Nat.{ℕ, _<_}
 use native.Mathlib.Omega.{arith}
 use lib.ListN as L
-use lib.ListN.{length, getD}
-use Rattle.protocol.specs.Entry.{value}
-use Rattle.protocol.specs.Beginning.{_⊑_}
+use lib.ListN.{getD}
 use Rattle.protocol.specs.Vote.{Rule, byWeights}
 use Rattle.protocol.specs.Office.{path}
 use Rattle.protocol.specs.World.{World, Call, issue, at, founded, refusal, step, run}
@@ -96,7 +94,9 @@ module _ (m : Machine) (rule : Rule) (n : ℕ) (f : Follows m rule n) where
             known = i .known;
             done = f .issues (reached m (s .a)) (s .d) (i .k) (i .line) (i .code) (sound-at (s .a)) (s .middle) (ap (λ (w : World). refusal w c) (sym same) ∙ i .done);
             entry = i .entry;
-            mine = i .mine;
+            its-office = i .its-office;
+            its-line = i .its-line;
+            its-code = i .its-code;
             view = subst (λ (w : World). path (at w (i .k)) (i .k) ≡ p) same (i .view);
           }
 

@@ -1,20 +1,20 @@
 -- Demand 3 holds of every list of calls. Assumes nothing.
 use mathlib.Core.Path.{_≡_, refl, sym, ap, subst, _∙_}
-use mathlib.Core.List.{List, [], _∷_, _++_, map, reverseAux, reverse}
-use mathlib.Core.Bool.{Bool, true, false, cond, _||_}
+use mathlib.Core.List.{List, [], _∷_, _++_, reverseAux, reverse}
+use mathlib.Core.Bool.{true, false}
 use mathlib.Core.Logic.{_⊎_, inl, inr}
-use Prim.Native.Nat.{ℕ, zero, suc, _+_, _*_, _/_, _<_, _≤_}
+use Prim.Native.Nat.{ℕ, zero, suc, _<_, _≤_}
 use native.Mathlib.Nat.{le-of-suc-le-suc, not-suc-le-zero}
 use native.Mathlib.Omega.{arith}
-use lib.Dec.{eqb, ltb}
+use lib.Dec.{ltb}
 use lib.ListN as L
 use lib.ListN.{length, getD}
 use lib.Seq.{take-suc}
 use borrow.Author.Tests.{ltb-true, ltb-false}
-use Rattle.protocol.specs.Entry.{value, officeOf}
+use Rattle.protocol.specs.Entry.{value, officeOf, lineOf, codeOf}
 use Rattle.protocol.specs.Beginning.{_⊑_, _⊏_}
 use Rattle.protocol.specs.Vote.{Rule, byWeights}
-use Rattle.protocol.specs.Office.{Office, fresh, tail, path}
+use Rattle.protocol.specs.Office.{Office, fresh, path}
 use Rattle.protocol.specs.Issue.{refuseIssue}
 use Rattle.protocol.specs.World.{World, Call, issue, at, refusal, run}
 use Rattle.protocol.specs.OneOrder.{longest, settledLogs, world, IssuedIn, OneOrder}
@@ -23,7 +23,7 @@ use Rattle.protocol.proofs.Tests.{getD-map, if-cases}
 use Rattle.protocol.proofs.Beginning.{⊑-trans, ⊑-cases, ⊏-length, take-⊑}
 use Rattle.protocol.proofs.Limits.{issue-done}
 use Rattle.protocol.proofs.Lawful.{Lawful, byWeights-lawful}
-use Rattle.protocol.proofs.History.{Past, now, before, past-refl, past-trans, past-cases, after, after-length, logAt, ownAt}
+use Rattle.protocol.proofs.History.{Past, now, before, past-refl, past-trans, past-cases, after, after-length, logAt}
 use Rattle.protocol.proofs.Steady.{past-moves}
 use Rattle.protocol.proofs.Issued.{Issued}
 use Rattle.protocol.proofs.Settled.{order-issued}
@@ -83,9 +83,16 @@ find (d ∷ cs) h c m p = go (find cs (d ∷ h) c m p)
     go (inl q) = here (past-cases q)
     go (inr q) = inr (d ∷ q .0, q .1, ap (λ (l : List Call). d ∷ l) (q .2), q .3)
 
--- a done issue keeps the limits, so its office is in the value
-pub office-of : (k line code : ℕ) (o : Office) → refuseIssue k line code o ≡ 0 → officeOf (value k line code) ≡ k
-office-of k line code o h = let d = issue-done k line code o h in omega (arith, d .line-ok, d .code-ok)
+-- a done issue keeps the limits, so its office, line and code are in the value
+pub record Parts (k line code e : ℕ) : Type 0 where
+  pub office : officeOf e ≡ k
+  pub line-is : lineOf e ≡ line
+  pub code-is : codeOf e ≡ code
+
+pub parts-of : (k line code : ℕ) (o : Office) → refuseIssue k line code o ≡ 0 → (e : ℕ) → value k line code ≡ e → Parts k line code e
+parts-of k line code o h e q =
+    let d = issue-done k line code o h in
+    subst (λ (v : ℕ). Parts k line code v) q (record { office = omega (arith, d .line-ok, d .code-ok); line-is = omega (arith, d .line-ok, d .code-ok); code-is = omega (arith, d .line-ok, d .code-ok) })
 
 module _ (rule : Rule) (n : ℕ) where
   run-after : (cs h : List Call) → run rule (after rule n h) cs ≡ after rule n (reverseAux cs h)
@@ -110,6 +117,7 @@ module _ (rule : Rule) (n : ℕ) where
       go : Past (c ∷ i .moment) [] ⊎ ((a : List Call) × (b : List Call) × (a ++ (c ∷ b) ≡ cs) × (i .moment ≡ reverse a)) → IssuedIn rule n cs p e
       go (inl q) = absurd (none-first q)
       go (inr q) =
+          let parts = parts-of (i .k) (i .line) (i .code) (at (after rule n (i .moment)) (i .k)) (i .done) e (i .entry) in
           let same : after rule n (i .moment) ≡ world rule n (q .0) = ap (after rule n) (q .3) ∙ sym (world-after (q .0)) in
           record {
             k = i .k;
@@ -121,7 +129,9 @@ module _ (rule : Rule) (n : ℕ) where
             known = i .known;
             done = subst (λ (w : World). refusal w c ≡ 0) same (i .done);
             entry = i .entry;
-            mine = ap (officeOf) (sym (i .entry)) ∙ office-of (i .k) (i .line) (i .code) (at (after rule n (i .moment)) (i .k)) (i .done);
+            its-office = parts .office;
+            its-line = parts .line-is;
+            its-code = parts .code-is;
             view = subst (λ (w : World). path (at w (i .k)) (i .k) ≡ p) same (i .view);
           }
 

@@ -1,6 +1,6 @@
 -- Settled: every entry of the order was elected, by votes that were cast at its place. At each place one entry at most can be elected, so what an
 -- office settles is in the order already or comes to its end. Assumes nothing.
-use mathlib.Core.Path.{_≡_, refl, sym, ap, subst, _∙_}
+use mathlib.Core.Path.{_≡_, refl, ap, subst, _∙_}
 use mathlib.Core.List.{List, [], _∷_, _++_}
 use mathlib.Core.Option.{Option, none, some, Option·some-injective, Option·none-ne-some}
 use mathlib.Core.Logic.{_⊎_, inl, inr}
@@ -15,7 +15,7 @@ use Rattle.protocol.proofs.Lawful.{Lawful}
 use Rattle.protocol.proofs.History.{Past, logAt, ownAt}
 use Rattle.protocol.proofs.Steady.{Voted, voted-unique, voted-later}
 use Rattle.protocol.proofs.Known.{Snapshot, BallotsKnown}
-use Rattle.protocol.proofs.Issued.{EachIssued, Issued, issued-under, each-issued-wider, each-issued-self}
+use Rattle.protocol.proofs.Issued.{OwnIssued, EachIssued, issued-under, each-issued-wider, each-issued-self}
 
 or-else : Option ℕ → Option ℕ → Option ℕ
 or-else none b = b
@@ -52,7 +52,7 @@ module _ (rule : Rule) (n : ℕ) (law : Lawful rule) where
   abbrev pub EachElected : List Call → List ℕ → Type 0
   EachElected cs q = (p : List ℕ) (e : ℕ) → (p ++ (e ∷ [])) ⊑ q → Elected cs p e
 
-  -- the rule's winner at an office with backed ballots is elected
+  -- the rule's winner at an office with known ballots is elected
   pub rule-elects : (cs : List Call) (o : Office) (e : ℕ) → BallotsKnown rule n cs o → rule (o .log) (votes o) ≡ some e → Elected cs (o .log) e
   rule-elects cs o e b w = record { ballots = votes o; cast = λ k x q. go k x (tail o k) refl q; wins = law .sound (o .log) (votes o) e w }
     where
@@ -97,7 +97,7 @@ module _ (rule : Rule) (n : ℕ) (law : Lawful rule) where
           }
 
   -- the order's entries were issued, since a winner has a vote
-  pub order-issued : (cs : List Call) (q : List ℕ) → EachElected cs q → ((h : List Call) → Past h cs → (k : ℕ) → EachIssued rule n cs (logAt rule n k h) (ownAt rule n k h)) → EachIssued rule n cs q q
+  pub order-issued : (cs : List Call) (q : List ℕ) → EachElected cs q → OwnIssued rule n cs → EachIssued rule n cs q q
   order-issued cs q ok f p e i =
       let w = ok p e i in
       let k = law .voted p (w .ballots) e (w .wins) in
@@ -108,7 +108,7 @@ module _ (rule : Rule) (n : ℕ) (law : Lawful rule) where
       (⊑-trans (logAt rule n j (v .moment)) p q (v .within) (⊏-⊑ p q (snoc-⊏ p q e i))))
 
   -- an office's ballots are paths of others, or its log
-  pub ballot-issued : (cs : List Call) (q : List ℕ) (o : Office) → EachIssued rule n cs q q → o .log ⊑ q → BallotsKnown rule n cs o → ((h : List Call) → Past h cs → (k : ℕ) → EachIssued rule n cs (logAt rule n k h) (ownAt rule n k h)) → (j : ℕ) → EachIssued rule n cs (o .log) (path o j)
+  pub ballot-issued : (cs : List Call) (q : List ℕ) (o : Office) → EachIssued rule n cs q q → o .log ⊑ q → BallotsKnown rule n cs o → OwnIssued rule n cs → (j : ℕ) → EachIssued rule n cs (o .log) (path o j)
   ballot-issued cs q o g h b f j = go (⊑-cases (o .log) (path o j) (⊑-append (o .log) (tail o j)))
     where
       go : (o .log ≡ path o j) ⊎ (o .log ⊏ path o j) → EachIssued rule n cs (o .log) (path o j)

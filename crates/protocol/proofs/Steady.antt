@@ -1,16 +1,16 @@
 -- Steady: of two moments of one office, the later log begins with the earlier one, and an own path of the earlier moment that still extends the
 -- later log is a beginning of the later own path. A path that is still open was never abandoned, so an office votes once at each place.
 -- It holds of every call from every state. Assumes nothing.
-use mathlib.Core.Path.{_≡_, refl, sym, ap, subst, _∙_}
+use mathlib.Core.Path.{_≡_, sym, subst}
 use mathlib.Core.List.{List, [], _∷_, _++_}
 use mathlib.Core.Option.{Option, none, some}
-use mathlib.Core.Bool.{Bool, true, false, _&&_, cond}
+use mathlib.Core.Bool.{_&&_}
 use mathlib.Core.Logic.{_⊎_, inl, inr}
-use Prim.Native.Nat.{ℕ, zero, suc, _<_}
+use Prim.Native.Nat.{ℕ, _<_}
 use lib.Dec.{eqb}
 use lib.ListN.{length, getElem?}
 use Rattle.protocol.specs.Entry.{value}
-use Rattle.protocol.specs.Beginning.{_⊑_, _⊏_}
+use Rattle.protocol.specs.Beginning.{_⊑_}
 use Rattle.protocol.specs.Vote.{Rule}
 use Rattle.protocol.specs.Office.{Office, Message, fresh, path}
 use Rattle.protocol.specs.Issue.{withIssue}
@@ -19,7 +19,7 @@ use Rattle.protocol.specs.World.{World, Call, issue, send, take, elect, 
 use Rattle.protocol.proofs.Tests.{if-cases}
 use Rattle.protocol.proofs.Beginning.{⊑-trans, ⊑-⊏-trans, snoc-⊏, snoc-same}
 use Rattle.protocol.proofs.Office.{Moves, moves-refl, moves-trans, OfficeMoves, set-cases, issue-moves, take-moves, elect-moves}
-use Rattle.protocol.proofs.History.{Past, now, before, past-trans, past-either, after, officeAt, logAt, ownAt}
+use Rattle.protocol.proofs.History.{Past, now, before, past-trans, past-either, after, logAt, ownAt}
 
 -- ── one call ──
 put-moves : (w : World) (k : ℕ) (o : Office) (j : ℕ) → ((i : ℕ) → OfficeMoves i (at w k) o) → OfficeMoves j (at w j) (at (put w k o) j)

@@ -1,6 +1,6 @@
 -- Take keeps the invariant: the message's log is a beginning of the order, and its ballots are own paths that their offices had. Assumes nothing.
 use mathlib.Core.Path.{_≡_, refl, sym, ap, subst, _∙_}
-use mathlib.Core.List.{List, [], _∷_, _++_}
+use mathlib.Core.List.{List, [], _++_}
 use mathlib.Core.Option.{Option, none, some}
 use mathlib.Core.Logic.{_⊎_, inl, inr}
 use Prim.Native.Nat.{ℕ, _<_}
@@ -14,9 +14,9 @@ use Rattle.protocol.proofs.Tests.{if-cases}
 use Rattle.protocol.proofs.Beginning.{⊑-refl, ⊑-trans, ⊏-⊑, ⊑-⊏-trans, ⊑-either, extends-true, extends-false}
 use Rattle.protocol.proofs.Lawful.{Lawful}
 use Rattle.protocol.proofs.Office.{Offered, set-cases, rebase-path, adopting-path}
-use Rattle.protocol.proofs.History.{Past, before, past-refl, after, officeAt, logAt, ownAt}
+use Rattle.protocol.proofs.History.{before, past-refl, after, officeAt, logAt}
 use Rattle.protocol.proofs.Steady.{past-moves}
-use Rattle.protocol.proofs.Known.{Snapshot, BallotsKnown}
+use Rattle.protocol.proofs.Known.{Sent, Snapshot, BallotsKnown}
 use Rattle.protocol.proofs.Issued.{EachIssued, issued-later, each-issued-wider}
 use Rattle.protocol.proofs.Settled.{order-issued, ballot-issued}
 use Rattle.protocol.proofs.Invariant.{Invariant, Left, NextOffice, same-left}
@@ -91,7 +91,7 @@ module _ (rule : Rule) (n : ℕ) (law : Lawful rule) where
   pub known-message : (cs : List Call) (inv : Invariant rule n law cs) (i : ℕ) (m : Message) → getElem? (after rule n cs .sent) i ≡ some m → KnownMessage cs inv m
   known-message cs inv i m e = record { settled = top; known = back; issued = ballot-issued rule n law cs (inv .order) (m .state) (order-issued rule n law cs (inv .order) (inv .elected) (inv .issued)) top back (inv .issued) }
     where
-      s : (h : List Call) × Past h cs × (officeAt rule n (m .sender) h ≡ m .state)
+      s : Sent rule n cs m
       s = inv .sent i m e
 
       top : m .state .log ⊑ inv .order

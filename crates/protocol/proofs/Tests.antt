@@ -7,7 +7,7 @@ use mathlib.Core.Path.{_≡_, refl, sym, ap, ap₂, _∙_}
 use mathlib.Core.Bool.{Bool, true, false, _&&_, _||_, cond, true≢false}
 use mathlib.Core.Logic.{_⊎_, inl, inr}
 use mathlib.Core.List.{List, [], _∷_, _++_, map}
-use Prim.Native.Nat.{ℕ, zero, suc, _+_, _<_, _≤_}
+use Prim.Native.Nat.{ℕ, zero, suc, _<_}
 use native.Mathlib.Nat.{not-suc-le-zero, le-of-suc-le-suc}
 use native.Mathlib.Omega.{arith}
 use lib.Dec.{eqb}
@@ -192,3 +192,9 @@ pub getD-map : {A B : Type 0} (f : A → B) (d : A) (xs : List A) (i : ℕ) → 
 getD-map f d [] i = refl
 getD-map f d (x ∷ xs) zero = refl
 getD-map f d (x ∷ xs) (suc i) = getD-map f d xs i
+
+-- a list of one element over and over, read with that element as the default
+pub getD-replicate : {A : Type 0} (n : ℕ) (x : A) (i : ℕ) → getD (replicate n x) i x ≡ x
+getD-replicate zero x i = refl
+getD-replicate (suc n) x zero = refl
+getD-replicate (suc n) x (suc i) = getD-replicate n x i

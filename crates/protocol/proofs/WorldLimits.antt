@@ -1,13 +1,13 @@
 -- Every office of the world, and the state in every sent message, stays within the limits. Assumes nothing.
-use mathlib.Core.Path.{_≡_, refl, sym, ap, subst, _∙_}
-use mathlib.Core.Bool.{Bool, true, _&&_}
+use mathlib.Core.Path.{_≡_, refl, sym, subst, _∙_}
+use mathlib.Core.Bool.{true, _&&_}
 use mathlib.Core.List.{List, [], _∷_}
 use mathlib.Core.Option.{Option, none, some, Option·none-ne-some, Option·some-injective}
 use mathlib.Core.Logic.{_⊎_, inl, inr}
 use Prim.Native.Nat.{ℕ, zero, suc, _<_, _≤_}
 use native.Mathlib.Omega.{arith}
 use lib.Dec.{eqb, ltb}
-use lib.ListN.{length, getD, replicate, getElem?, length-set, length-replicate}
+use lib.ListN.{length, getElem?, length-set, length-replicate}
 use borrow.Author.Tests.{eqb-true, ltb-true}
 use Rattle.protocol.specs.Entry.{value}
 use Rattle.protocol.specs.Vote.{Rule}
@@ -15,7 +15,7 @@ use Rattle.protocol.specs.Office.{Office, Message, fresh}
 use Rattle.protocol.specs.Issue.{withIssue}
 use Rattle.protocol.specs.Elect.{withElect}
 use Rattle.protocol.specs.World.{World, Call, issue, send, take, elect, idle, founded, at, put, names, taking, refuseTaking, refusal, done, step, run}
-use Rattle.protocol.proofs.Tests.{and-true, if-cases}
+use Rattle.protocol.proofs.Tests.{and-true, if-cases, getD-replicate}
 use Rattle.protocol.proofs.Vote.{NamesVoted}
 use Rattle.protocol.proofs.Office.{set-cases}
 use Rattle.protocol.proofs.Limits.{Fine, fresh-fine, issue-done-fine, take-done-fine, elect-fine}
@@ -26,12 +26,11 @@ pub record WorldFine (n : ℕ) (w : World) : Type 0 where
   pub message : (i : ℕ) (m : Message) → getElem? (w .sent) i ≡ some m → (m .sender < n) × Fine n (m .state)
 
 pub founded-fine : (n : ℕ) → WorldFine n (founded n)
-founded-fine n = record { all = length-replicate n fresh; office = λ k. subst (λ (o : Office). Fine n o) (go n k) (fresh-fine n); message = λ i m e. absurd (Option·none-ne-some m e) }
-  where
-    go : (c k : ℕ) → fresh ≡ getD (replicate c fresh) k fresh
-    go zero k = refl
-    go (suc c) zero = refl
-    go (suc c) (suc k) = go c k
+founded-fine n = record {
+  all = length-replicate n fresh;
+  office = λ k. subst (λ (o : Office). Fine n o) (sym (getD-replicate n fresh k)) (fresh-fine n);
+  message = λ i m e. absurd (Option·none-ne-some m e);
+}
 
 put-fine : (n : ℕ) (w : World) → WorldFine n w → (k : ℕ) (o : Office) → Fine n o → WorldFine n (put w k o)
 put-fine n w f k o g = record { all = length-set (w .offices) k o ∙ f .all; office = λ j. go j (set-cases (w .offices) k o fresh j); message = f .message }

@@ -4,7 +4,7 @@ use mathlib.Core.List.{List, [], _∷_, _++_}
 use Prim.Native.Nat.{ℕ, _<_}
 use lib.ListN as L
 use lib.ListN.{length, getD}
-use Rattle.protocol.specs.Entry.{value, officeOf}
+use Rattle.protocol.specs.Entry.{value, officeOf, lineOf, codeOf}
 use Rattle.protocol.specs.Beginning.{_⊑_}
 use Rattle.protocol.specs.Vote.{Rule}
 use Rattle.protocol.specs.Office.{path}
@@ -52,10 +52,12 @@ pub record IssuedBy (m : Machine) (n : ℕ) (cs : List (m .C)) (p : List ℕ) (e
   pub known : k < n
   pub done : m .number (reached m earlier) c ≡ 0
   pub entry : value k line code ≡ e
-  pub mine : officeOf e ≡ k
+  pub its-office : officeOf e ≡ k
+  pub its-line : lineOf e ≡ line
+  pub its-code : codeOf e ≡ code
   pub view : path (at (m .view (reached m earlier)) k) k ≡ p
 
--- Demand 3 of the machine's calls, oldest first
+-- Demand 3 of the machine's calls, oldest first: one claim about the whole list and all its offices
 pub record OneOrderOf (m : Machine) (n : ℕ) (cs : List (m .C)) : Type 0 where
   -- "the longest settled log that any office has after the list"
   pub order : List ℕ

@@ -6,7 +6,7 @@ use Prim.Native.Nat.{ℕ, _<_}
 use lib.Dec.{ltb}
 use lib.ListN as L
 use lib.ListN.{length, getD}
-use Rattle.protocol.specs.Entry.{value, officeOf}
+use Rattle.protocol.specs.Entry.{value, officeOf, lineOf, codeOf}
 use Rattle.protocol.specs.Beginning.{_⊑_}
 use Rattle.protocol.specs.Vote.{Rule}
 use Rattle.protocol.specs.Office.{Office, path}
@@ -36,9 +36,12 @@ pub record IssuedIn (rule : Rule) (n : ℕ) (cs : List Call) (p : List ℕ) (e :
   pub known : k < n
   pub done : refusal (world rule n earlier) (issue k line code) ≡ 0
   pub entry : value k line code ≡ e
-  pub mine : officeOf e ≡ k
+  pub its-office : officeOf e ≡ k
+  pub its-line : lineOf e ≡ line
+  pub its-code : codeOf e ≡ code
   pub view : path (at (world rule n earlier) k) k ≡ p
 
+-- Demand 3: one claim about the whole list and all its offices
 pub record OneOrder (rule : Rule) (n : ℕ) (cs : List Call) : Type 0 where
   -- "the longest settled log that any office has after the list"
   pub order : List ℕ
