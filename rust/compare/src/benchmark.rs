@@ -1,0 +1,259 @@
+//! Times of the engine's calls and of the second implementation's, in one run.
+
+use std::hint::black_box;
+use std::time::Instant;
+
+use joukerpan_sys as engine;
+use joukerpan_sys::Weights;
+use second::calls as plain;
+use second::message::LONGEST;
+use second::record::{entry, sound, Ballot, Record, LOG, OFFICES, TAIL};
+
+use crate::engine::to_engine;
+use crate::samples::Sample;
+
+/// Pairs of batches of each case; their order changes from pair to pair.
+const PAIRS: usize = 61;
+/// Nanoseconds that a batch takes, about.
+const BATCH: f64 = 300_000.0;
+const WEIGHTS: [u16; OFFICES] = [40, 35, 25, 20, 15, 10, 5, 1];
+
+/// What the ballots of a state hold.
+#[derive(Clone, Copy, PartialEq)]
+pub enum Ballots {
+    /// None.
+    Empty,
+    /// Eight tails of 32, the same one: an election settles all of it.
+    Alike,
+    /// Eight tails of 32 with different first entries: an election settles one entry.
+    Apart,
+}
+
+impl Ballots {
+    fn name(self) -> &'static str {
+        match self {
+            Ballots::Empty => "empty",
+            Ballots::Alike => "full",
+            Ballots::Apart => "full, apart",
+        }
+    }
+}
+
+/// An office of eight with a settled log of this length. Line 63 is in no entry.
+pub fn state(settled: usize, ballots: Ballots, own: usize) -> Sample {
+    let word = |at: usize| entry(at % OFFICES, at as u32 % 63, at as u32 % 10_000);
+    let mut log = vec![0; LOG];
+    for (at, place) in log[..settled].iter_mut().enumerate() {
+        *place = word(at);
+    }
+    let mut record = Record { n: OFFICES, own, weights: WEIGHTS, settled, ..Record::ZERO };
+    for (office, ballot) in record.ballots.iter_mut().enumerate() {
+        if ballots == Ballots::Empty {
+            continue;
+        }
+        *ballot = Ballot { len: TAIL, ..Ballot::NONE };
+        for (at, cell) in ballot.cells.iter_mut().enumerate() {
+            *cell = word(settled + at);
+        }
+        if ballots == Ballots::Apart {
+            ballot.cells[0] = entry(office, 5, 120);
+        }
+    }
+    Sample { record, log }
+}
+
+/// One case: a call of both on the same state.
+struct Case {
+    call: String,
+    settled: usize,
+    ballots: &'static str,
+    engine: Box<dyn FnMut()>,
+    second: Box<dyn FnMut()>,
+}
+
+/// Median times of a case, in nanoseconds, and the median of the pairs' ratios.
+struct Time {
+    engine: f64,
+    second: f64,
+    ratio: f64,
+}
+
+/// Nanoseconds of one of several calls.
+fn batch(call: &mut dyn FnMut(), times: usize) -> f64 {
+    let start = Instant::now();
+    for _ in 0..times {
+        call();
+    }
+    start.elapsed().as_nanos() as f64 / times as f64
+}
+
+fn median(mut values: Vec<f64>) -> f64 {
+    values.sort_by(f64::total_cmp);
+    values[values.len() / 2]
+}
+
+impl Case {
+    fn time(&mut self) -> Time {
+        batch(&mut self.engine, 100);
+        let once = batch(&mut self.second, 100).max(1.0);
+        let times = (BATCH / once) as usize + 1;
+        let (mut engine, mut second, mut ratios) = (vec![], vec![], vec![]);
+        for pair in 0..PAIRS {
+            let first = if pair % 2 == 0 { batch(&mut self.engine, times) } else { 0.0 };
+            let plain = batch(&mut self.second, times);
+            let proved = if pair % 2 == 0 { first } else { batch(&mut self.engine, times) };
+            engine.push(proved);
+            second.push(plain);
+            ratios.push(proved / plain);
+        }
+        Time { engine: median(engine), second: median(second), ratio: median(ratios) }
+    }
+}
+
+/// A closure that makes a call and looks at its whole answer. An engine's call is made with pointers into
+/// buffers that the closure owns, so each of them is safe.
+macro_rules! call {
+    ($call:expr) => {
+        Box::new(move || {
+            black_box(&$call);
+        })
+    };
+}
+
+/// The calls that only read, or change the record alone.
+fn reading_cases(settled: usize, ballots: Ballots, cases: &mut Vec<Case>) {
+    let Sample { record, log } = state(settled, ballots, 0);
+    let proved = to_engine(&record);
+    let mut case = |call: &str, engine: Box<dyn FnMut()>, second: Box<dyn FnMut()>| {
+        cases.push(Case { call: call.into(), settled, ballots: ballots.name(), engine, second });
+    };
+    let (a, b) = (log.clone(), log.clone());
+    case(
+        "sound",
+        call!(unsafe { engine::joukerpan_sound(*black_box(&proved), a.as_ptr(), LOG) }),
+        call!(sound(black_box(&record), &b)),
+    );
+    let (a, b) = (log.clone(), log.clone());
+    case(
+        "settled",
+        call!(unsafe { engine::joukerpan_settled(*black_box(&proved), a.as_ptr(), LOG) }),
+        call!(plain::settled(black_box(&record), &b)),
+    );
+    let newest = (settled as u32).saturating_sub(1) % 63;
+    for (name, line) in [("settled frame, newest entry", newest), ("settled frame, no entry", 63)] {
+        let (a, b) = (log.clone(), log.clone());
+        case(
+            name,
+            call!(unsafe { engine::joukerpan_settled_frame(*black_box(&proved), a.as_ptr(), LOG, black_box(line)) }),
+            call!(plain::settled_frame(black_box(&record), &b, black_box(line))),
+        );
+    }
+    let (a, b) = (log.clone(), log.clone());
+    case(
+        "tentative frame, no entry",
+        call!(unsafe { engine::joukerpan_tentative_frame(*black_box(&proved), a.as_ptr(), LOG, black_box(63)) }),
+        call!(plain::tentative_frame(black_box(&record), &b, black_box(63))),
+    );
+    let (a, b) = (log.clone(), log.clone());
+    case(
+        "issue",
+        call!(unsafe { engine::joukerpan_issue(*black_box(&proved), a.as_ptr(), LOG, 5, black_box(120)) }),
+        call!(plain::issue(*black_box(&record), &b, 5, black_box(120))),
+    );
+    let (a, b) = (log.clone(), log);
+    let (mut c, mut d) = (vec![0; LONGEST], vec![0; LONGEST]);
+    case(
+        "send",
+        call!(unsafe { engine::joukerpan_send(*black_box(&proved), a.as_ptr(), LOG, c.as_mut_ptr(), LONGEST) }),
+        call!(second::message::send(black_box(&record), &b, black_box(&mut d))),
+    );
+}
+
+/// An election. Its words past the settled ones are the same after every call.
+fn elect_case(settled: usize, ballots: Ballots, cases: &mut Vec<Case>) {
+    let Sample { record, log } = state(settled, ballots, 0);
+    let proved = to_engine(&record);
+    let (mut a, mut b) = (log.clone(), log);
+    cases.push(Case {
+        call: "elect".into(),
+        settled,
+        ballots: ballots.name(),
+        engine: call!(unsafe { engine::joukerpan_elect(*black_box(&proved), a.as_mut_ptr(), LOG) }),
+        second: call!(second::elect::elect(*black_box(&record), &mut b)),
+    });
+}
+
+/// A take. Its words past the settled ones are the same after every call.
+fn take_case(name: &str, receiver: Sample, sender: Sample, ballots: &'static str, cases: &mut Vec<Case>) {
+    let Sample { record, log } = receiver;
+    let proved = to_engine(&record);
+    let (mut a, mut b) = (log.clone(), log);
+    let (c, d) = (sender.message(), sender.message());
+    cases.push(Case {
+        call: format!("take, {name}"),
+        settled: sender.record.settled,
+        ballots,
+        engine: call!(unsafe { engine::joukerpan_take(*black_box(&proved), a.as_mut_ptr(), LOG, c.as_ptr(), c.len()) }),
+        second: call!(second::take::take(*black_box(&record), &mut b, black_box(&d))),
+    });
+}
+
+/// Founding; nothing in it grows.
+fn found_case(cases: &mut Vec<Case>) {
+    let (a, b) = (vec![0; LOG], vec![0; LOG]);
+    cases.push(Case {
+        call: "found".into(),
+        settled: 0,
+        ballots: "empty",
+        engine: call!(unsafe { engine::joukerpan_found(8, 0, Weights { of: black_box(WEIGHTS) }, a.as_ptr(), LOG) }),
+        second: call!(plain::found(8, 0, black_box(WEIGHTS), &b)),
+    });
+}
+
+fn cases() -> Vec<Case> {
+    let mut cases = vec![];
+    found_case(&mut cases);
+    for ballots in [Ballots::Empty, Ballots::Alike] {
+        let most = if ballots == Ballots::Empty { LOG } else { LOG - TAIL };
+        for settled in [0, 256, most] {
+            reading_cases(settled, ballots, &mut cases);
+            elect_case(settled, ballots, &mut cases);
+            let name = ballots.name();
+            let (receiver, sender) = (state(settled, ballots, 0), state(settled, ballots, 1));
+            take_case("nothing new", receiver, sender.clone(), name, &mut cases);
+            if settled > 0 || ballots == Ballots::Alike {
+                take_case("all new", state(0, Ballots::Empty, 0), sender, name, &mut cases);
+            }
+        }
+    }
+    elect_case(LOG - TAIL, Ballots::Apart, &mut cases);
+    cases.sort_by(|a, b| a.call.cmp(&b.call));
+    cases
+}
+
+/// Prints a table of the times and their ratios, and one of how each call grows with the log.
+pub fn print() {
+    let mut rows: Vec<(Case, Time)> = vec![];
+    println!("| Call | Settled | Ballots | Engine, ns | Second, ns | Ratio |");
+    println!("|---|---:|---|---:|---:|---:|");
+    for mut case in cases() {
+        let time = case.time();
+        println!(
+            "| {} | {} | {} | {:.0} | {:.0} | {:.2} |",
+            case.call, case.settled, case.ballots, time.engine, time.second, time.ratio
+        );
+        rows.push((case, time));
+    }
+    println!("\n| Call | Ballots | Engine, ns a settled entry | Second, ns a settled entry | Ratio |");
+    println!("|---|---|---:|---:|---:|");
+    for (long, most) in rows.iter().filter(|(case, _)| case.settled >= LOG - TAIL) {
+        let short = rows
+            .iter()
+            .find(|(case, _)| (case.call == long.call && case.ballots == long.ballots) && case.settled < long.settled);
+        if let Some((short, least)) = short {
+            let entries = (long.settled - short.settled) as f64;
+            let (engine, second) = ((most.engine - least.engine) / entries, (most.second - least.second) / entries);
+            println!("| {} | {} | {engine:.2} | {second:.2} | {:.2} |", long.call, long.ballots, engine / second);
+        }
+    }
+}

@@ -1,0 +1,300 @@
+//! Every call on random input: the whole answer, the record, the log and the output of both, compared.
+
+use std::fmt::Debug;
+
+use second::calls as plain;
+use second::message::LONGEST;
+use second::random::Random;
+use second::record::{sound, Record, LOG, OFFICES, UNSOUND};
+
+use crate::engine;
+use crate::forge::{any_bytes, damaged, forged};
+use crate::samples::{any_sample, break_clause, huge, Family, Sample, CLAUSES};
+
+/// The calls, in the order of the tally.
+const CALLS: [&str; 9] =
+    ["found", "sound", "issue", "settled", "settled frame", "tentative frame", "elect", "send", "take"];
+const NUMBERS: usize = 11;
+/// Elements on both sides of a lent buffer that no call may touch.
+const GUARD: usize = 16;
+/// Calls on one record, one after the other.
+const CALLS_A_ROUND: usize = 8;
+
+/// How often each call answered each number, and what else was seen.
+#[derive(Default)]
+struct Tally {
+    numbers: [[u64; NUMBERS]; CALLS.len()],
+    clauses: [u64; CLAUSES.len()],
+    elected_one: u64,
+    elected_more: u64,
+    grown: u64,
+    adopted: u64,
+    long_logs: u64,
+}
+
+/// A buffer that is lent, between guards.
+#[derive(Clone, PartialEq)]
+struct Lent<T>(Vec<T>);
+
+impl<T: Copy + Default> Lent<T> {
+    fn new(contents: &[T]) -> Lent<T> {
+        let guard = [T::default(); GUARD];
+        Lent([&guard, contents, &guard].concat())
+    }
+
+    fn part(&self) -> &[T] {
+        &self.0[GUARD..self.0.len() - GUARD]
+    }
+
+    fn part_mut(&mut self) -> &mut [T] {
+        let end = self.0.len() - GUARD;
+        &mut self.0[GUARD..end]
+    }
+}
+
+/// Says where two values part, if they do.
+fn same<T: PartialEq + Debug>(what: &str, engine: T, second: T) -> Result<(), String> {
+    if engine == second {
+        return Ok(());
+    }
+    Err(format!("{what}\n  engine: {engine:?}\n  second: {second:?}"))
+}
+
+/// Says where two buffers part, if they do; guards count as places below 0 and past the end.
+fn same_lent<T: PartialEq + Debug>(what: &str, engine: &Lent<T>, second: &Lent<T>) -> Result<(), String> {
+    let pairs = engine.0.iter().zip(&second.0);
+    match pairs.enumerate().find(|(_, (engine, second))| engine != second) {
+        None => Ok(()),
+        Some((at, (engine, second))) => {
+            Err(format!("{what} at {}\n  engine: {engine:?}\n  second: {second:?}", at as isize - GUARD as isize))
+        }
+    }
+}
+
+/// One record and its log, under both.
+struct Trial<'a> {
+    random: &'a mut Random,
+    tally: &'a mut Tally,
+    record: Record,
+    log: Lent<u32>,
+}
+
+impl Trial<'_> {
+    /// Counts the number that a call answered.
+    fn count(&mut self, call: usize, number: u32) {
+        self.tally.numbers[call][number as usize] += 1;
+    }
+
+    /// A line or a code, around its limit or anywhere.
+    fn number(&mut self, limit: u32) -> u32 {
+        match self.random.below(8) {
+            0 => limit,
+            1 => limit - 1,
+            2 => self.random.bits() as u32,
+            3 => u32::MAX,
+            _ => self.random.pick(&[0, 1, 5, 5, 62, 63]),
+        }
+    }
+
+    fn found(&mut self) -> Result<(), String> {
+        let mut n = self.record.n;
+        let mut own = self.record.own;
+        let mut weights = self.record.weights;
+        let far = huge(self.random);
+        match self.random.below(6) {
+            0 => n = self.random.pick(&[0, 1, 8, 9, far]),
+            1 => own = self.random.pick(&[0, 7, 8, n, far]),
+            2 => weights = [0; OFFICES],
+            3 => weights[self.random.below(OFFICES)] = self.random.pick(&[0, 1, u16::MAX]),
+            _ => {}
+        }
+        let answer = plain::found(n, own, weights, self.log.part());
+        self.count(0, answer.0);
+        same("found", engine::found(n, own, weights, self.log.part()), answer)
+    }
+
+    fn sound(&mut self) -> Result<(), String> {
+        let answer = sound(&self.record, self.log.part());
+        self.count(1, u32::from(!answer));
+        same("sound", engine::sound(&self.record, self.log.part()), answer)
+    }
+
+    fn issue(&mut self) -> Result<(), String> {
+        let (line, code) = (self.number(64), self.number(10_000));
+        let answer = plain::issue(self.record, self.log.part(), line, code);
+        self.count(2, answer.0);
+        same(&format!("issue of {line} {code}"), engine::issue(&self.record, self.log.part(), line, code), answer)?;
+        self.record = answer.1;
+        Ok(())
+    }
+
+    fn settled(&mut self) -> Result<(), String> {
+        let (number, part) = plain::settled(&self.record, self.log.part());
+        let answer = (number, part.len());
+        self.count(3, number);
+        same("settled", engine::settled(&self.record, self.log.part()), answer)
+    }
+
+    fn frames(&mut self) -> Result<(), String> {
+        let line = self.number(64);
+        let answer = plain::settled_frame(&self.record, self.log.part(), line);
+        self.count(4, answer.0);
+        same(&format!("settled frame of {line}"), engine::settled_frame(&self.record, self.log.part(), line), answer)?;
+        let answer = plain::tentative_frame(&self.record, self.log.part(), line);
+        self.count(5, answer.0);
+        let engine = engine::tentative_frame(&self.record, self.log.part(), line);
+        same(&format!("tentative frame of {line}"), engine, answer)
+    }
+
+    fn elect(&mut self) -> Result<(), String> {
+        let mut log = self.log.clone();
+        let engine = engine::elect(&self.record, log.part_mut());
+        let answer = second::elect::elect(self.record, self.log.part_mut());
+        self.count(6, answer.0);
+        self.tally.elected_one += u64::from(answer.1 == 1);
+        self.tally.elected_more += u64::from(answer.1 > 1);
+        same("elect", engine, answer)?;
+        same_lent("elect's log", &log, &self.log)?;
+        self.record = answer.2;
+        Ok(())
+    }
+
+    /// Sends into outputs of lengths around the message's.
+    fn send(&mut self) -> Result<(), String> {
+        let mut message = vec![0; LONGEST];
+        let length = second::message::send(&self.record, self.log.part(), &mut message).1;
+        let any = self.random.below(LONGEST + 100);
+        let near = length.saturating_sub(self.random.below(40));
+        let length = self.random.pick(&[length, length + 1, length.saturating_sub(1), 0, near, any, LONGEST]);
+        let filler = self.random.bits() as u8;
+        let mut output = Lent::new(&vec![filler; length]);
+        let mut engine_output = output.clone();
+        let engine = engine::send(&self.record, self.log.part(), engine_output.part_mut());
+        let answer = second::message::send(&self.record, self.log.part(), output.part_mut());
+        self.count(7, answer.0);
+        same(&format!("send into {length} bytes"), engine, answer)?;
+        same_lent("send's output", &engine_output, &output)
+    }
+
+    fn take(&mut self, family: &Family) -> Result<(), String> {
+        let message = self.message(family);
+        let mut log = self.log.clone();
+        let engine = engine::take(&self.record, log.part_mut(), &message);
+        let answer = second::take::take(self.record, self.log.part_mut(), &message);
+        self.count(8, answer.0);
+        self.tally.grown += u64::from(answer.1.settled > self.record.settled);
+        self.tally.adopted += u64::from(answer.1.ballots != self.record.ballots);
+        same(&format!("take of {message:02X?}"), engine, answer)?;
+        same_lent("take's log", &log, &self.log)?;
+        self.record = answer.1;
+        Ok(())
+    }
+
+    /// A message: sent by a related office or by others, forged, damaged, or any bytes.
+    fn message(&mut self, family: &Family) -> Vec<u8> {
+        let random = &mut *self.random;
+        let mut sender = family.office(random);
+        if sender == self.record.own && random.percent(80) {
+            sender = family.office(random);
+        }
+        let kind = random.below(20);
+        let from = match kind {
+            0 | 1 => family.other_offices(random).sample(random, sender),
+            _ => family.sample(random, sender),
+        };
+        match kind {
+            2..=6 => return forged(random, &from),
+            7 => return any_bytes(random),
+            _ => {}
+        }
+        let mut message = vec![0; LONGEST];
+        let (_, length) = second::message::send(&from.record, &from.log, &mut message);
+        message.truncate(length);
+        if kind < 11 {
+            return damaged(random, message);
+        }
+        message
+    }
+
+    /// One call of any kind.
+    fn call(&mut self, family: &Family) -> Result<(), String> {
+        match self.random.below(12) {
+            0 => self.found(),
+            1 => self.sound(),
+            2 | 3 => self.issue(),
+            4 => self.settled(),
+            5 => self.frames(),
+            6 | 7 => self.elect(),
+            8 => self.send(),
+            _ => self.take(family),
+        }
+    }
+}
+
+/// A record and its log: sound, with one clause broken, with several broken, or any numbers.
+fn sample(random: &mut Random, tally: &mut Tally, family: &Family) -> Sample {
+    let own = family.office(random);
+    let mut sample = family.sample(random, own);
+    match random.below(20) {
+        0..=12 => assert!(sound(&sample.record, &sample.log), "a sample is sound"),
+        13..=16 => {
+            let clause = random.below(CLAUSES.len());
+            break_clause(random, clause, &mut sample);
+            assert!(!sound(&sample.record, &sample.log), "broken: {}", CLAUSES[clause]);
+            tally.clauses[clause] += 1;
+        }
+        17 | 18 => {
+            for _ in 0..random.within(2, 4) {
+                let clause = random.below(CLAUSES.len());
+                break_clause(random, clause, &mut sample);
+            }
+        }
+        _ => sample = any_sample(random),
+    }
+    tally.long_logs += u64::from(sample.log.len() > LOG);
+    sample
+}
+
+/// Runs rounds of calls and prints what was seen; says whether all answers were alike.
+pub fn compare(seed: u64, rounds: u64) -> bool {
+    let mut random = Random::new(seed);
+    let mut tally = Tally::default();
+    for round in 0..rounds {
+        let family = Family::new(&mut random);
+        let Sample { record, log } = sample(&mut random, &mut tally, &family);
+        let log = Lent::new(&log);
+        let mut trial = Trial { random: &mut random, tally: &mut tally, record, log };
+        for call in 0..CALLS_A_ROUND {
+            let before = trial.record;
+            if let Err(difference) = trial.call(&family) {
+                println!("seed {seed}, round {round}, call {call}: {difference}");
+                println!("record: {before:?}\nlog length: {}", trial.log.part().len());
+                println!("settled: {:?}", &trial.log.part().get(..before.settled));
+                return false;
+            }
+        }
+    }
+    tally.print(seed);
+    true
+}
+
+impl Tally {
+    fn print(&self, seed: u64) {
+        let calls: u64 = self.numbers.iter().flatten().sum();
+        println!("seed {seed}: {calls} calls, all alike");
+        println!("\n| Call | {} |", (0..NUMBERS).map(|number| number.to_string()).collect::<Vec<_>>().join(" | "));
+        println!("|---|{}", "---:|".repeat(NUMBERS));
+        for (call, numbers) in CALLS.iter().zip(&self.numbers) {
+            let cells: Vec<String> =
+                numbers.iter().map(|&count| if count == 0 { String::new() } else { count.to_string() }).collect();
+            println!("| {call} | {} |", cells.join(" | "));
+        }
+        println!("\nelections of one entry {}, of more {}", self.elected_one, self.elected_more);
+        println!("takes that grew the log {}, that changed a ballot {}", self.grown, self.adopted);
+        println!("logs above {LOG} words {}", self.long_logs);
+        println!("records refused with {UNSOUND} for one broken clause:");
+        for (clause, count) in CLAUSES.iter().zip(&self.clauses) {
+            println!("  {clause}: {count}");
+        }
+    }
+}

@@ -1,0 +1,71 @@
+//! The engine's calls with the second implementation's types, which have the same layout.
+
+use std::mem::{size_of, transmute};
+
+use joukerpan_sys as engine;
+use joukerpan_sys::Weights;
+use second::record::{Record, OFFICES};
+
+const _: () = assert!(size_of::<Record>() == size_of::<engine::Record>());
+
+/// The record as the engine declares it.
+pub fn to_engine(record: &Record) -> engine::Record {
+    // SAFETY: both are `repr(C)` with the same fields, and hold nothing but numbers.
+    unsafe { transmute::<Record, engine::Record>(*record) }
+}
+
+/// The record as the second implementation declares it.
+fn from_engine(record: engine::Record) -> Record {
+    // SAFETY: as in `to_engine`.
+    unsafe { transmute::<engine::Record, Record>(record) }
+}
+
+// SAFETY of every call below: a slice names its elements for as long as the call lasts, and one that
+// the engine writes is lent to that call alone.
+
+pub fn found(n: usize, own: usize, weights: [u16; OFFICES], log: &[u32]) -> (u32, Record) {
+    let answer = unsafe { engine::joukerpan_found(n, own, Weights { of: weights }, log.as_ptr(), log.len()) };
+    (answer.number, from_engine(answer.record))
+}
+
+pub fn sound(record: &Record, log: &[u32]) -> bool {
+    unsafe { engine::joukerpan_sound(to_engine(record), log.as_ptr(), log.len()) }
+}
+
+pub fn issue(record: &Record, log: &[u32], line: u32, code: u32) -> (u32, Record) {
+    let answer = unsafe { engine::joukerpan_issue(to_engine(record), log.as_ptr(), log.len(), line, code) };
+    (answer.number, from_engine(answer.record))
+}
+
+pub fn settled(record: &Record, log: &[u32]) -> (u32, usize) {
+    let answer = unsafe { engine::joukerpan_settled(to_engine(record), log.as_ptr(), log.len()) };
+    (answer.number, answer.length)
+}
+
+pub fn settled_frame(record: &Record, log: &[u32], line: u32) -> (u32, u32) {
+    let answer = unsafe { engine::joukerpan_settled_frame(to_engine(record), log.as_ptr(), log.len(), line) };
+    (answer.number, answer.code)
+}
+
+pub fn tentative_frame(record: &Record, log: &[u32], line: u32) -> (u32, u32) {
+    let answer = unsafe { engine::joukerpan_tentative_frame(to_engine(record), log.as_ptr(), log.len(), line) };
+    (answer.number, answer.code)
+}
+
+pub fn elect(record: &Record, log: &mut [u32]) -> (u32, usize, Record) {
+    let answer = unsafe { engine::joukerpan_elect(to_engine(record), log.as_mut_ptr(), log.len()) };
+    (answer.number, answer.count, from_engine(answer.record))
+}
+
+pub fn send(record: &Record, log: &[u32], output: &mut [u8]) -> (u32, usize) {
+    let record = to_engine(record);
+    let answer = unsafe { engine::joukerpan_send(record, log.as_ptr(), log.len(), output.as_mut_ptr(), output.len()) };
+    (answer.number, answer.length)
+}
+
+pub fn take(record: &Record, log: &mut [u32], message: &[u8]) -> (u32, Record) {
+    let record = to_engine(record);
+    let answer =
+        unsafe { engine::joukerpan_take(record, log.as_mut_ptr(), log.len(), message.as_ptr(), message.len()) };
+    (answer.number, from_engine(answer.record))
+}

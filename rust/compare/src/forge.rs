@@ -1,0 +1,174 @@
+//! Messages: spelled from parts, so that each part can be made wrong by itself, and damaged bytes.
+
+use second::random::Random;
+use second::record::{LOG, TAIL};
+
+use crate::samples::{any_entry, no_entry, Sample};
+
+/// A ballot of a message: the office and the length as they are written, and the values.
+#[derive(Clone)]
+struct Spelled {
+    office: u8,
+    length: u8,
+    values: Vec<u32>,
+}
+
+/// The parts of a message, as they are written.
+struct Forged {
+    sender: u8,
+    n: u8,
+    weights: Vec<u16>,
+    settled: u16,
+    log: Vec<u32>,
+    ballots: Vec<Spelled>,
+    after: Vec<u8>,
+}
+
+impl Forged {
+    /// The parts of the message that a sound record sends.
+    fn of(sample: &Sample) -> Forged {
+        let record = &sample.record;
+        let ballots = record.ballots[..record.n].iter().enumerate().filter(|(_, ballot)| ballot.len > 0);
+        let spelled = ballots.map(|(office, ballot)| Spelled {
+            office: office as u8,
+            length: ballot.len as u8,
+            values: ballot.tail().to_vec(),
+        });
+        Forged {
+            sender: record.own as u8,
+            n: record.n as u8,
+            weights: record.weights[..record.n].to_vec(),
+            settled: record.settled as u16,
+            log: sample.log[..record.settled].to_vec(),
+            ballots: spelled.collect(),
+            after: vec![],
+        }
+    }
+
+    /// The bytes.
+    fn spell(&self) -> Vec<u8> {
+        let mut bytes = vec![0x53, 0x48, self.sender, self.n];
+        bytes.extend(self.weights.iter().flat_map(|weight| weight.to_be_bytes()));
+        bytes.extend(self.settled.to_be_bytes());
+        for value in &self.log {
+            bytes.extend([0x4C, 0x47]);
+            bytes.extend(value.to_be_bytes());
+        }
+        for ballot in &self.ballots {
+            bytes.extend([0x42, 0x41, ballot.office, ballot.length]);
+            bytes.extend(ballot.values.iter().flat_map(|value| value.to_be_bytes()));
+        }
+        bytes.extend([0x45, 0x4E]);
+        bytes.extend(&self.after);
+        bytes
+    }
+
+    /// Changes one part; most changes make a message that is refused.
+    fn change(&mut self, random: &mut Random) {
+        let n = usize::from(self.n).clamp(1, 8);
+        match random.below(14) {
+            0 => self.sender = random.pick(&[self.n, self.n.wrapping_add(1), 8, 255]),
+            1 => self.sender = random.below(n) as u8,
+            2 => self.n = random.pick(&[0, self.n.wrapping_sub(1), self.n.wrapping_add(1), 8, 9, 255]),
+            3 => self.other_weights(random),
+            4 => self.settled = random.pick(&[self.settled ^ 1, self.settled.wrapping_add(1), 1025, 65535]),
+            5 if !self.log.is_empty() => {
+                let at = random.below(self.log.len());
+                self.log[at] = if random.percent(50) { no_entry(random, n) } else { any_entry(random, n) };
+            }
+            5 | 6 => self.longer_log(random, n),
+            7 => self.after = vec![random.pick(&[0, 0x45]); random.within(1, 2)],
+            8 => self.ballots.reverse(),
+            9 => self.ballots.push(Spelled {
+                office: random.below(10) as u8,
+                length: 1,
+                values: vec![any_entry(random, n)],
+            }),
+            10 => self.ballots.insert(0, Spelled { office: 0, length: 0, values: vec![] }),
+            _ => self.change_ballot(random, n),
+        }
+    }
+
+    /// Other weights, or one more or fewer than n says.
+    fn other_weights(&mut self, random: &mut Random) {
+        match random.below(4) {
+            0 => self.weights.push(0),
+            1 => self.weights = vec![0; self.weights.len()],
+            _ => {
+                let at = random.below(self.weights.len());
+                self.weights[at] ^= 1 << random.below(16);
+            }
+        }
+    }
+
+    /// A longer log: by one entry, or up to a limit.
+    fn longer_log(&mut self, random: &mut Random, n: usize) {
+        let length = random.pick(&[self.log.len() + 1, LOG - TAIL + 1, LOG, LOG + 1]);
+        while self.log.len() < length {
+            self.log.push(any_entry(random, n));
+        }
+        self.settled = self.log.len() as u16;
+    }
+
+    /// Changes one ballot: its office, its length, its values, or both.
+    fn change_ballot(&mut self, random: &mut Random, n: usize) {
+        let count = self.ballots.len();
+        if count == 0 {
+            return;
+        }
+        let ballot = &mut self.ballots[random.below(count)];
+        match random.below(5) {
+            0 => ballot.office = random.pick(&[0, n as u8, 8, 255]),
+            1 => ballot.length = random.pick(&[0, ballot.length ^ 1, 33, 255]),
+            2 if !ballot.values.is_empty() => {
+                let at = random.below(ballot.values.len());
+                ballot.values[at] = if random.percent(50) { no_entry(random, n) } else { any_entry(random, n) };
+            }
+            3 => {
+                let length = random.pick(&[31, 32, 32, 33]);
+                ballot.values.resize_with(length, || any_entry(random, n));
+                ballot.length = length as u8;
+            }
+            _ => ballot.values.clear(),
+        }
+    }
+}
+
+/// The bytes of a sound record's message with one part changed, or a few.
+pub fn forged(random: &mut Random, sample: &Sample) -> Vec<u8> {
+    let mut message = Forged::of(sample);
+    for _ in 0..random.pick(&[1, 1, 1, 2, 3]) {
+        message.change(random);
+    }
+    message.spell()
+}
+
+/// The bytes with one or a few of them changed, put in or left out.
+pub fn damaged(random: &mut Random, mut bytes: Vec<u8>) -> Vec<u8> {
+    for _ in 0..random.pick(&[1, 1, 2, 4]) {
+        let front = bytes.len().min(40);
+        let at = if random.percent(50) { random.below(front) } else { random.below(bytes.len()) };
+        match random.below(7) {
+            _ if bytes.is_empty() => bytes.push(0x53),
+            0 => bytes[at] = random.bits() as u8,
+            1 => bytes[at] ^= 1 << random.below(8),
+            2 => bytes.truncate(at),
+            3 => bytes.insert(at, random.pick(&[0, 1, 0x42, 0x45, 0x4C])),
+            4 => drop(bytes.remove(at)),
+            5 => bytes.truncate(bytes.len() - 1),
+            _ => bytes.push(random.pick(&[0, 0x45, 0x4E])),
+        }
+    }
+    bytes
+}
+
+/// Any bytes, with a proper head now and then.
+pub fn any_bytes(random: &mut Random) -> Vec<u8> {
+    let length = random.pick(&[0, 1, 2, 3, 13, 14, 22, 100, 7033]);
+    let mut bytes: Vec<u8> =
+        (0..length).map(|_| random.pick(&[0, 1, 2, 3, 0x42, 0x41, 0x45, 0x4E, 0x4C, 0x47])).collect();
+    for (byte, mark) in bytes.iter_mut().zip([0x53, 0x48]) {
+        *byte = mark;
+    }
+    bytes
+}

@@ -1,0 +1,225 @@
+//! The deepest stack of each of the engine's calls, measured on a painted stack of its own.
+
+use std::arch::asm;
+use std::hint::black_box;
+use std::mem::transmute;
+
+use joukerpan_sys as engine;
+use joukerpan_sys::{Elected, Founded, Framed, Issued, Part, Sent, Taken, Weights};
+use second::message::LONGEST;
+use second::random::Random;
+use second::record::{LOG, OFFICES};
+
+use crate::benchmark::{state, Ballots};
+use crate::engine::to_engine;
+use crate::samples::{any_sample, Family, Sample};
+
+/// Words of the painted stack.
+const WORDS: usize = 1 << 14;
+const PAINT: u64 = 0x9E37_79B9_7F4A_7C15;
+/// Random samples that each call is tried on, beside the largest ones.
+const SAMPLES: usize = 3000;
+
+type Log = (*const u32, usize);
+
+/// The calls, or functions that return at once: what these use is the caller's, for arguments and answer.
+struct Calls {
+    found: unsafe extern "C" fn(usize, usize, Weights, *const u32, usize) -> Founded,
+    sound: unsafe extern "C" fn(engine::Record, *const u32, usize) -> bool,
+    issue: unsafe extern "C" fn(engine::Record, *const u32, usize, u32, u32) -> Issued,
+    settled: unsafe extern "C" fn(engine::Record, *const u32, usize) -> Part,
+    settled_frame: unsafe extern "C" fn(engine::Record, *const u32, usize, u32) -> Framed,
+    tentative_frame: unsafe extern "C" fn(engine::Record, *const u32, usize, u32) -> Framed,
+    elect: unsafe extern "C" fn(engine::Record, *mut u32, usize) -> Elected,
+    send: unsafe extern "C" fn(engine::Record, *const u32, usize, *mut u8, usize) -> Sent,
+    take: unsafe extern "C" fn(engine::Record, *mut u32, usize, *const u8, usize) -> Taken,
+}
+
+extern "C" fn nothing() {}
+
+impl Calls {
+    fn of_the_engine() -> Calls {
+        Calls {
+            found: engine::joukerpan_found,
+            sound: engine::joukerpan_sound,
+            issue: engine::joukerpan_issue,
+            settled: engine::joukerpan_settled,
+            settled_frame: engine::joukerpan_settled_frame,
+            tentative_frame: engine::joukerpan_tentative_frame,
+            elect: engine::joukerpan_elect,
+            send: engine::joukerpan_send,
+            take: engine::joukerpan_take,
+        }
+    }
+
+    #[allow(clippy::missing_transmute_annotations)]
+    fn empty() -> Calls {
+        let nothing = nothing as extern "C" fn();
+        // SAFETY: by the C convention a function may be called with arguments that it does not read, and
+        // the answers are forgotten unread.
+        unsafe {
+            Calls {
+                found: transmute(nothing),
+                sound: transmute(nothing),
+                issue: transmute(nothing),
+                settled: transmute(nothing),
+                settled_frame: transmute(nothing),
+                tentative_frame: transmute(nothing),
+                elect: transmute(nothing),
+                send: transmute(nothing),
+                take: transmute(nothing),
+            }
+        }
+    }
+}
+
+/// All that the calls are handed.
+struct Input {
+    sample: Sample,
+    message: Vec<u8>,
+    output: Vec<u8>,
+}
+
+impl Input {
+    fn log(&self) -> Log {
+        (self.sample.log.as_ptr(), self.sample.log.len())
+    }
+}
+
+type Call = (&'static str, fn(&Calls, &mut Input));
+
+/// Forgets an answer that may not have been written.
+fn forget<T>(answer: std::mem::MaybeUninit<T>) {
+    black_box(answer.as_ptr());
+}
+
+/// Makes a call and forgets its answer.
+macro_rules! call {
+    ($function:expr, $($argument:expr),*) => {{
+        // SAFETY: the pointers name the input's buffers, which nothing else uses during the call.
+        let answer = unsafe { std::mem::MaybeUninit::new(black_box($function)($($argument),*)) };
+        forget(answer)
+    }};
+}
+
+const CALLS: [Call; 9] = [
+    ("found", |calls, input| {
+        let (log, length) = input.log();
+        call!(calls.found, 3, 0, Weights { of: [1; OFFICES] }, log, length)
+    }),
+    ("sound", |calls, input| {
+        let (log, length) = input.log();
+        // A bool that is not written may be no bool, so its bits are not looked at.
+        // SAFETY: as in `call!`.
+        let sound: unsafe extern "C" fn(engine::Record, *const u32, usize) -> u64 = unsafe { transmute(calls.sound) };
+        call!(sound, to_engine(&input.sample.record), log, length)
+    }),
+    ("issue", |calls, input| {
+        let (log, length) = input.log();
+        call!(calls.issue, to_engine(&input.sample.record), log, length, 5, 120)
+    }),
+    ("settled", |calls, input| {
+        let (log, length) = input.log();
+        call!(calls.settled, to_engine(&input.sample.record), log, length)
+    }),
+    ("settled frame", |calls, input| {
+        let (log, length) = input.log();
+        call!(calls.settled_frame, to_engine(&input.sample.record), log, length, 5)
+    }),
+    ("tentative frame", |calls, input| {
+        let (log, length) = input.log();
+        call!(calls.tentative_frame, to_engine(&input.sample.record), log, length, 5)
+    }),
+    ("elect", |calls, input| {
+        let log = &mut input.sample.log;
+        call!(calls.elect, to_engine(&input.sample.record), log.as_mut_ptr(), log.len())
+    }),
+    ("send", |calls, input| {
+        let (log, length) = input.log();
+        let output = &mut input.output;
+        call!(calls.send, to_engine(&input.sample.record), log, length, output.as_mut_ptr(), output.len())
+    }),
+    ("take", |calls, input| {
+        let log = &mut input.sample.log;
+        let message = &input.message;
+        let record = to_engine(&input.sample.record);
+        call!(calls.take, record, log.as_mut_ptr(), log.len(), message.as_ptr(), message.len())
+    }),
+];
+
+/// What runs on the painted stack.
+struct Job<'a> {
+    call: fn(&Calls, &mut Input),
+    calls: &'a Calls,
+    input: &'a mut Input,
+}
+
+extern "C" fn run(job: &mut Job) {
+    (job.call)(job.calls, job.input)
+}
+
+/// Bytes of the painted stack that the job writes.
+fn depth(paint: &mut [u64], job: &mut Job) -> usize {
+    paint.fill(PAINT);
+    let run = run as extern "C" fn(&mut Job);
+    // SAFETY: the stack is the painted memory while `run` runs, and its end is aligned as a call wants it;
+    // `run` returns, since nothing in it unwinds; r12 is kept by it and has the former stack.
+    unsafe {
+        let top = paint.as_mut_ptr().add(WORDS);
+        asm!(
+            "xchg rsp, r12",
+            "call r13",
+            "mov rsp, r12",
+            inout("r12") top => _,
+            in("r13") run,
+            in("rdi") job,
+            clobber_abi("C"),
+        );
+    }
+    let untouched = paint.iter().position(|&word| word != PAINT).expect("the job writes its return address");
+    8 * (WORDS - untouched)
+}
+
+/// The largest inputs there are, and random ones.
+fn inputs() -> Vec<Input> {
+    let mut random = Random::new(1);
+    let mut inputs = vec![];
+    for (settled, ballots) in [(992, Ballots::Alike), (992, Ballots::Apart), (0, Ballots::Alike), (LOG, Ballots::Empty)]
+    {
+        let message = state(settled, ballots, 1).message();
+        inputs.push(Input { sample: state(settled, ballots, 0), message: message.clone(), output: vec![0; LONGEST] });
+        inputs.push(Input { sample: state(0, Ballots::Empty, 0), message, output: vec![0; 20] });
+    }
+    for _ in 0..SAMPLES {
+        let family = Family::new(&mut random);
+        let message = family.sample(&mut random, 0).message();
+        let own = family.office(&mut random);
+        let sample = if random.percent(90) { family.sample(&mut random, own) } else { any_sample(&mut random) };
+        inputs.push(Input { sample, message, output: vec![0; LONGEST] });
+    }
+    inputs
+}
+
+/// Prints the deepest stack of each call; says whether all are within the painted stack.
+pub fn print() -> bool {
+    let mut paint = vec![PAINT; WORDS];
+    let mut inputs = inputs();
+    let (engine, empty) = (Calls::of_the_engine(), Calls::empty());
+    println!("| Call | Stack of the engine, bytes | With arguments and answer, bytes |");
+    println!("|---|---:|---:|");
+    let mut deepest = 0;
+    for (name, call) in CALLS {
+        let mut whole = 0;
+        let mut own = 0;
+        for input in &mut inputs {
+            let base = depth(&mut paint, &mut Job { call, calls: &empty, input });
+            let all = depth(&mut paint, &mut Job { call, calls: &engine, input });
+            whole = whole.max(all);
+            own = own.max(all - base);
+        }
+        deepest = deepest.max(whole);
+        println!("| {name} | {own} | {whole} |");
+    }
+    println!("\ndeepest: {deepest} bytes");
+    deepest < 8 * WORDS
+}
