@@ -1,0 +1,55 @@
+-- What founding leaves.
+--     found-sound     a done founding makes a sound record, with the fresh state
+--     found-zero      a refused one makes the all-zero record
+-- Assumes nothing.
+use mathlib.Core.Path.{_≡_, refl, sym, ap, subst, _∙_}
+use mathlib.Core.Bool.{Bool, true, false}
+use mathlib.Core.List.{List}
+use Prim.Native.Nat.{ℕ, _≤_}
+use native.Mathlib.Omega.{arith}
+use lib.Dec.{leb}
+use lib.ListN.{length}
+use borrow.Author.Tests.{leb-true}
+use Rattle.protocol.specs.Tests.{pick}
+use Rattle.protocol.specs.Office.{fresh}
+use Rattle.protocol.proofs.Limits as Limits
+use Rattle.frame.specs.State.{heldBy, zeroRecord}
+use Rattle.frame.specs.Soundness.{roomy, headFine, Head, Sound}
+use Rattle.frame.specs.Founding.{freshRecord, foundNumber, foundOf}
+use Rattle.frame.specs.declared.Record.{Record}
+use Rattle.frame.proofs.Sound.{head}
+use Rattle.frame.proofs.State.{held-by, sound-of}
+
+-- what a done founding found, and the record that it made
+pub record FoundDone (n own : ℕ) (ws words : List ℕ) : Type 0 where
+  pub room : 1024 ≤ length words
+  pub head : Head n own ws
+  pub made : foundOf n own ws words .«record» ≡ freshRecord n own ws
+
+pub found-done : (n own : ℕ) (ws words : List ℕ) → foundOf n own ws words .number ≡ 0 → FoundDone n own ws words
+unfolding foundOf foundNumber roomy pick
+found-done n own ws words q = go (leb 1024 (length words)) refl (headFine n own ws) refl q
+  where
+    go : (a : Bool) → leb 1024 (length words) ≡ a → (b : Bool) → headFine n own ws ≡ b → _≡_ {A = ℕ} (pick a (pick b 0 2) 1) 0 → FoundDone n own ws words
+    go true e true f z = record { room = leb-true 1024 (length words) e; head = head n own ws f; made = rw (e, f) }
+    go true e false f z = absurd (omega arith)
+    go false e b f z = absurd (omega arith)
+
+module _ (n own : ℕ) (ws words : List ℕ) (q : foundOf n own ws words .number ≡ 0) where
+  pub found-sound : Sound (foundOf n own ws words .«record») words
+  found-sound =
+      let D = found-done n own ws words q in
+      subst (λ (r : Record). Sound r words) (sym (D .made)) (sound-of (freshRecord n own ws) fresh words (D .head) (Limits.fresh-fine n) (D .room))
+
+  -- "a fresh record has an empty log and no ballots"
+  pub found-fresh : heldBy (foundOf n own ws words .«record») words ≡ fresh
+  found-fresh = let D = found-done n own ws words q in ap (λ (r : Record). heldBy r words) (D .made) ∙ held-by (freshRecord n own ws) fresh words
+
+pub found-zero : (n own : ℕ) (ws words : List ℕ) → (foundOf n own ws words .number ≡ 0 → ⊥) → foundOf n own ws words .«record» ≡ zeroRecord
+unfolding foundOf foundNumber pick
+found-zero n own ws words q = go (roomy words) (headFine n own ws) q
+  where
+    go : (a b : Bool) → (_≡_ {A = ℕ} (pick a (pick b 0 2) 1) 0 → ⊥) → pick a (pick b (freshRecord n own ws) zeroRecord) zeroRecord ≡ zeroRecord
+    go true true z = absurd (z refl)
+    go true false z = refl
+    go false b z = refl

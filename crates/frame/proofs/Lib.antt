@@ -1,0 +1,5 @@
+-- Laws that belong to no one function.
+pub mod Found
+pub mod Issue
+pub mod Sound
+pub mod State

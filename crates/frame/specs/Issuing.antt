@@ -1,0 +1,25 @@
+-- "Issue (line, code) appends the entry to the office's own ballot." Assumes nothing.
+use Prim.Native.Nat.{ℕ}
+use mathlib.Core.List.{List}
+use lib.Dec.{eqb}
+use Rattle.protocol.specs.Tests.{pick}
+use Rattle.protocol.specs.Entry.{value}
+use Rattle.protocol.specs.Issue.{withIssue, refuseIssue}
+use Rattle.frame.specs.State.{heldBy, holding}
+use Rattle.frame.specs.Soundness.{soundB}
+use Rattle.frame.specs.declared.Record.{Record}
+use Rattle.frame.specs.declared.issuing.Issued.{Issued}
+
+-- 1: "record unsound, or log below 1024 words"; 3, 4 and 5 are the protocol's
+unfoldable pub issueNumber : Record → List ℕ → ℕ → ℕ → ℕ
+issueNumber r words line code = pick (soundB r words) (refuseIssue (r .own) line code (heldBy r words)) 1
+
+-- the record with the entry issued
+abbrev pub issuedRecord : Record → List ℕ → ℕ → ℕ → Record
+issuedRecord r words line code = holding r (withIssue (r .own) (value (r .own) line code) (heldBy r words))
+
+unfoldable pub issueOf : Record → List ℕ → ℕ → ℕ → Issued
+issueOf r words line code = record {
+  number = issueNumber r words line code;
+  «record» = pick (eqb (issueNumber r words line code) 0) (issuedRecord r words line code) r;
+}

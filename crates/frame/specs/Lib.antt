@@ -1,0 +1,5 @@
+-- The definitions that the contracts of `frame` cite: a file for each of src/.
+pub mod State
+pub mod Soundness
+pub mod Founding
+pub mod Issuing

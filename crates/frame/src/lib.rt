@@ -1,0 +1,31 @@
+// An office's record, and the calls of the shared coding frame on it. A call takes the record by value and its log as a lent slice;
+// its answer has the paper's number in front, 0 when it is done.
+use ballots::Ballot;
+
+pub mod founding;
+pub mod issuing;
+pub mod soundness;
+
+// n offices with their weights, the own office, the settled length and each office's ballot. The settled entries are the log's first words.
+#[repr(C)]
+pub struct Record {
+    pub n: usize,
+    pub own: usize,
+    pub weights: [u16; 8],
+    pub settled: usize,
+    pub ballots: [Ballot; 8],
+}
+
+impl Record {
+    pub const OFFICES: usize = 8;
+
+    // Entries in a tail.
+    pub const TAIL: usize = 32;
+
+    pub const LINES: u32 = 64;
+
+    pub const CODES: u32 = 10000;
+
+    // Entries in the settled log, and words in the lent buffer at least.
+    pub const LOG: usize = 1024;
+}
