@@ -1,5 +1,6 @@
 -- Laws that belong to no one function.
 pub mod Found
 pub mod Issue
+pub mod Send
 pub mod Sound
 pub mod State

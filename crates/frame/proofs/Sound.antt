@@ -16,12 +16,14 @@ use Rattle.frame.specs.declared.Record.{Record}
 pub head : (n own : ℕ) (ws : List ℕ) → headFine n own ws ≡ true → Head n own ws
 unfolding headFine
 head n own ws e =
-    let e1 = both-1 _ _ e in
+    let e0 = both-1 _ _ e in
+    let e1 = both-1 _ _ e0 in
     let e2 = both-1 _ _ e1 in
     let e3 = both-1 _ _ e2 in
     let e4 = both-1 _ _ e3 in
     record {
       eight = eqb-true _ _ (both-0 _ _ e);
+      weights = both-0 _ _ e0;
       some = leb-true _ _ (both-0 _ _ e1);
       most = leb-true _ _ (both-0 _ _ e2);
       member = ltb-true _ _ (both-0 _ _ e3);
@@ -33,8 +35,9 @@ pub head-true : (n own : ℕ) (ws : List ℕ) → Head n own ws → headFine n o
 unfolding headFine
 head-true n own ws H =
     both-true _ _ (eq-eqb (length ws) 8 (H .eight))
+    (both-true _ _ (H .weights)
     (both-true _ _ (le-leb 1 n (H .some))
-    (both-true _ _ (le-leb n 8 (H .most)) (both-true _ _ (lt-ltb own n (H .member)) (both-true _ _ (H .rest) (le-leb 1 (totalWeight ws) (H .total))))))
+    (both-true _ _ (le-leb n 8 (H .most)) (both-true _ _ (lt-ltb own n (H .member)) (both-true _ _ (H .rest) (le-leb 1 (totalWeight ws) (H .total)))))))
 
 pub sound : (r : Record) (words : List ℕ) → soundB r words ≡ true → Sound r words
 unfolding soundB roomy logFine ballotsFine

@@ -3,3 +3,4 @@ pub mod State
 pub mod Soundness
 pub mod Founding
 pub mod Issuing
+pub mod Sending

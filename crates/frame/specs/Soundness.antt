@@ -7,6 +7,7 @@ use lib.Dec.{ltb, leb, eqb}
 use lib.ListN.{length, take, drop}
 use Rattle.protocol.specs.Tests.{both, allB}
 use Rattle.protocol.specs.Entry.{isEntry}
+use Rattle.spelling.specs.Content.{isWeight}
 use Rattle.ballots.specs.Ballots.{ballotFine, isNoBallot, totalWeight}
 use Rattle.frame.specs.declared.Record.{Record}
 
@@ -14,11 +15,12 @@ use Rattle.frame.specs.declared.Record.{Record}
 unfoldable pub roomy : List ℕ → Bool
 roomy words = leb 1024 (length words)
 
--- "n (1 to 8 offices), its own office (below n), eight weights (..; zero from place n on; sum, the total, at least 1)"
+-- "n (1 to 8 offices), its own office (below n), eight weights (0 to 65535; zero from place n on; sum, the total, at least 1)"
 unfoldable pub headFine : ℕ → ℕ → List ℕ → Bool
 headFine n own ws =
     both (eqb (length ws) 8)
-    (both (leb 1 n) (both (leb n 8) (both (ltb own n) (both (allB (eqb 0) (drop n ws)) (leb 1 (totalWeight ws))))))
+    (both (allB isWeight ws)
+    (both (leb 1 n) (both (leb n 8) (both (ltb own n) (both (allB (eqb 0) (drop n ws)) (leb 1 (totalWeight ws)))))))
 
 -- "a settled length (0 to 1024)", and the settled log's words are entries
 unfoldable pub logFine : Record → List ℕ → Bool
@@ -36,6 +38,7 @@ soundB r words = both (roomy words) (both (headFine (r .n) (r .own) (r .weights)
 -- the same as facts by name
 pub record Head (n own : ℕ) (ws : List ℕ) : Type 0 where
   pub eight : length ws ≡ 8
+  pub weights : allB isWeight ws ≡ true
   pub some : 1 ≤ n
   pub most : n ≤ 8
   pub member : own < n

@@ -4,6 +4,7 @@ use ballots::Ballot;
 
 pub mod founding;
 pub mod issuing;
+pub mod sending;
 pub mod soundness;
 
 // n offices with their weights, the own office, the settled length and each office's ballot. The settled entries are the log's first words.
