@@ -36,12 +36,12 @@ module _ (line more bytes : List ℕ) (size i : ℕ) (inv : HeldRest line more b
   held-ends h l =
       sym (rw (drop-of-length-le more h, append-nil) (take-all 129 (take size bytes) (rw length-take (omega arith)))) ∙ inv
 
--- a count above the array's length holds no more than that length
-pub take-within : (n : ℕ) (bytes : List ℕ) → length bytes ≡ 129 → take (min n 129) bytes ≡ take n bytes
-take-within n bytes h = by-test (leb n 129) refl
+-- a count above a list's length takes no more than that length
+pub take-within : {A : Type 0} (n most : ℕ) (xs : List A) → length xs ≡ most → take (min n most) xs ≡ take n xs
+take-within {A} n most xs h = by-test (leb n most) refl
   where
-    by-test : (t : Bool) → leb n 129 ≡ t → take (min n 129) bytes ≡ take n bytes
-    by-test true e = rw (min-eq-left (leb-true n 129 e))
+    by-test : (t : Bool) → leb n most ≡ t → take (min n most) xs ≡ take n xs
+    by-test true e = rw (min-eq-left (leb-true n most e))
     by-test false e =
-        let l : 129 < n = leb-false n 129 e in
-        rw (min-eq-right (le-of-lt l)) (take-all 129 bytes (omega arith) ∙ sym (take-all n bytes (omega arith)))
+        let l : most < n = leb-false n most e in
+        rw (min-eq-right (le-of-lt l)) (take-all most xs (omega arith) ∙ sym (take-all n xs (omega arith)))

@@ -26,14 +26,14 @@ pub struct Held {
     pub bytes: [u8; 129],
 }
 
-// The smaller of n and 129.
-pub fn within(n: usize) -> usize
-    ensures { λ r. ⌜ r ≡ min n 129 ⌝ }
+// The smaller of n and `most`.
+pub fn within(n: usize, most: usize) -> usize
+    ensures { λ r. ⌜ r ≡ min n most ⌝ }
 {
-    if n < 129 {
+    if n < most {
         return n;
     }
-    129
+    most
 }
 
 impl Held {
@@ -52,7 +52,7 @@ impl Held {
         ensures { λ r. ⌜ lineHeld r ≡ cut (lineHeld self ++ now (more .entry)) ⌝ }
     {
         let mut bytes = self.bytes;
-        let mut length = within(self.length);
+        let mut length = within(self.length, 129);
         for i in 0..more.len() {
             if length == 129 {
                 return Held { length, bytes };

@@ -29,7 +29,7 @@ returns c =
     let a = c .before .before .before .before .before .before .args in
     let h : length (a .self .bytes) ≡ 129 = search needs in
     held-full (take (c .before .before .before .within .result) (a .self .bytes)) (a .more .now) (l .bytes) (l .length) (l .i) (l .inv .3) (c .if1 .taken) (l .inv .1) ∙
-    ap (λ (t : List ℕ). cut (t ++ a .more .now)) (ap (λ (k : ℕ). take k (a .self .bytes)) (c .before .before .before .within .ensures) ∙ take-within (a .self .length) (a .self .bytes) h)
+    ap (λ (t : List ℕ). cut (t ++ a .more .now)) (ap (λ (k : ℕ). take k (a .self .bytes)) (c .before .before .before .within .ensures) ∙ take-within (a .self .length) 129 (a .self .bytes) h)
 
 loop-again : tie.Need-loop-again Inv-loop μ-loop
 loop-again c =
@@ -43,7 +43,7 @@ returns-2 c =
     let a = c .before .before .before .before .before .args in
     let h : length (a .self .bytes) ≡ 129 = search needs in
     held-ends (take (c .before .before .within .result) (a .self .bytes)) (a .more .now) (l .bytes) (l .length) (l .i) (l .inv .3) (omega arith) (l .inv .2) ∙
-    ap (λ (t : List ℕ). cut (t ++ a .more .now)) (ap (λ (k : ℕ). take k (a .self .bytes)) (c .before .before .within .ensures) ∙ take-within (a .self .length) (a .self .bytes) h)
+    ap (λ (t : List ℕ). cut (t ++ a .more .now)) (ap (λ (k : ℕ). take k (a .self .bytes)) (c .before .before .within .ensures) ∙ take-within (a .self .length) 129 (a .self .bytes) h)
 
 pub with-spec : {M : Type 1} → statement M
 with-spec =

@@ -1,0 +1,58 @@
+-- The invariant: what is left, written from here on, gives what is to be written.
+use borrow.Author.Needs.{needs}
+use native.Mathlib.Omega.{arith}
+use mathlib.Core.Path.{_≡_, refl, sym, ap, _∙_}
+use Prim.Native.Nat.{ℕ, _+_, _-_, _*_}
+use lib.ListN.{length, take, getD}
+use lib.Seq.{length-take-le, getD-take}
+use Rattle.answers.proofs.Printing.{SpacedRest, spaced-begins, spaced-next, spaced-ends}
+use Rattle.answers.proofs.put_all.Statement.{statement}
+use Rattle.answers.proofs.put_all.Tie as tie
+
+abbrev Inv-loop : tie.InvT-loop
+Inv-loop out₀ at count numbers next₀ i₀ out next i = SpacedRest (take count numbers) out₀ at out next i
+
+abbrev μ-loop : tie.MeasureT-loop
+μ-loop out₀ at count numbers next₀ i₀ out next i = count - i
+
+loop-holds : tie.Need-loop-holds Inv-loop μ-loop
+loop-holds c = spaced-begins (take (c .before .args .count) (c .before .args .t4)) (c .before .args .out .now) (c .before .args .at)
+
+put-spaced-requires : tie.Need-put-spaced-requires Inv-loop μ-loop
+put-spaced-requires c κs = let l = c .before .before .loop in omega (arith, l .inv .room, l .inv .long)
+
+loop-again : tie.Need-loop-again Inv-loop μ-loop
+loop-again c =
+    let a = c .before .before .before .before .before .before .before .args in
+    let l = c .before .before .before .before .before .loop in
+    let h : length (a .t4) ≡ 3 = search needs in
+    let n : length (take (a .count) (a .t4)) ≡ a .count = length-take-le (a .count) (a .t4) (omega arith) in
+    let e = c .before .before .put-spaced .ensures in
+    spaced-next (take (a .count) (a .t4)) (a .out .now) (a .at) (l .out) (l .next) (l .i) (l .inv) (getD (a .t4) (l .i) 0) _ _ (omega arith) (sym (getD-take (a .count) (a .t4) (l .i) 0 (omega arith))) (e .0) (e .1) (c .before .before .put-spaced .kept .0)
+
+same-length : tie.Need-same-length Inv-loop μ-loop
+same-length c = c .before .loop .inv .long
+
+returns : tie.Need-returns Inv-loop μ-loop
+returns c =
+    let a = c .before .before .before .args in
+    let l = c .before .loop in
+    let h : length (a .t4) ≡ 3 = search needs in
+    let n : length (take (a .count) (a .t4)) ≡ a .count = length-take-le (a .count) (a .t4) (omega arith) in
+    spaced-ends (take (a .count) (a .t4)) (a .out .now) (a .at) (l .out) (l .next) (l .i) (l .inv) (omega arith)
+
+pub put-all-spec : {M : Type 1} → statement M
+put-all-spec =
+    tie.close
+    (tie.spec
+    Inv-loop
+    μ-loop
+    loop-holds
+    (λ c. omega arith)
+    (λ c. omega arith)
+    put-spaced-requires
+    (λ c. search needs)
+    (λ c. search needs)
+    loop-again
+    same-length
+    returns)
