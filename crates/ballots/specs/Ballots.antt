@@ -1,6 +1,6 @@
 -- A ballot as cells and the tail that it holds; when a ballot and the weights are within document 01's limits. Assumes nothing.
 use Prim.Native.Nat.{ℕ, _+_, _-_}
-use mathlib.Core.Bool.{Bool}
+use mathlib.Core.Bool.{Bool, true, false}
 use mathlib.Core.List.{List, [], _∷_, _++_}
 use lib.Dec.{ltb, leb, eqb}
 use lib.ListN.{length, take, drop, set, replicate}
@@ -38,6 +38,13 @@ ballotFine n settled b = both (ballotShape b) (tailFine n settled (tailOf b))
 -- the ballot with one entry more; a full one is unchanged
 unfoldable pub pushed : Ballot → ℕ → Ballot
 pushed b e = pick (ltb (b .len) 32) (record { len = b .len + 1; cells = set (b .cells) (b .len) e }) b
+
+-- two lists of weights are the same
+unfoldable pub same : List ℕ → List ℕ → Bool
+same [] [] = true
+same [] (v ∷ vs) = false
+same (w ∷ ws) [] = false
+same (w ∷ ws) (v ∷ vs) = both (eqb w v) (same ws vs)
 
 -- "sum, the total"
 unfoldable pub totalWeight : List ℕ → ℕ

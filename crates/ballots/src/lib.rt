@@ -3,7 +3,7 @@ ghost use mathlib.Core.Path.{_≡_};
 ghost use lib.Dec.{eqb};
 ghost use lib.ListN.{drop};
 ghost use Rattle.protocol.specs.Tests.{allB};
-ghost use Rattle.ballots.specs.Ballots.{ballotFine, isNoBallot, totalWeight, noBallot, pushed};
+ghost use Rattle.ballots.specs.Ballots.{ballotFine, isNoBallot, totalWeight, noBallot, pushed, same};
 
 // A tail of 0 to 32 entries in the first cells. Unused cells are zero; length 0 means none.
 #[repr(C)]
@@ -108,4 +108,16 @@ pub fn total_weight(weights: [u16; 8]) -> u32
         sum = sum + weights[i] as u32;
     }
     sum
+}
+
+// Whether the weights are the same.
+pub fn same_weights(weights: [u16; 8], others: [u16; 8]) -> bool
+    ensures { λ r. ⌜ r ≡ same weights others ⌝ }
+{
+    for i in 0..8 {
+        if weights[i] != others[i] {
+            return false;
+        }
+    }
+    true
 }
