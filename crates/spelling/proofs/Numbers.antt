@@ -1,11 +1,11 @@
 -- Laws of tests, of numbers in bytes, and of runs of stores, for the laws of the message and the proofs of the functions. Assumes nothing.
-use Prim.Native.Nat.{ℕ, suc, _+_, _*_, _/_, _%_, _<_}
+use Prim.Native.Nat.{ℕ, suc, _+_, _*_, _/_, _%_, _<_, _-_, _≤_, zero}
 use mathlib.Core.List.{List, [], _∷_, _++_}
-use mathlib.Core.Path.{_≡_, sym, ap, _∙_}
-use native.Mathlib.Nat.{add-zero, add-suc, suc-add, div-div-eq-div-mul, mod-eq-of-lt}
+use mathlib.Core.Path.{_≡_, sym, ap, _∙_, refl}
+use native.Mathlib.Nat.{add-zero, add-suc, suc-add, div-div-eq-div-mul, mod-eq-of-lt, sub-zero, zero-add}
 use native.Mathlib.Omega.{arith}
-use lib.ListN.{length, set}
-use lib.Seq.{sets}
+use lib.ListN.{length, set, drop, length-replicate, replicate}
+use lib.Seq.{sets, sets-eq}
 use Rattle.spelling.specs.Numbers.{bytes32, be16, bytes16, be32}
 
 -- ---- numbers in bytes
@@ -48,3 +48,13 @@ bytes32-be32 a b c d r ha hb hc hd =
 pub sets-append : (l : List ℕ) (i : ℕ) (xs ys : List ℕ) → sets l i (xs ++ ys) ≡ sets (sets l i xs) (i + length xs) ys
 sets-append l i [] ys = rw add-zero
 sets-append l i (x ∷ xs) ys = sets-append (set l i x) (suc i) xs ys ∙ simp (add-suc, suc-add)
+
+-- cells that are all alike, the first of them stored
+drop-alike : {A : Type 0} (m k : ℕ) (x : A) → drop k (replicate m x) ≡ replicate (m - k) x
+drop-alike zero zero x = refl
+drop-alike (suc m) zero x = rw sub-zero
+drop-alike zero (suc k) x = let e : zero - suc k ≡ zero = omega arith in rw e
+drop-alike (suc m) (suc k) x = let e : suc m - suc k ≡ m - k = omega arith in rw e (drop-alike m k x)
+
+pub sets-alike : {A : Type 0} (m : ℕ) (x : A) (vs : List A) → length vs ≤ m → sets (replicate m x) 0 vs ≡ vs ++ replicate (m - length vs) x
+sets-alike m x vs h = sets-eq vs (replicate m x) 0 (rw (zero-add, length-replicate) h) ∙ rw (zero-add, drop-alike)

@@ -1,0 +1,3 @@
+-- Laws of reading one record.
+pub mod Ballots
+pub mod Marks

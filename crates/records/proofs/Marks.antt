@@ -1,0 +1,115 @@
+-- The tests of a mark and of a record, from the facts that the code finds: a record stands at a position, or it does not. Assumes nothing.
+use Prim.Native.Nat.{ℕ, _+_, _-_, _≤_}
+use mathlib.Core.Bool.{Bool, false, true}
+use mathlib.Core.List.{List}
+use mathlib.Core.Option.{some}
+use mathlib.Core.Path.{_∙_, _≡_, sym}
+use native.Mathlib.Nat.{add-zero}
+use native.Mathlib.Omega.{arith}
+use lib.Dec.{eqb, leb}
+use lib.ListN.{drop, getD, length, length-drop}
+use lib.Seq.{drop-drop, getD-drop}
+use borrow.Author.Tests.{eq-eqb, eqb-true, le-leb, leb-true}
+use Rattle.protocol.specs.Entry.{isEntry}
+use Rattle.protocol.specs.Tests.{both, pick}
+use Rattle.spelling.specs.Numbers.{be32}
+use Rattle.spelling.specs.Reading.{ballotNext, endOk, recordAt, recordHere}
+use Rattle.protocol.proofs.Tests.{both-0, both-1}
+use Rattle.spelling.proofs.Ballots.{by-test}
+use Rattle.records.specs.Steps.{badLog, endAt, logAt}
+
+-- k bytes stand at the position, and the first two are the mark
+pub record Mark (k a b at : ℕ) (s : List ℕ) : Type 0 where
+  pub room : at + k ≤ length s
+  pub first : getD s at 0 ≡ a
+  pub second : getD s (at + 1) 0 ≡ b
+
+module _ (k a b at : ℕ) (s : List ℕ) (x : Bool) (some : 1 ≤ k) where
+  marked : both (leb k (length (drop at s))) (both (eqb (getD (drop at s) 0 0) a) (both (eqb (getD (drop at s) 1 0) b) x))
+      ≡ both (leb k (length s - at)) (both (eqb (getD s at 0) a) (both (eqb (getD s (at + 1) 0) b) x))
+  marked = simp (length-drop, getD-drop, add-zero)
+
+  mark-facts : both (leb k (length s - at)) (both (eqb (getD s at 0) a) (both (eqb (getD s (at + 1) 0) b) x)) ≡ true → Mark k a b at s
+  mark-facts e =
+      let e1 = both-1 (leb k (length s - at)) _ e in
+      record {
+        room = omega (arith, leb-true k (length s - at) (both-0 _ _ e));
+        first = eqb-true _ _ (both-0 _ _ e1);
+        second = eqb-true _ _ (both-0 _ _ (both-1 (eqb (getD s at 0) a) _ e1));
+      }
+
+  -- the test where the mark stands there: the rest of it
+  pub mark-yes : Mark k a b at s → both (leb k (length (drop at s))) (both (eqb (getD (drop at s) 0 0) a) (both (eqb (getD (drop at s) 1 0) b) x)) ≡ x
+  unfolding both
+  mark-yes m = marked ∙ rw (le-leb k (length s - at) (omega (arith, m .room)), eq-eqb (getD s at 0) a (m .first), eq-eqb (getD s (at + 1) 0) b (m .second))
+
+  -- and where it does not
+  pub mark-no : (Mark k a b at s → ⊥) → both (leb k (length (drop at s))) (both (eqb (getD (drop at s) 0 0) a) (both (eqb (getD (drop at s) 1 0) b) x)) ≡ false
+  mark-no f = marked ∙ by-test _ (both (leb k (length s - at)) (both (eqb (getD s at 0) a) (both (eqb (getD s (at + 1) 0) b) x))) (λ e. absurd (f (mark-facts e))) (λ e. e)
+
+-- ---- a log record
+
+module _ (n at : ℕ) (s : List ℕ) where
+  pub log-no : (Mark 6 0x4C 0x47 at s → ⊥) → recordHere n (drop at s) ≡ false
+  unfolding recordHere
+  log-no f = mark-no 6 0x4C 0x47 at s (isEntry n (be32 (drop 2 (drop at s)))) (omega arith) f
+
+  pub log-yes : Mark 6 0x4C 0x47 at s → recordHere n (drop at s) ≡ isEntry n (be32 (drop (at + 2) s))
+  unfolding recordHere
+  log-yes m = mark-yes 6 0x4C 0x47 at s (isEntry n (be32 (drop 2 (drop at s)))) (omega arith) m ∙ rw drop-drop
+
+  pub log-good : (v : ℕ) → recordHere n (drop at s) ≡ true → v ≡ recordAt (drop at s) → record { ok = true; value = v; next = at + 6 } ≡ logAt n at s
+  unfolding logAt pick
+  log-good v e q = rw (e, q)
+
+  pub log-bad : recordHere n (drop at s) ≡ false → badLog ≡ logAt n at s
+  unfolding logAt pick
+  log-bad e = rw e
+
+-- ---- a ballot comes next
+
+module _ (o at : ℕ) (s : List ℕ) where
+  pub next-no : (Mark 4 0x42 0x41 at s → ⊥) → ballotNext o (drop at s) ≡ false
+  unfolding ballotNext
+  next-no f = mark-no 4 0x42 0x41 at s (eqb (getD (drop at s) 2 0) o) (omega arith) f
+
+  pub next-yes : Mark 4 0x42 0x41 at s → ballotNext o (drop at s) ≡ eqb (getD s (at + 2) 0) o
+  unfolding ballotNext
+  next-yes m = mark-yes 4 0x42 0x41 at s (eqb (getD (drop at s) 2 0) o) (omega arith) m ∙ rw getD-drop
+
+-- ---- the end
+
+pub record End (at : ℕ) (s : List ℕ) : Type 0 where
+  pub last : at + 2 ≡ length s
+  pub first : getD s at 0 ≡ 0x45
+
+module _ (at : ℕ) (s : List ℕ) where
+  ended : endOk (drop at s) ≡ both (eqb (length s - at) 2) (both (eqb (getD s at 0) 0x45) (eqb (getD s (at + 1) 0) 0x4E))
+  unfolding endOk
+  ended = simp (length-drop, getD-drop, add-zero)
+
+  end-facts : endOk (drop at s) ≡ true → End at s
+  end-facts e =
+      let e0 = sym ended ∙ e in
+      record {
+        last = omega (arith, eqb-true (length s - at) 2 (both-0 _ _ e0));
+        first = eqb-true _ _ (both-0 _ _ (both-1 (eqb (length s - at) 2) _ e0));
+      }
+
+  pub end-no : (End at s → ⊥) → endOk (drop at s) ≡ false
+  end-no f = by-test _ (endOk (drop at s)) (λ e. absurd (f (end-facts e))) (λ e. e)
+
+  pub end-yes : End at s → endOk (drop at s) ≡ eqb (getD s (at + 1) 0) 0x4E
+  unfolding both
+  end-yes m = ended ∙ rw (eq-eqb (length s - at) 2 (omega (arith, m .last)), eq-eqb (getD s at 0) 0x45 (m .first))
+
+  pub end-room : endOk (drop at s) ≡ true → at + 2 ≤ length s
+  end-room e = omega (arith, end-facts e)
+
+  pub end-good : endOk (drop at s) ≡ true → record { ok = true; next = at + 2 } ≡ endAt at s
+  unfolding endAt pick
+  end-good e = rw e
+
+  pub end-bad : endOk (drop at s) ≡ false → record { ok = false; next = 0 } ≡ endAt at s
+  unfolding endAt pick
+  end-bad e = rw e

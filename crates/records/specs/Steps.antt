@@ -1,0 +1,32 @@
+-- What reading one record of a message answers: whether it stands at the position, what it says, and the position after it. Assumes nothing.
+use Prim.Native.Nat.{ℕ, _+_}
+use mathlib.Core.Bool.{true, false}
+use mathlib.Core.List.{List}
+use lib.ListN.{drop}
+use Rattle.ballots.specs.Ballots.{ballotOf, noBallot}
+use Rattle.protocol.specs.Tests.{pick}
+use Rattle.spelling.specs.Reading.{recordHere, recordAt, ballotOk, tailAt, sizeAt, endOk}
+use Rattle.records.specs.declared.BallotStep.{BallotStep}
+use Rattle.records.specs.declared.EndStep.{EndStep}
+use Rattle.records.specs.declared.LogStep.{LogStep}
+
+unfoldable pub badLog : LogStep
+badLog = record { ok = false; value = 0; next = 0 }
+
+-- the log record at a position, under n offices
+unfoldable pub logAt : ℕ → ℕ → List ℕ → LogStep
+logAt n at s = pick (recordHere n (drop at s)) (record { ok = true; value = recordAt (drop at s); next = at + 6 }) badLog
+
+unfoldable pub badBallot : BallotStep
+badBallot = record { ok = false; next = 0; ballot = noBallot }
+
+-- the ballot of office o at a position, under n offices and k settled entries; none where another record stands there
+unfoldable pub ballotAt : ℕ → ℕ → ℕ → ℕ → List ℕ → BallotStep
+ballotAt n k o at s =
+    pick (ballotOk n k o (drop at s))
+    (record { ok = true; next = at + sizeAt o (drop at s); ballot = ballotOf (tailAt o (drop at s)) })
+    badBallot
+
+-- the end at a position, "then nothing"
+unfoldable pub endAt : ℕ → List ℕ → EndStep
+endAt at s = pick (endOk (drop at s)) (record { ok = true; next = at + 2 }) (record { ok = false; next = 0 })

@@ -1,0 +1,223 @@
+// One record of a message, read at a position: a log record, an office's ballot, the end.
+use ballots::Ballot;
+use spelling::be32_at;
+use spelling::wide;
+ghost use mathlib.Core.Path.{_≡_};
+ghost use Prim.Native.Nat.{_+_, _*_, _≤_};
+ghost use lib.ListN.{length, drop};
+ghost use Rattle.ballots.specs.Ballots.{ballotOf};
+ghost use Rattle.spelling.specs.Numbers.{be32, runAt, runOk};
+ghost use Rattle.spelling.specs.Reading.{valueHere, recordHere, recordAt, ballotNext, endOk};
+ghost use Rattle.records.specs.Steps.{badLog, logAt, badBallot, ballotAt, endAt};
+
+// A log record, and the position after it.
+pub struct LogStep {
+    pub ok: bool,
+    pub value: u32,
+    pub next: usize,
+}
+
+// An office's ballot, and the position after it.
+pub struct BallotStep {
+    pub ok: bool,
+    pub next: usize,
+    pub ballot: Ballot,
+}
+
+// The end, and the position after it.
+pub struct EndStep {
+    pub ok: bool,
+    pub next: usize,
+}
+
+// The value of the log record at a position. Public only for the crates above, which prove that one stands there.
+pub fn record_at(s: &[u8], at: usize) -> u32
+    requires { ⌜ at + 6 ≤ length (now s) ⌝ }
+    ensures { λ r. ⌜ r ≡ recordAt (drop at (now (s .entry))) ⌝ }
+{
+    be32_at(s, at + 2)
+}
+
+// Whether a log record of an entry under n offices stands at a position.
+fn record_here(s: &[u8], at: usize, n: usize) -> bool
+    ensures { λ r. ⌜ r ≡ recordHere n (drop at (now (s .entry))) ⌝ }
+{
+    if s.len() < 6 {
+        return false;
+    }
+    if at > s.len() - 6 {
+        return false;
+    }
+    if s[at] != 0x4C {
+        return false;
+    }
+    if s[at + 1] != 0x47 {
+        return false;
+    }
+    entries::is_entry(be32_at(s, at + 2), n)
+}
+
+// No log record.
+fn bad_log() -> LogStep
+    ensures { λ r. ⌜ r ≡ badLog ⌝ }
+{
+    LogStep {
+        ok: false,
+        value: 0,
+        next: 0,
+    }
+}
+
+// The log record at a position.
+pub fn log_at(s: &[u8], at: usize, n: usize) -> LogStep
+    ensures { λ r. ⌜ r ≡ logAt n at (now (s .entry)) ⌝ }
+{
+    if record_here(s, at, n) {
+        let value = record_at(s, at);
+        LogStep {
+            ok: true,
+            value,
+            next: at + 6,
+        }
+    } else {
+        bad_log()
+    }
+}
+
+// Whether the value of an entry under n offices stands at a position.
+fn value_here(s: &[u8], at: usize, n: usize) -> bool
+    requires { ⌜ at ≤ length (now s) ⌝ }
+    ensures { λ r. ⌜ r ≡ valueHere n (drop at (now (s .entry))) ⌝ }
+{
+    if s.len() - at < 4 {
+        return false;
+    }
+    entries::is_entry(be32_at(s, at), n)
+}
+
+// Whether k such values stand at a position.
+fn values_ok(s: &[u8], from: usize, n: usize, k: usize) -> bool
+    requires { ⌜ from ≤ length (now s) ⌝ }
+    ensures { λ r. ⌜ r ≡ runOk 4 (valueHere n) k (drop from (now (s .entry))) ⌝ }
+{
+    let mut at = from;
+    for i in 0..k {
+        if value_here(s, at, n) {
+            at += 4;
+        } else {
+            return false;
+        }
+    }
+    true
+}
+
+// The k values at a position, as a ballot's cells.
+fn values_at(s: &[u8], from: usize, k: usize) -> [u32; 32]
+    requires { ⌜ (k ≤ 32) × (from + 4 * k ≤ length (now s)) ⌝ }
+    ensures { λ r. ⌜ r ≡ ballotOf (runAt 4 be32 k (drop from (now (s .entry)))) .cells ⌝ }
+{
+    let mut cells = [0u32; 32];
+    let mut at = from;
+    for i in 0..k {
+        cells[i] = be32_at(s, at);
+        at += 4;
+    }
+    cells
+}
+
+// Whether a ballot of office o comes next.
+fn ballot_next(s: &[u8], at: usize, o: usize) -> bool
+    ensures { λ r. ⌜ r ≡ ballotNext o (drop at (now (s .entry))) ⌝ }
+{
+    if s.len() < 4 {
+        return false;
+    }
+    if at > s.len() - 4 {
+        return false;
+    }
+    if s[at] != 0x42 {
+        return false;
+    }
+    if s[at + 1] != 0x41 {
+        return false;
+    }
+    wide(s[at + 2]) as usize == o
+}
+
+// A ballot outside the limits.
+fn bad_ballot() -> BallotStep
+    ensures { λ r. ⌜ r ≡ badBallot ⌝ }
+{
+    let ballot = Ballot::none();
+    BallotStep {
+        ok: false,
+        next: 0,
+        ballot,
+    }
+}
+
+// The ballot of office o at a position, under n offices and k settled entries; none where another record stands there.
+pub fn ballot_at(s: &[u8], at: usize, n: usize, k: usize, o: usize) -> BallotStep
+    ensures { λ r. ⌜ r ≡ ballotAt n k o at (now (s .entry)) ⌝ }
+{
+    if ballot_next(s, at, o) {
+        let len = wide(s[at + 3]) as usize;
+        if len < 1 {
+            return bad_ballot();
+        }
+        if len > 32 {
+            return bad_ballot();
+        }
+        if k > 1024 - len {
+            return bad_ballot();
+        }
+        if values_ok(s, at + 4, n, len) {
+            let cells = values_at(s, at + 4, len);
+            let ballot = Ballot { len, cells };
+            BallotStep {
+                ok: true,
+                next: at + (4 + 4 * len),
+                ballot,
+            }
+        } else {
+            bad_ballot()
+        }
+    } else {
+        let ballot = Ballot::none();
+        BallotStep {
+            ok: true,
+            next: at,
+            ballot,
+        }
+    }
+}
+
+// Whether the end mark and nothing after it stands at a position.
+fn end_ok(s: &[u8], at: usize) -> bool
+    ensures { λ r. ⌜ r ≡ endOk (drop at (now (s .entry))) ⌝ }
+{
+    if s.len() < 2 {
+        return false;
+    }
+    if at != s.len() - 2 {
+        return false;
+    }
+    if s[at] != 0x45 {
+        return false;
+    }
+    s[at + 1] == 0x4E
+}
+
+// The end at a position.
+pub fn end_at(s: &[u8], at: usize) -> EndStep
+    ensures { λ r. ⌜ r ≡ endAt at (now (s .entry)) ⌝ }
+{
+    if end_ok(s, at) {
+        EndStep {
+            ok: true,
+            next: at + 2,
+        }
+    } else {
+        EndStep { ok: false, next: 0 }
+    }
+}
