@@ -1,0 +1,130 @@
+-- One turn of the loops that read the log records and the ballots, and their exits. Assumes nothing.
+use Prim.Native.Nat.{ℕ, _+_, _-_, _<_, _≤_, suc, zero}
+use mathlib.Core.Bool.{false, true}
+use mathlib.Core.List.{List, [], _∷_, map, map-append}
+use mathlib.Core.Path.{_∙_, _≡_, ap, refl, sym}
+use native.Mathlib.Nat.{sub-zero}
+use native.Mathlib.Numerals.{add-one}
+use native.Mathlib.Omega.{arith}
+use lib.ListN.{drop, length, length-map, replicate, set}
+use lib.Seq.{drop-drop, sets}
+use Rattle.ballots.specs.Ballots.{ballotOf, noBallot}
+use Rattle.ballots.specs.declared.Ballot.{Ballot}
+use Rattle.protocol.specs.Tests.{both, pick}
+use Rattle.records.specs.Steps.{badBallot, badLog, ballotAt, endAt, logAt}
+use Rattle.records.specs.declared.BallotStep.{BallotStep}
+use Rattle.records.specs.declared.LogStep.{LogStep}
+use Rattle.spelling.specs.Content.{eightTails}
+use Rattle.spelling.specs.Numbers.{runOk}
+use Rattle.spelling.specs.Reading.{afterBallot, ballotOk, ballotsOk, endOk, recordHere, sizeAt, tailAt, tailsAt}
+use Rattle.spelling.proofs.Ballots.{by-test, tailsAt-length}
+use Rattle.spelling.proofs.Numbers.{sets-alike}
+use Rattle.spelling.proofs.Steps.{test-fails, test-step}
+use Rattle.reader.specs.Read.{badRecords, ballotsAt, ballotsOf}
+
+module _ (n k o at : ℕ) (s : List ℕ) where
+  pub step-ok : ballotAt n k o at s .ok ≡ ballotOk n k o (drop at s)
+  unfolding ballotAt pick badBallot
+  step-ok = by-test _ (ballotOk n k o (drop at s)) (λ e. rw e) (λ e. rw e)
+
+  module _ (e : ballotOk n k o (drop at s) ≡ true) where
+    pub step-next : ballotAt n k o at s .next ≡ at + sizeAt o (drop at s)
+    unfolding ballotAt pick
+    step-next = rw e
+
+    pub step-ballot : ballotAt n k o at s .ballot ≡ ballotOf (tailAt o (drop at s))
+    unfolding ballotAt pick
+    step-ballot = rw e
+
+    pub turn-ok : o < n → ballotsOk n k o (n - o) (drop at s) ≡ ballotsOk n k (o + 1) (n - (o + 1)) (drop (at + sizeAt o (drop at s)) s)
+    unfolding ballotsOk afterBallot both
+    turn-ok h = let q : n - o ≡ suc (n - (o + 1)) = omega arith in rw (q, e, add-one o, drop-drop)
+
+  pub turn-fails : o < n → ballotOk n k o (drop at s) ≡ false → ballotsOk n k o (n - o) (drop at s) ≡ false
+  unfolding ballotsOk both
+  turn-fails h e = let q : n - o ≡ suc (n - (o + 1)) = omega arith in rw (q, e)
+
+  pub turn-tails : (l : List Ballot) → o < n
+      → sets (set l o (ballotOf (tailAt o (drop at s)))) (o + 1) (map ballotOf (tailsAt (o + 1) (n - (o + 1)) (drop (at + sizeAt o (drop at s)) s)))
+      ≡ sets l o (map ballotOf (tailsAt o (n - o) (drop at s)))
+  unfolding tailsAt afterBallot
+  turn-tails l h = let q : n - o ≡ suc (n - (o + 1)) = omega arith in rw (q, add-one o, drop-drop)
+
+  pub end-tails : (l : List Ballot) → n ≤ o → sets l o (map ballotOf (tailsAt o (n - o) (drop at s))) ≡ l
+  unfolding tailsAt
+  end-tails l h = let q : n - o ≡ 0 = omega arith in rw q
+
+  pub end-test : n ≤ o → ballotsOk n k o (n - o) (drop at s) ≡ endOk (drop at s)
+  unfolding ballotsOk
+  end-test h = let q : n - o ≡ 0 = omega arith in rw q
+
+pub all-bad : (n k at : ℕ) (s : List ℕ) → ballotsOk n k 0 n (drop at s) ≡ false → ballotsAt n k at s ≡ badRecords
+unfolding ballotsAt pick
+all-bad n k at s e = rw e
+
+-- eight ballots of which the first n are stored
+stored-all : (n : ℕ) (ts : List (List ℕ)) → length ts ≡ n → n ≤ 8 → sets (replicate 8 noBallot) 0 (map ballotOf ts) ≡ ballotsOf n ts
+unfolding ballotsOf eightTails
+stored-all n ts e h =
+    let l : length (map ballotOf ts) ≡ n = length-map ts ballotOf ∙ e in
+    sets-alike 8 noBallot (map ballotOf ts) (omega arith) ∙ rw (l, map-append, map-alike (8 - n))
+  where
+    map-alike : (k : ℕ) → map ballotOf (replicate k []) ≡ replicate k noBallot
+    map-alike zero = refl
+    map-alike (suc k) = ap (λ (bs : List Ballot). noBallot ∷ bs) (map-alike k)
+
+pub all-good : (n k at : ℕ) (s : List ℕ) (l : List Ballot) → n ≤ 8 → ballotsOk n k 0 n (drop at s) ≡ true → l ≡ sets (replicate 8 noBallot) 0 (map ballotOf (tailsAt 0 n (drop at s)))
+    → record { ok = true; ballots = l } ≡ ballotsAt n k at s
+unfolding ballotsAt pick
+all-good n k at s l h e q = rw (e, q, stored-all n (tailsAt 0 n (drop at s)) (tailsAt-length 0 n (drop at s)) h)
+
+-- what the end's step says
+pub end-step-ok : (at : ℕ) (s : List ℕ) → endAt at s .ok ≡ endOk (drop at s)
+unfolding endAt pick
+end-step-ok at s = by-test _ (endOk (drop at s)) (λ e. rw e) (λ e. rw e)
+
+-- what a log record's step says, in a turn of the loop over the log records
+module _ (n k i at : ℕ) (s : List ℕ) where
+  pub log-step-ok : logAt n at s .ok ≡ recordHere n (drop at s)
+  unfolding logAt pick badLog
+  log-step-ok = by-test _ (recordHere n (drop at s)) (λ e. rw e) (λ e. rw e)
+
+  pub log-step-next : recordHere n (drop at s) ≡ true → logAt n at s .next ≡ at + 6
+  unfolding logAt pick
+  log-step-next e = rw e
+
+  pub log-turn : (r : LogStep) → i < k → r ≡ logAt n at s → r .ok ≡ true → runOk 6 (recordHere n) (k - (i + 1)) (drop (r .next) s) ≡ runOk 6 (recordHere n) (k - i) (drop at s)
+  log-turn r h e t =
+      let q : recordHere n (drop at s) ≡ true = sym log-step-ok ∙ ap (λ (x : LogStep). x .ok) (sym e) ∙ t in
+      rw (e, log-step-next q) (sym (test-step 6 (recordHere n) k i at s h q))
+
+  pub log-fails : (r : LogStep) → i < k → r ≡ logAt n at s → r .ok ≡ false → runOk 6 (recordHere n) (k - i) (drop at s) ≡ false
+  log-fails r h e t = test-fails 6 (recordHere n) k i (drop at s) h (sym log-step-ok ∙ ap (λ (x : LogStep). x .ok) (sym e) ∙ t)
+
+-- ---- the loop's invariant: what is left to test, and to store, from office o at position at, is what there was to test and to store at first
+
+pub record Left (s : List ℕ) (from n k : ℕ) (l : List Ballot) (at o : ℕ) : Type 0 where
+  pub few : o ≤ n
+  pub tests : ballotsOk n k o (n - o) (drop at s) ≡ ballotsOk n k 0 n (drop from s)
+  pub stores : sets l o (map ballotOf (tailsAt o (n - o) (drop at s))) ≡ sets (replicate 8 noBallot) 0 (map ballotOf (tailsAt 0 n (drop from s)))
+
+module _ (s : List ℕ) (from n k : ℕ) (l : List Ballot) (at o : ℕ) (inv : Left s from n k l at o) where
+  pub again : (r : BallotStep) → o < n → r ≡ ballotAt n k o at s → r .ok ≡ true → Left s from n k (set l o (r .ballot)) (r .next) (o + 1)
+  again r h e t =
+      let q : ballotOk n k o (drop at s) ≡ true = sym (step-ok n k o at s) ∙ ap (λ (x : BallotStep). x .ok) (sym e) ∙ t in
+      rw (e, step-next n k o at s q, step-ballot n k o at s q)
+      (record { few = omega arith; tests = sym (turn-ok n k o at s q h) ∙ inv .tests; stores = turn-tails n k o at s l h ∙ inv .stores })
+
+  pub fails : (r : BallotStep) → o < n → r ≡ ballotAt n k o at s → r .ok ≡ false → ballotsAt n k from s ≡ badRecords
+  fails r h e t =
+      let q : ballotOk n k o (drop at s) ≡ false = sym (step-ok n k o at s) ∙ ap (λ (x : BallotStep). x .ok) (sym e) ∙ t in
+      all-bad n k from s (sym (inv .tests) ∙ turn-fails n k o at s h q)
+
+  pub ends-bad : n ≤ o → endOk (drop at s) ≡ false → ballotsAt n k from s ≡ badRecords
+  ends-bad h e = all-bad n k from s (sym (inv .tests) ∙ end-test n k o at s h ∙ e)
+
+  pub ends-good : n ≤ 8 → n ≤ o → endOk (drop at s) ≡ true → record { ok = true; ballots = l } ≡ ballotsAt n k from s
+  ends-good few h e = all-good n k from s l few (sym (inv .tests) ∙ end-test n k o at s h ∙ e) (sym (end-tails n k o at s l h) ∙ inv .stores)
+
+pub begins-left : (s : List ℕ) (from n k : ℕ) (b : Ballot) → b ≡ noBallot → Left s from n k (replicate 8 b) from 0
+begins-left s from n k b e = record { few = omega arith; tests = rw sub-zero; stores = rw (sub-zero, e) }

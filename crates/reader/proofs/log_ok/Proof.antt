@@ -1,0 +1,45 @@
+-- The invariant: what is left to test from the position on gives what there was to test at the start.
+use Prim.Native.Nat.{_≤_, _-_}
+use mathlib.Core.Path.{_≡_, sym, _∙_}
+use native.Mathlib.Nat.{sub-zero}
+use native.Mathlib.Omega.{arith}
+use lib.ListN.{drop}
+use borrow.Author.Needs.{needs}
+use Rattle.spelling.specs.Numbers.{runOk}
+use Rattle.spelling.specs.Reading.{recordHere}
+use Rattle.spelling.proofs.Steps.{test-end}
+use Rattle.reader.proofs.Ballots.{log-fails, log-turn}
+use Rattle.reader.proofs.log_ok.Statement.{statement}
+use Rattle.reader.proofs.log_ok.Tie as tie
+
+abbrev Inv-loop : tie.InvT-loop
+Inv-loop rest n k at₀ i₀ at i = (i ≤ k) × (runOk 6 (recordHere n) (k - i) (drop at rest) ≡ runOk 6 (recordHere n) k rest)
+
+abbrev μ-loop : tie.MeasureT-loop
+μ-loop rest n k at₀ i₀ at i = k - i
+
+loop-holds : tie.Need-loop-holds Inv-loop μ-loop
+loop-holds c = (search needs, simp sub-zero)
+
+returns : tie.Need-returns Inv-loop μ-loop
+returns c = sym (log-fails (c .before .before .before .before .before .args .n) _ _ (c .before .before .before .loop .at) (c .before .before .before .before .before .args .rest .now) (c .before .log-at .result) (c .before .before .loop-test .taken) (c .before .log-at .ensures) (c .if1 .left)) ∙ c .before .before .before .loop .inv .1
+
+loop-again : tie.Need-loop-again Inv-loop μ-loop
+loop-again c = (omega arith, log-turn (c .before .before .before .before .before .args .n) _ _ (c .before .before .before .loop .at) (c .before .before .before .before .before .args .rest .now) (c .before .log-at .result) (c .before .before .loop-test .taken) (c .before .log-at .ensures) (c .if1 .taken) ∙ c .before .before .before .loop .inv .1)
+
+returns-2 : tie.Need-returns-2 Inv-loop μ-loop
+returns-2 c = sym (test-end 6 _ _ _ _ (c .loop-test .left)) ∙ c .before .loop .inv .1
+
+pub log-ok-spec : {M : Type 1} → statement M
+log-ok-spec =
+    tie.close
+    (tie.spec
+    Inv-loop
+    μ-loop
+    loop-holds
+    (λ c κs. search needs)
+    returns
+    (λ c. omega arith)
+    (λ c. omega arith)
+    loop-again
+    returns-2)

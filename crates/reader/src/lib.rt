@@ -1,0 +1,234 @@
+// Reading a message: what it says, or a refusal; and its settled entries where they stand, compared with a log or written to it.
+use ballots::Ballot;
+use records::ballot_at;
+use records::end_at;
+use records::log_at;
+use records::record_at;
+use spelling::be16_at;
+use spelling::wide;
+ghost use mathlib.Core.Path.{_≡_};
+ghost use Prim.Native.Nat.{_+_, _*_, _≤_};
+ghost use lib.ListN.{length, take, drop};
+ghost use lib.Seq.{sets};
+ghost use Rattle.protocol.specs.Beginning.{begins};
+ghost use Rattle.spelling.specs.Numbers.{be16, runAt, runOk};
+ghost use Rattle.spelling.specs.Reading.{recordHere, recordAt, headOk, reading};
+ghost use Rattle.reader.specs.Read.{eightWeights, badRecords, ballotsAt, recordsAt, badReading, readingOf};
+
+// What the records after the head say: the ballots. The settled entries stay in the message.
+pub struct Records {
+    pub ok: bool,
+    pub ballots: [Ballot; 8],
+}
+
+// What a message says. Its settled entries stay in it, six bytes each after the head.
+pub struct Reading {
+    pub ok: bool,
+    pub sender: usize,
+    pub n: usize,
+    pub weights: [u16; 8],
+    pub settled: usize,
+    pub head: usize,
+    pub ballots: [Ballot; 8],
+}
+
+// Whether k log records of entries under n offices stand at the start.
+fn log_ok(rest: &[u8], n: usize, k: usize) -> bool
+    ensures { λ r. ⌜ r ≡ runOk 6 (recordHere n) k (now (rest .entry)) ⌝ }
+{
+    let mut at: usize = 0;
+    for i in 0..k {
+        let step = log_at(rest, at, n);
+        let ok = step.ok;
+        if ok {
+            at = step.next;
+        } else {
+            return false;
+        }
+    }
+    true
+}
+
+// No ballots.
+fn bad_records() -> Records
+    ensures { λ r. ⌜ r ≡ badRecords ⌝ }
+{
+    let none = Ballot::none();
+    Records {
+        ok: false,
+        ballots: [none; 8],
+    }
+}
+
+// The ballots of n offices from a position on, to the end of the message.
+fn ballots_at(rest: &[u8], from: usize, n: usize, k: usize) -> Records
+    requires { ⌜ n ≤ 8 ⌝ }
+    ensures { λ r. ⌜ r ≡ ballotsAt n k from (now (rest .entry)) ⌝ }
+{
+    let none = Ballot::none();
+    let mut ballots = [none; 8];
+    let mut at = from;
+    for o in 0..n {
+        let step = ballot_at(rest, at, n, k, o);
+        let ok = step.ok;
+        if ok {
+            let b = step.ballot;
+            ballots[o] = b;
+            at = step.next;
+        } else {
+            return bad_records();
+        }
+    }
+    let end = end_at(rest, at);
+    let ok = end.ok;
+    if ok {
+        Records { ok: true, ballots }
+    } else {
+        bad_records()
+    }
+}
+
+// The records after the head: k log records, the ballots of n offices, the end. Public only for the crate above, which has no
+// message whose head names more than eight offices or 1024 entries.
+pub fn records_at(rest: &[u8], n: usize, k: usize) -> Records
+    requires { ⌜ (k ≤ 1024) × (n ≤ 8) ⌝ }
+    ensures { λ r. ⌜ r ≡ recordsAt n k (now (rest .entry)) ⌝ }
+{
+    if log_ok(rest, n, k) {
+        ballots_at(rest, 6 * k, n, k)
+    } else {
+        bad_records()
+    }
+}
+
+// The k weights at a position, and zeros after them.
+fn weights_at(s: &[u8], from: usize, k: usize) -> [u16; 8]
+    requires { ⌜ (k ≤ 8) × (from + 2 * k ≤ length (now s)) ⌝ }
+    ensures { λ r. ⌜ r ≡ eightWeights k (runAt 2 be16 k (drop from (now (s .entry)))) ⌝ }
+{
+    let mut weights = [0u16; 8];
+    let mut at = from;
+    for i in 0..k {
+        weights[i] = be16_at(s, at);
+        at += 2;
+    }
+    weights
+}
+
+// Whether a message starts with a head whose fields are within the limits.
+fn head_ok(s: &[u8]) -> bool
+    ensures { λ r. ⌜ r ≡ headOk (now (s .entry)) ⌝ }
+{
+    if s.len() < 4 {
+        return false;
+    }
+    if s[0] != 0x53 {
+        return false;
+    }
+    if s[1] != 0x48 {
+        return false;
+    }
+    let n = wide(s[3]) as usize;
+    if n < 1 {
+        return false;
+    }
+    if n > 8 {
+        return false;
+    }
+    let sender = wide(s[2]) as usize;
+    if sender >= n {
+        return false;
+    }
+    if s.len() < 6 + 2 * n {
+        return false;
+    }
+    if be16_at(s, 4 + 2 * n) > 1024 {
+        return false;
+    }
+    true
+}
+
+// No message.
+fn bad_reading() -> Reading
+    ensures { λ r. ⌜ r ≡ badReading ⌝ }
+{
+    let none = Ballot::none();
+    Reading {
+        ok: false,
+        sender: 0,
+        n: 0,
+        weights: [0u16; 8],
+        settled: 0,
+        head: 0,
+        ballots: [none; 8],
+    }
+}
+
+// What a message says, or a refusal. "The rest of the message after the head" is handed on to the record reader.
+pub fn read(msg: &[u8]) -> Reading
+    ensures { λ r. ⌜ r ≡ readingOf (reading (now (msg .entry))) ⌝ }
+{
+    if head_ok(msg) {
+        let n = wide(msg[3]) as usize;
+        let at = 4 + 2 * n;
+        let settled = be16_at(msg, at) as usize;
+        let head = 6 + 2 * n;
+        let rest = &msg[head..];
+        let records = records_at(rest, n, settled);
+        let ok = records.ok;
+        if ok {
+            let weights = weights_at(msg, 4, n);
+            let ballots = records.ballots;
+            let sender = wide(msg[2]) as usize;
+            Reading {
+                ok: true,
+                sender,
+                n,
+                weights,
+                settled,
+                head,
+                ballots,
+            }
+        } else {
+            bad_reading()
+        }
+    } else {
+        bad_reading()
+    }
+}
+
+// Whether the first k words of a log are the values of the first k log records. Public only for the crate above, which proves that
+// there are as many of both, here and below.
+pub fn same_log(log: &[u32], rest: &[u8], k: usize) -> bool
+    requires { ⌜ (k ≤ length (now log)) × (6 * k ≤ length (now rest)) ⌝ }
+    ensures { λ r. ⌜ r ≡ begins (take k (now (log .entry))) (runAt 6 recordAt k (now (rest .entry))) ⌝ }
+{
+    let mut at: usize = 0;
+    for i in 0..k {
+        if log[i] != record_at(rest, at) {
+            return false;
+        }
+        at += 6;
+    }
+    true
+}
+
+// The values of the k log records from a position on, written to the start of a part of the log.
+fn fill(part: &mut [u32], rest: &[u8], from: usize, k: usize)
+    requires { ⌜ (k ≤ length (now part)) × (from + 6 * k ≤ length (now rest)) ⌝ }
+    ensures { λ _. ⌜ now (part .exit) ≡ sets (now (part .entry)) 0 (runAt 6 recordAt k (drop from (now (rest .entry)))) ⌝ }
+{
+    let mut at = from;
+    for i in 0..k {
+        part[i] = record_at(rest, at);
+        at += 6;
+    }
+}
+
+// "Writes the missing entries from its own length onward": those of the message's k log records past the settled length.
+pub fn extend(log: &mut [u32], settled: usize, rest: &[u8], k: usize)
+    requires { ⌜ (settled ≤ k) × ((k ≤ length (now log)) × (6 * k ≤ length (now rest))) ⌝ }
+    ensures { λ _. ⌜ now (log .exit) ≡ sets (now (log .entry)) settled (drop settled (runAt 6 recordAt k (now (rest .entry)))) ⌝ }
+{
+    fill(&mut log[settled..], rest, 6 * settled, k - settled)
+}
