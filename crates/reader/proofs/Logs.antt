@@ -1,7 +1,7 @@
 -- The settled entries in the message: those compared with a log, and those written to the part of it that is lent. Assumes nothing.
 use Prim.Native.Nat.{ℕ, _*_, _-_, _≤_, suc, zero, _+_, _<_}
 use mathlib.Core.Bool.{Bool, _&&_, false, true, false≢true}
-use mathlib.Core.List.{List, [], _++_, _∷_, append-nil, append-assoc}
+use mathlib.Core.List.{List, [], _++_, _∷_, append-nil}
 use mathlib.Core.Path.{_∙_, _≡_, ap, refl, sym}
 use native.Mathlib.Nat.{mul-zero, sub-zero}
 use native.Mathlib.Numerals.{add-one}
@@ -129,4 +129,4 @@ extended log theirs settled h j e =
     let d : length (drop settled theirs) ≡ length theirs - settled = length-drop settled theirs in
     let s : settled + length (drop settled theirs) ≡ length theirs = omega arith in
     let q : take settled log ++ drop settled theirs ≡ theirs = rw l at (begins-rest (take settled log) theirs e) in
-    sets-eq (drop settled theirs) log settled (omega arith) ∙ rw s (sym (append-assoc (take settled log) (drop settled theirs) (drop (length theirs) log)) ∙ ap (λ (x : List ℕ). x ++ drop (length theirs) log) q)
+    sets-eq (drop settled theirs) log settled (omega arith) ∙ rw s (ap (λ (x : List ℕ). x ++ drop (length theirs) log) q)
