@@ -111,7 +111,7 @@ fn read_ballot<'a>(message: &mut Message<'a>, next: &mut usize, bytes: &'a [u8])
     Some(rest)
 }
 
-/// Bytes of the message of a sound record.
+/// Bytes of the message of a sound record, or of any whose lengths have room.
 pub(crate) fn length(record: &Record) -> usize {
     let ballots = record.ballots[..record.n].iter().filter(|ballot| ballot.len > 0);
     let ballots: usize = ballots.map(|ballot| 4 + 4 * ballot.len).sum();
@@ -131,8 +131,8 @@ pub fn send(record: &Record, log: &[u32], output: &mut [u8]) -> (u32, usize) {
     (DONE, length)
 }
 
-/// Writes the message of a sound record into an output of exactly its length.
-fn write(record: &Record, settled: &[u32], output: &mut [u8]) {
+/// Writes the message of such a record into an output of exactly its length.
+pub(crate) fn write(record: &Record, settled: &[u32], output: &mut [u8]) {
     let rest = put(output, &HEAD);
     let mut rest = put(rest, &[record.own as u8, record.n as u8]);
     for weight in &record.weights[..record.n] {

@@ -1,9 +1,9 @@
 //! Random records with their logs, related to each other so that calls on them have something to do.
 
 use crate::generate::weights;
-use crate::message::{send, LONGEST};
+use crate::message::{length, write};
 use crate::random::Random;
-use crate::record::{entry, Ballot, Record, LOG, OFFICES, TAIL};
+use crate::record::{entry, sound, Ballot, Record, LOG, OFFICES, TAIL};
 
 /// A record and its log.
 #[derive(Clone, Debug, PartialEq, Eq)]
@@ -30,11 +30,24 @@ impl Sample {
         Sample { record, log }
     }
 
-    /// The message that a sound record sends.
+    /// The message that a sound record sends; of no bytes for one that isn't sound.
     pub fn message(&self) -> Vec<u8> {
-        let mut output = [0; LONGEST];
-        let (_, length) = send(&self.record, &self.log, &mut output);
-        output[..length].to_vec()
+        if !sound(&self.record, &self.log) {
+            return vec![];
+        }
+        self.spelled()
+    }
+
+    /// The message as it would be spelled, sound or not; of no bytes if a length has no room.
+    pub fn spelled(&self) -> Vec<u8> {
+        let Sample { record, log } = self;
+        let room = record.n <= OFFICES && record.settled <= log.len() && record.ballots.iter().all(|b| b.len <= TAIL);
+        if !room {
+            return vec![];
+        }
+        let mut output = vec![0; length(record)];
+        write(record, &log[..record.settled], &mut output);
+        output
     }
 }
 
@@ -75,12 +88,16 @@ impl Family {
         Family { n, weights: all, entries, path, around }
     }
 
-    /// The same offices with another weight.
-    pub fn reweighted(&self, random: &mut Random) -> Family {
-        let mut weights = self.weights;
-        let office = random.below(self.n);
-        weights[office] = if weights[office] == 7 { 8 } else { 7 };
-        Family { weights, entries: self.entries.clone(), path: self.path.clone(), ..*self }
+    /// The same paths with another weight, or with one more office that has none.
+    pub fn other(&self, random: &mut Random) -> Family {
+        let (mut n, mut weights) = (self.n, self.weights);
+        if n < OFFICES && random.percent(50) {
+            n += 1;
+        } else {
+            let office = random.below(n);
+            weights[office] = if weights[office] == 7 { 8 } else { 7 };
+        }
+        Family { n, weights, entries: self.entries.clone(), path: self.path.clone(), around: self.around }
     }
 
     /// An office of the family.

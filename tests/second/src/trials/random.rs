@@ -1,8 +1,10 @@
 //! Random records, sound and not, with messages that are related to them, and calls on these.
 
 use super::Trials;
+use crate::generate::weights;
 use crate::random::Random;
-use crate::samples::{break_one, Family};
+use crate::record::{OFFICES, TAIL};
+use crate::samples::{break_one, Family, Sample};
 use crate::trial::BYTE_ROOM;
 
 /// Tries this many random records.
@@ -44,18 +46,41 @@ fn broken(random: &mut Random) -> usize {
     }
 }
 
-/// A message from an office of the family, seldom the receiver's, or one with another weight, or a damaged one.
+/// A message from an office of the family, seldom the receiver's, or one with other weights, or one that no record sends.
 fn message(random: &mut Random, family: &Family, receiver: usize) -> Vec<u8> {
-    let other = family.reweighted(random);
-    let family = if random.percent(4) { &other } else { family };
+    let other = family.other(random);
+    let family = if random.percent(5) { &other } else { family };
     let mut from = family.office(random);
     if from == receiver && random.percent(85) {
         from = family.office(random);
     }
-    let mut bytes = family.sample(random, from).message();
-    if bytes.is_empty() || random.percent(85) {
-        return bytes;
+    let mut sender = family.sample(random, from);
+    match random.below(20) {
+        0..=15 => sender.message(),
+        16 | 17 => {
+            forge(random, &mut sender);
+            sender.spelled()
+        }
+        _ => damaged(random, sender.message()),
     }
+}
+
+/// Makes the record one whose message is of the layout, its numbers not all within the limits.
+fn forge(random: &mut Random, sender: &mut Sample) {
+    let Sample { record, log } = sender;
+    let wrong = random.pick(&[(record.n as u32) << 24, 64 << 16, 10_000, u32::MAX]);
+    let ballot = &mut record.ballots[random.below(record.n)];
+    match random.below(4) {
+        0 => record.own = random.pick(&[record.n, 8, 255]),
+        1 if record.settled > 0 => log[random.below(record.settled)] = wrong,
+        2 if ballot.len > 0 => ballot.cells[random.below(ballot.len)] = wrong,
+        _ if ballot.len < TAIL => ballot.len += 1,
+        _ => record.settled = (record.settled + random.within(1, 3)).min(log.len()),
+    }
+}
+
+/// The message with a byte changed, or cut, or with a byte more or less.
+fn damaged(random: &mut Random, mut bytes: Vec<u8>) -> Vec<u8> {
     let at = random.below(bytes.len());
     match random.below(5) {
         0 => bytes.truncate(at),
@@ -71,13 +96,24 @@ fn message(random: &mut Random, family: &Family, receiver: usize) -> Vec<u8> {
 fn call(trials: &mut Trials, random: &mut Random) {
     let line = random.pick(&[0, 1, 5, 62, 63, 63, 64, 256, u32::MAX]);
     let code = random.pick(&[0, 1, 120, 9999, 9999, 10_000, 65_536, u32::MAX]);
-    match random.below(8) {
+    match random.below(9) {
         0 | 1 => trials.say("T"),
         2 => trials.say("E"),
         3 => trials.say("S"),
         4 => trials.say(&format!("V {line}")),
         5 => trials.say("P"),
         6 => trials.say("U"),
+        7 if random.percent(30) => found(trials, random),
         _ => trials.say(&format!("I {line} {code}")),
     }
+}
+
+/// Founds, mostly within the limits.
+fn found(trials: &mut Trials, random: &mut Random) {
+    let n = random.pick(&[0, 1, 2, 3, 3, 5, 8, 9]);
+    let own = random.below(n + 1);
+    let given = random.pick(&[n, n, n, n, 8]);
+    let given = weights(random, given);
+    let weights: String = (0..OFFICES).map(|k| format!(" {}", given.get(k).unwrap_or(&0))).collect();
+    trials.say(&format!("F {n} {own}{weights}"));
 }
