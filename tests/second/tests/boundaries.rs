@@ -101,9 +101,14 @@ fn tails_and_lengths() {
         let office = record(0, &[1], settled, &[(0, &long_tail(tail))]);
         assert_eq!(sound(&office, &long_log(settled)), sound_here, "{settled} {tail}");
     }
-    for (settled, tail, number) in
-        [(0, 31, DONE), (0, 32, TAIL_FULL), (992, 32, TAIL_FULL), (993, 31, LOG_FULL), (1024, 0, LOG_FULL), (1023, 0, DONE)]
-    {
+    for (settled, tail, number) in [
+        (0, 31, DONE),
+        (0, 32, TAIL_FULL),
+        (992, 32, TAIL_FULL),
+        (993, 31, LOG_FULL),
+        (1024, 0, LOG_FULL),
+        (1023, 0, DONE),
+    ] {
         let office = record(0, &[1], settled, &[(0, &long_tail(tail))]);
         let (given, after) = issue(office, &long_log(settled), 63, 9999);
         assert_eq!(given, number, "{settled} {tail}");

@@ -47,6 +47,38 @@ fn spelled_ballot(office: u8, length: u8, times: usize) -> Vec<u8> {
     bytes
 }
 
+/// Bytes that make the proper message improper: marks, sender, n, settled length, entries, ballots, end.
+const IMPROPER: [(usize, u8); 28] = [
+    (0, 0x52),
+    (1, 0x47),
+    (2, 3),
+    (2, 255),
+    (3, 0),
+    (3, 9),
+    (10, 1),
+    (10, 255),
+    (11, 1),
+    (11, 3),
+    (12, 0x4D),
+    (13, 0x48),
+    (14, 3),
+    (15, 64),
+    (16, 40),
+    (24, 0x43),
+    (25, 0x42),
+    (26, 3),
+    (27, 0),
+    (27, 2),
+    (28, 3),
+    (29, 64),
+    (30, 40),
+    (32, 0x45),
+    (34, 0),
+    (35, 33),
+    (44, 0x44),
+    (45, 0x4F),
+];
+
 #[test]
 fn every_other_spelling_is_refused() {
     assert_eq!(given(&proper()), DONE);
@@ -57,12 +89,7 @@ fn every_other_spelling_is_refused() {
     let mut longer = proper();
     longer.push(0);
     assert_eq!(given(&longer), NO_MESSAGE);
-    // Marks, sender, n, settled length, office, line, code, tail length.
-    for (at, byte) in [
-        (0, 0x52), (1, 0x47), (2, 3), (2, 255), (3, 0), (3, 9), (10, 1), (10, 255), (11, 1), (11, 3),
-        (12, 0x4D), (13, 0x48), (14, 3), (15, 64), (16, 40), (24, 0x43), (25, 0x42), (26, 3), (27, 0),
-        (27, 2), (28, 3), (29, 64), (30, 40), (32, 0x45), (34, 0), (35, 33), (44, 0x44), (45, 0x4F),
-    ] {
+    for (at, byte) in IMPROPER {
         assert_eq!(given(&with(at, byte)), NO_MESSAGE, "byte {at} made {byte}");
     }
 }

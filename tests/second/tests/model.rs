@@ -104,7 +104,7 @@ impl Lists {
     }
 
     fn frames(&self, line: u32) -> (u32, u32) {
-        let last = |path: Path| path.iter().filter(|&&e| e / 65536 % 256 == line).last().map_or(0, |e| e % 65536);
+        let last = |path: Path| path.iter().rfind(|&&e| e / 65536 % 256 == line).map_or(0, |e| e % 65536);
         (last(self.log.clone()), last(self.path(self.own)))
     }
 
@@ -251,7 +251,8 @@ fn believed(bytes: &[u8]) -> Option<Lists> {
     let mut tails = vec![vec![]; n];
     while at + 2 < bytes.len() {
         let (office, length) = (number(at + 2, 1)? as usize, number(at + 3, 1)? as usize);
-        *tails.get_mut(office)? = (0..length).map(|k| Some(number(at + 4 + 4 * k, 4)? as u32)).collect::<Option<_>>()?;
+        *tails.get_mut(office)? =
+            (0..length).map(|k| Some(number(at + 4 + 4 * k, 4)? as u32)).collect::<Option<_>>()?;
         at += 4 + 4 * length;
     }
     let lists = Lists { own: number(2, 1)? as usize, weights, log, tails };

@@ -4,6 +4,7 @@ use second::generate::{script, KINDS};
 use second::lines::each_line;
 use second::record::{entry, DONE};
 use second::rehearsal::{rehearse, Command, World};
+use second::survey::survey;
 
 fn rehearsed(input: &[u8]) -> String {
     let mut output = vec![];
@@ -62,7 +63,8 @@ fn foundings() {
 fn places_and_slots() {
     let before = "i 0 1 1\ns 0 0\nt 0 0\ne 0\nv 0 0\nf 3\ne 0\n";
     assert_eq!(rehearsed(before.as_bytes()), "?\n?\n?\n?\n?\nf 2\n?\n");
-    let input = "f 2 1 1\nt 0 0\nt 0 3\nt 0 4\nt 2 0\ni 2 1 1\ni 1 64 1\ni 1 1 10000\ns 1 3\nt 0 3\nt 1 3\nv 1 64\nv 1 9\n";
+    let input =
+        "f 2 1 1\nt 0 0\nt 0 3\nt 0 4\nt 2 0\ni 2 1 1\ni 1 64 1\ni 1 1 10000\ns 1 3\nt 0 3\nt 1 3\nv 1 64\nv 1 9\n";
     let output = "f 0\nt 7\nt 7\n?\n?\n?\ni 3\ni 3\ns 0 12\nt 0\nt 9\nv 3 0 0\nv 0 0 0\n";
     assert_eq!(rehearsed(input.as_bytes()), output);
     // A refused founding keeps offices and slots; a done one empties the slots.
@@ -152,4 +154,46 @@ fn a_script_is_answered_line_by_line() {
         assert_eq!(text, script(kind, 3, 500).unwrap());
     }
     assert_eq!(script("nothing", 1, 1), None);
+}
+
+#[test]
+fn fixed_seeds_show_all_that_a_rehearsal_can() {
+    let mut shown = vec![];
+    for kind in KINDS {
+        survey(&script(kind, 1, 3000).unwrap()[..], &mut shown).unwrap();
+    }
+    let shown = String::from_utf8(shown).unwrap();
+    for sight in [
+        "answer ?",
+        "answer f 0",
+        "answer f 2",
+        "answer i 0",
+        "answer i 3",
+        "answer i 4",
+        "answer i 5",
+        "answer s 0",
+        "answer t 0",
+        "answer t 7",
+        "answer t 9",
+        "answer e 0",
+        "answer v 0",
+        "answer v 3",
+        "election of two or more entries",
+        "tie won by value",
+        "win with offices unheard",
+        "ballot reset by an election",
+        "ballot reset by a grown log",
+        "ballot kept by a grown log",
+        "path adopted from a shorter log",
+        "own path adopted",
+        "message lost",
+        "message taken again",
+        "message taken late",
+        "take that changed nothing",
+    ] {
+        assert!(shown.lines().any(|line| line.ends_with(sight)), "{sight}");
+    }
+    for most in ["    1024 longest log", "      32 longest tail"] {
+        assert!(shown.lines().any(|line| line == most), "{most}");
+    }
 }

@@ -19,19 +19,63 @@ fn the_documents_example() {
     assert_eq!(tried(blocks[1].as_bytes()), blocks[3]);
 }
 
+/// Lines outside the language, each for one cause.
+const WRONG: [&str; 48] = [
+    "",
+    "d 1",
+    "q",
+    "Q",
+    "r 1",
+    "r 1 0 65536 0 0 0 0 0 0 0 0",
+    "b 8 0",
+    "b 0",
+    "b 0 18446744073709551616",
+    "a 0 0",
+    "a 0 32 1",
+    "a 0 31 1 1",
+    "a 8 0 1",
+    "a 0 0 4294967296",
+    "l 1101 0",
+    "l 5 4294967296",
+    "l 5",
+    "w 1024 1",
+    "w 1023 1 1",
+    "w 18446744073709551615 1",
+    "w 0",
+    "o 7101 0",
+    "o 5 256",
+    "m 1",
+    "m 1 256",
+    "m 7095 1",
+    "m 3548 1 1",
+    "x 6 0",
+    "x 0 256",
+    "x 0 1 1",
+    "c 7",
+    "c",
+    "g 11",
+    "F 1 0 1 0 0 0 0 0 0",
+    "F 1 0 65536 0 0 0 0 0 0 0",
+    "I 0",
+    "I 4294967296 0",
+    "I 0 4294967296",
+    "P 0",
+    "V",
+    "V 4294967296",
+    "U 1",
+    "E 0",
+    "S 0",
+    "T 0",
+    "I  0 0",
+    "I 00 0",
+    "m 1 1 1 1 1 1 1 1 1 1 1 1 1 1 1 1 1 1 1 1 1 1 1 1 1",
+];
+
 #[test]
 fn lines_outside_the_language_change_nothing() {
     let before = "l 1024 0\nF 1 0 1 0 0 0 0 0 0 0\no 10 7\nm 2 1 2 3\n";
-    let wrong = [
-        "", "d 1", "q", "Q", "r 1", "r 1 0 65536 0 0 0 0 0 0 0 0", "b 8 0", "b 0", "b 0 18446744073709551616", "a 0 0",
-        "a 0 32 1", "a 0 31 1 1", "a 8 0 1", "a 0 0 4294967296", "l 1101 0", "l 5 4294967296", "l 5", "w 1024 1",
-        "w 1023 1 1", "w 18446744073709551615 1", "w 0", "o 7101 0", "o 5 256", "m 1", "m 1 256", "m 7095 1", "m 3548 1 1",
-        "x 6 0", "x 0 256", "x 0 1 1", "c 7", "c", "g 11", "F 1 0 1 0 0 0 0 0 0", "F 1 0 65536 0 0 0 0 0 0 0", "I 0",
-        "I 4294967296 0", "I 0 4294967296", "P 0", "V", "V 4294967296", "U 1", "E 0", "S 0", "T 0", "I  0 0", "I 00 0",
-        "m 1 1 1 1 1 1 1 1 1 1 1 1 1 1 1 1 1 1 1 1 1 1 1 1 1",
-    ];
     let after = tried(format!("{before}S\nT\nU\n").as_bytes());
-    for line in wrong {
+    for line in WRONG {
         let answers = tried(format!("{before}{line}\nS\nT\nU\n").as_bytes());
         let expected = after.replacen('\n', "\n?\n", 1);
         assert_eq!(answers, expected, "{line}");
@@ -61,9 +105,36 @@ fn shown(answers: &str, beginning: &str) -> bool {
 fn every_number_is_shown() {
     let answers = tried(&script("boundaries", 0, 0).unwrap());
     for beginning in [
-        "F 0 ", "F 1 ", "F 2 ", "I 0 ", "I 1 ", "I 3 ", "I 4 ", "I 5 ", "P 0 ", "P 1 ", "V 0 ", "V 1 ", "V 3 ", "U 0 ",
-        "U 1 ", "E 0 0 ", "E 0 1 ", "E 0 2 ", "E 0 32 ", "E 1 0 ", "S 0 ", "S 1 0 ", "S 6 0 ", "S 0 7032 ", "T 0 ",
-        "T 1 ", "T 7 ", "T 8 ", "T 9 ", "T 10 ",
+        "F 0 ",
+        "F 1 ",
+        "F 2 ",
+        "I 0 ",
+        "I 1 ",
+        "I 3 ",
+        "I 4 ",
+        "I 5 ",
+        "P 0 ",
+        "P 1 ",
+        "V 0 ",
+        "V 1 ",
+        "V 3 ",
+        "U 0 ",
+        "U 1 ",
+        "E 0 0 ",
+        "E 0 1 ",
+        "E 0 2 ",
+        "E 0 32 ",
+        "E 1 0 ",
+        "S 0 ",
+        "S 1 0 ",
+        "S 6 0 ",
+        "S 0 7032 ",
+        "T 0 ",
+        "T 1 ",
+        "T 7 ",
+        "T 8 ",
+        "T 9 ",
+        "T 10 ",
     ] {
         assert!(shown(&answers, beginning), "{beginning}");
     }

@@ -18,8 +18,7 @@ struct Habit {
     outside: usize,
 }
 
-const PLAIN: Habit =
-    Habit { issue: 25, send: 20, take: 35, elect: 12, view: 8, lines: 64, codes: 10_000, outside: 3 };
+const PLAIN: Habit = Habit { issue: 25, send: 20, take: 35, elect: 12, view: 8, lines: 64, codes: 10_000, outside: 3 };
 
 const CONTEST: Habit = Habit { issue: 18, send: 24, take: 40, elect: 14, view: 4, lines: 2, codes: 4, outside: 0 };
 
