@@ -1,4 +1,5 @@
 -- Laws that belong to no one function.
+pub mod Elect
 pub mod Found
 pub mod Issue
 pub mod Send

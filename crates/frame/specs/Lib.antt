@@ -4,3 +4,6 @@ pub mod Soundness
 pub mod Founding
 pub mod Issuing
 pub mod Sending
+pub mod Settling
+pub mod Frames
+pub mod Electing

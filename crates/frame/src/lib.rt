@@ -2,9 +2,12 @@
 // its answer has the paper's number in front, 0 when it is done.
 use ballots::Ballot;
 
+pub mod electing;
 pub mod founding;
+pub mod frames;
 pub mod issuing;
 pub mod sending;
+pub mod settling;
 pub mod soundness;
 
 // n offices with their weights, the own office, the settled length and each office's ballot. The settled entries are the log's first words.

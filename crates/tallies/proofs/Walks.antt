@@ -2,6 +2,7 @@
 --     tally-step, unheard-step     a turn of the loop that sums weights
 --     beats-next, beats-stop, beats-done      the walk that compares an entry with every supported one
 --     winner-next, winner-stop, winner-done   the walk that looks for the winner
+--     winner-some, winner-none                what its answers say
 -- Assumes nothing.
 use mathlib.Core.Path.{_≡_, refl, sym, ap, ap₂, _∙_}
 use mathlib.Core.Bool.{Bool, true, false, _&&_, _||_, cond}
@@ -124,3 +125,12 @@ module _ (who : Winner) (v : Votes) (vs : List ℕ) (bs : List Ballot) (ws : Lis
 
   pub winner-done : length ws ≤ i → Nobody ≡ who
   winner-done h = sym (inv ∙ ap (λ (fs : List ℕ). winnerIs (firstWinner vs ltb v fs)) (supported-end bs ws i h))
+
+-- what the two answers say of the winner
+pub winner-some : (x : Option ℕ) (e : ℕ) → winnerIs x ≡ Entry e → x ≡ some e
+winner-some none e h = let z : _≡_ {A = ℕ} 0 1 = cc in absurd (omega arith)
+winner-some (some f) e h = let same : f ≡ e = cc in ap some same
+
+pub winner-none : (x : Option ℕ) → winnerIs x ≡ Nobody → x ≡ none
+winner-none none h = refl
+winner-none (some f) h = let z : _≡_ {A = ℕ} 0 1 = cc in absurd (omega arith)

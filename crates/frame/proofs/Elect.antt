@@ -1,0 +1,238 @@
+-- The election step on a sound record, and the run of steps.
+--     winning            a winner is an entry, and the log has room for it
+--     step-won, step-nobody      what the step answers and writes
+--     Running            what a run of steps keeps; run-start, run-more, run-last, run-end
+--     elect-sound        elect leaves a sound record with its words
+-- Assumes nothing.
+use mathlib.Core.Path.{_≡_, refl, sym, ap, ap₂, subst₂, _∙_}
+use mathlib.Core.Bool.{Bool, true, false, true≢false}
+use mathlib.Core.List.{List, [], _∷_, _++_, map, append-assoc}
+use mathlib.Core.Option.{Option, none, some}
+use Prim.Native.Nat.{ℕ, _+_, _-_, _<_, _≤_}
+use native.Mathlib.Numerals.{add-one}
+use native.Mathlib.Omega.{arith}
+use lib.ListN.{length, take, drop, set, length-append}
+use lib.Seq.{set-split, drop-append-add, drop-drop}
+use Rattle.protocol.specs.Tests.{pick}
+use Rattle.protocol.specs.Entry.{isEntry}
+use Rattle.protocol.specs.Vote.{Rule}
+use Rattle.protocol.specs.Office.{Office, votes}
+use Rattle.protocol.specs.Elect.{lose, settle, next, withElect, electCount}
+use Rattle.protocol.proofs.Vote.{byWeights-voted}
+use Rattle.protocol.proofs.Limits as Limits
+use Rattle.protocol.proofs.Elect.{elect-none, elect-some}
+use Rattle.ballots.specs.Ballots.{tailOf, ballotOf}
+use Rattle.ballots.specs.declared.Ballot.{Ballot}
+use Rattle.frame.specs.State.{heldBy, holding, wordsWith}
+use Rattle.frame.specs.Soundness.{soundB, Sound}
+use Rattle.frame.specs.Electing.{ruleOf, electedOf, electOf, electWords, winnerOf, stepOf, stepWords}
+use Rattle.frame.specs.declared.Record.{Record}
+use Rattle.frame.specs.declared.electing.Stepped.{Stepped}
+use Rattle.frame.specs.declared.electing.Elected.{Elected}
+use Rattle.frame.proofs.Sound.{sound}
+use Rattle.frame.proofs.State.{log-length, held, held-by, held-fine, words-kept, words-length, sound-of}
+
+-- ── one step ──
+-- the state and the record after e was settled
+abbrev pub stepped : Record → List ℕ → ℕ → Office
+stepped r words e = settle e (heldBy r words)
+
+module _ (r : Record) (words : List ℕ) (S : Sound r words) (e : ℕ) (w : winnerOf r words ≡ some e) where
+  pub winning : (isEntry (r .n) e ≡ true) × (r .settled < 1024)
+  winning =
+      let at = byWeights-voted (r .weights) (heldBy r words .log) (votes (heldBy r words)) e w in
+      let x = Limits.first-entry (r .n) (heldBy r words) (held-fine r words S) (at .0) e (at .1) in
+      (x .0, omega (arith, x .1, log-length r words S))
+
+  step-fine : Limits.Fine (r .n) (stepped r words e)
+  step-fine =
+      let at = byWeights-voted (r .weights) (heldBy r words .log) (votes (heldBy r words)) e w in
+      Limits.settle-fine (r .n) e (heldBy r words) (held-fine r words S) (at .0) (at .1)
+
+  next-length : length (take (r .settled) words ++ e ∷ []) ≡ r .settled + 1
+  next-length = length-append (take (r .settled) words) (e ∷ []) ∙ ap (λ (k : ℕ). k + 1) (log-length r words S)
+
+  -- the next record holds the state with e settled
+  step-held : (bs : List Ballot) → bs ≡ map ballotOf (map (lose e) (map tailOf (r .ballots)))
+      → _≡_ {A = Record} (record { n = r .n; own = r .own; weights = r .weights; settled = r .settled + 1; ballots = bs }) (holding r (stepped r words e))
+  unfolding settle
+  step-held bs q = λ i. record {
+    n = r .n;
+    own = r .own;
+    weights = r .weights;
+    settled = sym next-length i;
+    ballots = q i;
+  }
+
+  -- and so do the words with e written behind the settled log
+  step-words : set words (r .settled) e ≡ wordsWith (stepped r words e .log) words
+  unfolding settle
+  step-words =
+      set-split words (r .settled) e (let h = winning .1 in omega arith) ∙
+      sym (append-assoc (take (r .settled) words) (e ∷ []) (drop (length (take (r .settled) words ++ e ∷ [])) words) ∙
+      ap (λ (k : ℕ). take (r .settled) words ++ e ∷ drop k words) (next-length ∙ add-one (r .settled)))
+
+  step-sound : Sound (holding r (stepped r words e)) (wordsWith (stepped r words e .log) words)
+  step-sound = sound-of r (stepped r words e) words (S .head) step-fine (S .room)
+
+  step-settled : holding r (stepped r words e) .settled ≡ r .settled + 1
+  unfolding settle
+  step-settled = next-length
+
+  pub step-won : (bs : List Ballot) → bs ≡ map ballotOf (map (lose e) (map tailOf (r .ballots)))
+      → (_≡_ {A = Stepped} (record { won = true; «record» = record { n = r .n; own = r .own; weights = r .weights; settled = r .settled + 1; ballots = bs } }) (stepOf r words)) × (set words (r .settled) e ≡ stepWords r words)
+  unfolding stepOf stepWords
+  step-won bs q = (
+    ap (λ (x : Record). record { won = true; «record» = x }) (step-held bs q) ∙ ap (λ (x : Option ℕ). next x (record { won = false; «record» = r }) (λ f. record { won = true; «record» = holding r (stepped r words f) })) (sym w),
+    step-words ∙ ap (λ (x : Option ℕ). next x words (λ f. wordsWith (stepped r words f .log) words)) (sym w),
+  )
+
+pub step-nobody : (r : Record) (words : List ℕ) → winnerOf r words ≡ none → (_≡_ {A = Stepped} (record { won = false; «record» = r }) (stepOf r words)) × (words ≡ stepWords r words)
+unfolding stepOf stepWords
+step-nobody r words w = (
+  ap (λ (x : Option ℕ). next x (record { won = false; «record» = r }) (λ f. record { won = true; «record» = holding r (stepped r words f) })) (sym w),
+  ap (λ (x : Option ℕ). next x words (λ f. wordsWith (stepped r words f .log) words)) (sym w),
+)
+
+-- by cases of the winner: what a step that won, and one that did not, answers
+module _ (r : Record) (o : Office) (words last : List ℕ) (out : Stepped) where
+  abbrev Out : Option ℕ → Type 0
+  Out w = out ≡ next w (record { won = false; «record» = r }) (λ e. record { won = true; «record» = holding r (settle e o) })
+
+  abbrev Last : Option ℕ → Type 0
+  Last w = last ≡ next w words (λ e. wordsWith (settle e o .log) words)
+
+  no-win : (w : Option ℕ) → Out w → Last w → out .won ≡ false → (w ≡ none) × (out .«record» ≡ r) × (last ≡ words)
+  no-win (some e) p q h = absurd (true≢false (sym (ap (λ (s : Stepped). s .won) p) ∙ h))
+  no-win none p q h = (refl, ap (λ (s : Stepped). s .«record») p, q)
+
+  a-win : (w : Option ℕ) → Out w → Last w → out .won ≡ true
+      → (e : ℕ) × (w ≡ some e) × (out .«record» ≡ holding r (settle e o)) × (last ≡ wordsWith (settle e o .log) words)
+  a-win (some e) p q h = (e, refl, ap (λ (s : Stepped). s .«record») p, q)
+  a-win none p q h = absurd (true≢false (sym h ∙ ap (λ (s : Stepped). s .won) p))
+
+-- ── a run of steps ──
+-- what it keeps, from the record r₀ with the words words₀
+pub record Running (r₀ : Record) (words₀ : List ℕ) (r : Record) (words : List ℕ) : Type 0 where
+  pub sound : Sound r words
+  pub made : r ≡ holding r₀ (heldBy r words)
+  pub same : electedOf r₀ words₀ ≡ withElect (ruleOf r₀) (heldBy r words)
+  pub kept : words ≡ wordsWith (heldBy r words .log) words₀
+  pub long : length words ≡ length words₀
+  pub grown : r₀ .settled ≤ r .settled
+
+pub run-start : (r : Record) (words : List ℕ) → Sound r words → Running r words r words
+run-start r words S = record {
+  sound = S;
+  made = sym (held r words S);
+  same = refl;
+  kept = sym (words-kept r words S);
+  long = refl;
+  grown = omega arith;
+}
+
+module _ (r₀ : Record) (words₀ : List ℕ) (r : Record) (words : List ℕ) (R : Running r₀ words₀ r words) where
+  rule-same : ruleOf r ≡ ruleOf r₀
+  rule-same = ap ruleOf (R .made)
+
+  -- what the run settles is kept in front of the words as they were
+  kept-next : (e : ℕ) → wordsWith (stepped r words e .log) words ≡ wordsWith (stepped r words e .log) words₀
+  unfolding settle
+  kept-next e =
+      let g = take (r .settled) words in
+      let more : length (g ++ e ∷ []) ≡ length g + 1 = length-append g (e ∷ []) in
+      ap (λ (l : List ℕ). (g ++ e ∷ []) ++ l)
+      (ap (λ (k : ℕ). drop k words) more ∙ ap (drop (length g + 1)) (R .kept) ∙ drop-append-add g (drop (length g) words₀) 1 ∙ drop-drop 1 (length g) words₀ ∙ ap (λ (k : ℕ). drop k words₀) (sym more))
+
+  won : (e : ℕ) → winnerOf r words ≡ some e → Running r₀ words₀ (holding r (stepped r words e)) (wordsWith (stepped r words e .log) words)
+  won e w =
+      let o = stepped r words e in
+      let back = held-by r o words in
+      record {
+        sound = step-sound r words (R .sound) e w;
+        made = ap (λ (x : Record). holding x o) (R .made) ∙ ap (holding r₀) (sym back);
+        same = R .same ∙ elect-some (ruleOf r₀) (byWeights-voted (r₀ .weights)) (heldBy r words) e (ap (λ (f : Rule). f (heldBy r words .log) (votes (heldBy r words))) (sym rule-same) ∙ w) ∙ ap (withElect (ruleOf r₀)) (sym back);
+        kept = kept-next e ∙ ap (λ (x : Office). wordsWith (x .log) words₀) (sym back);
+        long = words-length (o .log) words (fits e w) ∙ R .long;
+        grown = let g = R .grown in omega (arith, step-settled r words (R .sound) e w);
+      }
+    where
+      fits : (e : ℕ) → winnerOf r words ≡ some e → length (stepped r words e .log) ≤ length words
+      fits e w = let S = R .sound in let h = winning r words S e w .1 in omega (arith, step-settled r words S e w)
+
+  module _ (out : Stepped) (p : out ≡ stepOf r words) (last : List ℕ) (q : last ≡ stepWords r words) where
+    pub run-more : out .won ≡ true → Running r₀ words₀ (out .«record») last × (out .«record» .settled ≡ r .settled + 1) × (r .settled < 1024)
+    unfolding stepOf stepWords
+    run-more h =
+        let m = a-win r (heldBy r words) words last out (winnerOf r words) p q h in (
+          subst₂ (Running r₀ words₀) (sym (m .2)) (sym (m .3)) (won (m .0) (m .1)),
+          ap (λ (x : Record). x .settled) (m .2) ∙ step-settled r words (R .sound) (m .0) (m .1),
+          winning r words (R .sound) (m .0) (m .1) .1,
+        )
+
+    pub run-last : out .won ≡ false → (out .«record» ≡ r) × (last ≡ words) × (electedOf r₀ words₀ ≡ heldBy r words)
+    unfolding stepOf stepWords
+    run-last h =
+        let m = no-win r (heldBy r words) words last out (winnerOf r words) p q h in
+        (m .1, m .2, R .same ∙ elect-none (ruleOf r₀) (heldBy r words) (ap (λ (f : Rule). f (heldBy r words .log) (votes (heldBy r words))) (sym rule-same) ∙ m .0))
+
+    pub run-end : soundB r₀ words₀ ≡ true → out .won ≡ false
+        → (_≡_ {A = Elected} (record { number = 0; count = out .«record» .settled - r₀ .settled; «record» = out .«record» }) (electOf r₀ words₀)) × (last ≡ electWords r₀ words₀)
+    unfolding electOf electWords pick
+    run-end e h =
+        (rw e (λ i. record { number = 0; count = count i; «record» = made i }), rw e words-end)
+      where
+        end : electedOf r₀ words₀ ≡ heldBy r words
+        end = run-last h .2
+
+        made : out .«record» ≡ holding r₀ (electedOf r₀ words₀)
+        made = run-last h .0 ∙ R .made ∙ ap (holding r₀) (sym end)
+
+        count : out .«record» .settled - r₀ .settled ≡ electCount (ruleOf r₀) (heldBy r₀ words₀)
+        count = ap₂ (λ (a b : ℕ). a - b) (ap (λ (x : Record). x .settled) made) (sym (log-length r₀ words₀ (sound r₀ words₀ e)))
+
+        words-end : last ≡ wordsWith (electedOf r₀ words₀ .log) words₀
+        words-end = run-last h .1 ∙ R .kept ∙ ap (λ (x : Office). wordsWith (x .log) words₀) (sym end)
+
+-- ── what elect leaves ──
+pub elect-unsound : (r : Record) (words : List ℕ) → soundB r words ≡ false → (_≡_ {A = Elected} (record { number = 1; count = 0; «record» = r }) (electOf r words)) × (words ≡ electWords r words)
+unfolding electOf electWords pick
+elect-unsound r words e = (simp e, simp e)
+
+pub elect-zero : (r : Record) (words : List ℕ) → soundB r words ≡ true → electOf r words .number ≡ 0
+unfolding electOf pick
+elect-zero r words e = rw e
+
+elected-fine : (r : Record) (words : List ℕ) → Sound r words → Limits.Fine (r .n) (electedOf r words)
+elected-fine r words S = Limits.elect-fine (ruleOf r) (byWeights-voted (r .weights)) (r .n) (heldBy r words) (held-fine r words S)
+
+-- a done elect
+pub record ElectDone (r : Record) (words : List ℕ) : Type 0 where
+  pub was : Sound r words
+  pub made : electOf r words .«record» ≡ holding r (electedOf r words)
+  pub counted : electOf r words .count ≡ electCount (ruleOf r) (heldBy r words)
+  pub written : electWords r words ≡ wordsWith (electedOf r words .log) words
+
+pub elect-done : (r : Record) (words : List ℕ) → electOf r words .number ≡ 0 → ElectDone r words
+unfolding electOf electWords pick
+elect-done r words q = go (soundB r words) refl
+  where
+    go : (b : Bool) → soundB r words ≡ b → ElectDone r words
+    go true e = record { was = sound r words e; made = rw e; counted = rw e; written = rw e }
+    go false e = absurd (omega (arith, q, ap (λ (x : Elected). x .number) (elect-unsound r words e .0)))
+
+pub elect-sound : (r : Record) (words : List ℕ) → electOf r words .number ≡ 0 → Sound (electOf r words .«record») (electWords r words)
+elect-sound r words q =
+    let D = elect-done r words q in
+    let S = D .was in
+    subst₂ Sound (sym (D .made)) (sym (D .written)) (sound-of r (electedOf r words) words (S .head) (elected-fine r words S) (S .room))
+
+pub elect-state : (r : Record) (words : List ℕ) → electOf r words .number ≡ 0 → heldBy (electOf r words .«record») (electWords r words) ≡ electedOf r words
+elect-state r words q = let D = elect-done r words q in ap₂ heldBy (D .made) (D .written) ∙ held-by r (electedOf r words) words
+
+pub elect-keeps : (r : Record) (words : List ℕ) → (electOf r words .number ≡ 0 → ⊥) → (electOf r words .«record» ≡ r) × (electWords r words ≡ words)
+elect-keeps r words q = go (soundB r words) refl
+  where
+    go : (b : Bool) → soundB r words ≡ b → (electOf r words .«record» ≡ r) × (electWords r words ≡ words)
+    go true e = absurd (q (elect-zero r words e))
+    go false e = let u = elect-unsound r words e in (sym (ap (λ (x : Elected). x .«record») (u .0)), sym (u .1))

@@ -1,0 +1,14 @@
+-- "Settled hands back the settled part of the lent log." Assumes nothing.
+use Prim.Native.Nat.{ℕ}
+use mathlib.Core.List.{List, []}
+use Rattle.protocol.specs.Tests.{pick}
+use Rattle.frame.specs.State.{heldBy}
+use Rattle.frame.specs.Soundness.{soundB}
+use Rattle.frame.specs.declared.Record.{Record}
+
+unfoldable pub settledOf : Record → List ℕ → List ℕ
+settledOf r words = pick (soundB r words) (heldBy r words .log) []
+
+-- "its number always in a lent cell"
+unfoldable pub settledNumber : Record → List ℕ → ℕ
+settledNumber r words = pick (soundB r words) 0 1
