@@ -105,9 +105,9 @@ pub fn code_of(word: u32) -> u32 {
     word & 0xffff
 }
 
-/// Whether the word is the value of an entry among n offices.
+/// Whether the word is the value of an entry among n offices, 8 at most.
 pub fn is_entry(word: u32, n: usize) -> bool {
-    (((word >> 24) as usize) < n) & (line_of(word) < LINES) & (code_of(word) < CODES)
+    (word >> 24 < n.min(OFFICES) as u32) & (line_of(word) < LINES) & (code_of(word) < CODES)
 }
 
 /// Whether all words are entries among n offices. Reads them all, so that it runs on vectors.
