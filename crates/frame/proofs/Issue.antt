@@ -1,7 +1,8 @@
 -- Each way out of an issue on a sound record, and what a done issue leaves.
 --     refused-line, refused-code, refused-full, refused-long, not-refused     the protocol's number
 --     issue-refused, issue-held     the whole answer
---     issue-sound, issue-keeps      a done issue leaves a sound record, a refused one the record
+--     issue-sound, issue-state      a done issue leaves a sound record, with the state that has the entry issued
+--     issue-keeps                   a refused one leaves the record
 -- Assumes nothing.
 use mathlib.Core.Path.{_≡_, refl, sym, ap, ap₂, subst₂, _∙_}
 use mathlib.Core.Bool.{Bool, true, false}
@@ -26,7 +27,7 @@ use Rattle.frame.specs.Issuing.{issueNumber, issuedRecord, issueOf}
 use Rattle.frame.specs.declared.Record.{Record}
 use Rattle.frame.specs.declared.issuing.Issued.{Issued}
 use Rattle.frame.proofs.Sound.{sound, sound-true}
-use Rattle.frame.proofs.State.{log-length, words-kept, ballot, tail-at, tail-length, held-fine, sound-of}
+use Rattle.frame.proofs.State.{log-length, held-by, words-kept, ballot, tail-at, tail-length, held-fine, sound-of}
 
 -- ── the protocol's number ──
 module _ (k line code : ℕ) (o : Office) where
@@ -135,21 +136,40 @@ issued-words : (r : Record) (words : List ℕ) (S : Sound r words) (line code : 
 unfolding withIssue
 issued-words r words S line code = words-kept r words S
 
--- a done issue leaves a sound record with the same words
-pub issue-sound : (r : Record) (words : List ℕ) (line code : ℕ) → issueOf r words line code .number ≡ 0 → Sound (issueOf r words line code .«record») words
+-- a done issue: what it found, and the record that it made
+pub record IssueMade (r : Record) (words : List ℕ) (line code : ℕ) : Type 0 where
+  pub was : Sound r words
+  pub allowed : refuseIssue (r .own) line code (heldBy r words) ≡ 0
+  pub made : issueOf r words line code .«record» ≡ issuedRecord r words line code
+
+pub issue-made : (r : Record) (words : List ℕ) (line code : ℕ) → issueOf r words line code .number ≡ 0 → IssueMade r words line code
 unfolding issueOf issueNumber
-issue-sound r words line code q = go (soundB r words) refl
+issue-made r words line code q = go (soundB r words) refl
   where
-    go : (b : Bool) → soundB r words ≡ b → Sound (pick (eqb (issueNumber r words line code) 0) (issuedRecord r words line code) r) words
+    go : (b : Bool) → soundB r words ≡ b → IssueMade r words line code
     go false e = absurd (omega (arith, q, pick-false (soundB r words) (refuseIssue (r .own) line code (heldBy r words)) 1 e))
-    go true e =
-        let S = sound r words e in
-        let H = S .head in
-        let done : refuseIssue (r .own) line code (heldBy r words) ≡ 0 = sym (pick-true (soundB r words) (refuseIssue (r .own) line code (heldBy r words)) 1 e) ∙ q in
-        let F = Limits.issue-done-fine (r .n) (r .own) line code (heldBy r words) (held-fine r words S) (H .member) (H .most) done in
-        subst₂ Sound (sym (pick-true (eqb (issueNumber r words line code) 0) (issuedRecord r words line code) r (eq-eqb (issueNumber r words line code) 0 q)))
-        (issued-words r words S line code)
-        (sound-of r (withIssue (r .own) (value (r .own) line code) (heldBy r words)) words H F (S .room))
+    go true e = record {
+      was = sound r words e;
+      allowed = sym (pick-true (soundB r words) (refuseIssue (r .own) line code (heldBy r words)) 1 e) ∙ q;
+      made = pick-true (eqb (issueNumber r words line code) 0) (issuedRecord r words line code) r (eq-eqb (issueNumber r words line code) 0 q);
+    }
+
+module _ (r : Record) (words : List ℕ) (line code : ℕ) (q : issueOf r words line code .number ≡ 0) where
+  -- it leaves a sound record with the same words
+  pub issue-sound : Sound (issueOf r words line code .«record») words
+  issue-sound =
+      let D = issue-made r words line code q in
+      let S = D .was in
+      let H = S .head in
+      let F = Limits.issue-done-fine (r .n) (r .own) line code (heldBy r words) (held-fine r words S) (H .member) (H .most) (D .allowed) in
+      subst₂ Sound (sym (D .made)) (issued-words r words S line code) (sound-of r (withIssue (r .own) (value (r .own) line code) (heldBy r words)) words H F (S .room))
+
+  -- and the state with the entry issued
+  pub issue-state : heldBy (issueOf r words line code .«record») words ≡ withIssue (r .own) (value (r .own) line code) (heldBy r words)
+  issue-state =
+      let D = issue-made r words line code q in
+      let o = withIssue (r .own) (value (r .own) line code) (heldBy r words) in
+      ap₂ heldBy (D .made) (sym (issued-words r words (D .was) line code)) ∙ held-by r o words
 
 -- a refused issue leaves the record
 pub issue-keeps : (r : Record) (words : List ℕ) (line code : ℕ) → (issueOf r words line code .number ≡ 0 → ⊥) → issueOf r words line code .«record» ≡ r

@@ -2,6 +2,7 @@
 pub mod Elect
 pub mod Found
 pub mod Issue
+pub mod Promise
 pub mod Send
 pub mod Sound
 pub mod State

@@ -1,0 +1,83 @@
+-- The promise to the two users. The supervisor: "an edit shows in its office's tentative frame when made". The tabulator: the settled frame
+-- is changed by no issue, done or refused. (Send hands back no record and writes no log; so only take and elect change a settled frame.)
+--     edit-shows          after a done issue of (line, code) the tentative frame of the line answers the code
+--     settled-stays       after any issue the settled frame of every line is as it was
+-- Assumes nothing.
+use mathlib.Core.Path.{_≡_, refl, sym, ap, ap₂, _∙_}
+use mathlib.Core.Bool.{Bool, true, false}
+use mathlib.Core.List.{List, [], _∷_, _++_, append-assoc}
+use Prim.Native.Nat.{ℕ, _<_, _≤_}
+use native.Mathlib.Omega.{arith}
+use lib.Dec.{eqb, leb}
+use lib.ListN.{length}
+use lib.Seq.{getD-set-same}
+use borrow.Author.Tests.{eq-eqb, le-leb, eqb-true, eqb-false}
+use Rattle.protocol.specs.Tests.{pick}
+use Rattle.protocol.specs.Entry.{value, lineOf, codeOf}
+use Rattle.protocol.specs.Office.{Office, tail, path}
+use Rattle.protocol.specs.Issue.{withIssue}
+use Rattle.protocol.specs.Frames.{lastCode}
+use Rattle.protocol.proofs.Limits as Limits
+use Rattle.entries.proofs.Walk.{last-append}
+use Rattle.frame.specs.State.{heldBy}
+use Rattle.frame.specs.Soundness.{soundB, Sound}
+use Rattle.frame.specs.Issuing.{issueOf}
+use Rattle.frame.specs.Frames.{frameOf, settledFrameOf, tentativeFrameOf}
+use Rattle.frame.specs.declared.Record.{Record}
+use Rattle.frame.specs.declared.frames.Framed.{Framed}
+use Rattle.frame.proofs.Sound.{sound-true}
+use Rattle.frame.proofs.State.{held-fine}
+use Rattle.frame.proofs.Issue.{issue-made, issue-sound, issue-state, issue-keeps}
+
+own-path : (k e : ℕ) (o : Office) → k < length (o .tails) → path (withIssue k e o) k ≡ path o k ++ (e ∷ [])
+unfolding withIssue
+own-path k e o h = ap (λ (t : List ℕ). o .log ++ t) (getD-set-same (o .tails) k (tail o k ++ (e ∷ [])) [] h) ∙ sym (append-assoc (o .log) (tail o k) (e ∷ []))
+
+last-issued : (office line code : ℕ) (p : List ℕ) → line ≤ 63 → code ≤ 9999 → lastCode line 0 (p ++ (value office line code ∷ [])) ≡ code
+unfolding lastCode pick
+last-issued office line code p l c =
+    let here : lineOf (value office line code) ≡ line = omega arith in
+    let shown : codeOf (value office line code) ≡ code = omega arith in
+    last-append line 0 p (value office line code ∷ []) ∙
+    ap (λ (b : Bool). pick b (codeOf (value office line code)) (lastCode line 0 p)) (eq-eqb (lineOf (value office line code)) line here) ∙ shown
+
+frame-done : (r : Record) (words : List ℕ) (line : ℕ) (p : List ℕ) → Sound r words → line ≤ 63 → frameOf r words line p ≡ record { number = 0; code = lastCode line 0 p }
+unfolding frameOf pick
+frame-done r words line p S l = rw (sound-true r words S, le-leb line 63 l)
+
+pub edit-shows : (r : Record) (words : List ℕ) (line code : ℕ) → issueOf r words line code .number ≡ 0
+    → tentativeFrameOf (issueOf r words line code .«record») words line ≡ record { number = 0; code = code }
+edit-shows r words line code q =
+    let D = issue-made r words line code q in
+    let S = D .was in
+    let H = S .head in
+    let I = Limits.issue-done (r .own) line code (heldBy r words) (D .allowed) in
+    let F = held-fine r words S in
+    let e = value (r .own) line code in
+    let r' = issueOf r words line code .«record» in
+    let own : r' .own ≡ r .own = ap (λ (x : Record). x .own) (D .made) in
+    let shown : path (heldBy r' words) (r' .own) ≡ path (heldBy r words) (r .own) ++ (e ∷ []) =
+    ap₂ path (issue-state r words line code q) own ∙ own-path (r .own) e (heldBy r words) (omega (arith, F .eight, H .member, H .most)) in
+    frame-done r' words line (path (heldBy r' words) (r' .own)) (issue-sound r words line code q) (I .line-ok) ∙
+    ap (λ (c : ℕ). record { number = 0; code = c }) (ap (lastCode line 0) shown ∙ last-issued (r .own) line code (path (heldBy r words) (r .own)) (I .line-ok) (I .code-ok))
+
+frame-same : (r r' : Record) (words : List ℕ) (line : ℕ) (p p' : List ℕ) → soundB r' words ≡ soundB r words → p' ≡ p → frameOf r' words line p' ≡ frameOf r words line p
+unfolding frameOf
+frame-same r r' words line p p' s e =
+    ap₂ (λ (b : Bool) (x : List ℕ). pick {A = Framed} b (pick (leb line 63) (record { number = 0; code = lastCode line 0 x }) (record { number = 3; code = 0 })) (record { number = 1; code = 0 })) s e
+
+log-same : (k e : ℕ) (o : Office) → withIssue k e o .log ≡ o .log
+unfolding withIssue
+log-same k e o = refl
+
+pub settled-stays : (r : Record) (words : List ℕ) (line code at : ℕ) → settledFrameOf (issueOf r words line code .«record») words at ≡ settledFrameOf r words at
+settled-stays r words line code at = go (eqb (issueOf r words line code .number) 0) refl
+  where
+    go : (b : Bool) → eqb (issueOf r words line code .number) 0 ≡ b → settledFrameOf (issueOf r words line code .«record») words at ≡ settledFrameOf r words at
+    go true z =
+        let q = eqb-true (issueOf r words line code .number) 0 z in
+        let D = issue-made r words line code q in
+        frame-same r (issueOf r words line code .«record») words at (heldBy r words .log) (heldBy (issueOf r words line code .«record») words .log)
+        (sound-true (issueOf r words line code .«record») words (issue-sound r words line code q) ∙ sym (sound-true r words (D .was)))
+        (ap (λ (o : Office). o .log) (issue-state r words line code q) ∙ log-same (r .own) (value (r .own) line code) (heldBy r words))
+    go false z = ap (λ (x : Record). settledFrameOf x words at) (issue-keeps r words line code (eqb-false (issueOf r words line code .number) 0 z))
