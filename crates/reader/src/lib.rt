@@ -1,11 +1,11 @@
 // Reading a message: what it says, or a refusal; and its settled entries where they stand, compared with a log or written to it.
 use ballots::Ballot;
-use records::ballot_at;
-use records::end_at;
-use records::log_at;
-use records::record_at;
 use spelling::be16_at;
 use spelling::wide;
+use walk::read_ballot;
+use walk::read_end;
+use walk::read_entry;
+use walk::read_log;
 ghost use mathlib.Core.Path.{_≡_};
 ghost use Prim.Native.Nat.{_+_, _*_, _≤_};
 ghost use lib.ListN.{length, take, drop};
@@ -38,7 +38,7 @@ fn log_ok(rest: &[u8], n: usize, k: usize) -> bool
 {
     let mut at: usize = 0;
     for i in 0..k {
-        let step = log_at(rest, at, n);
+        let step = read_log(rest, at, n);
         let ok = step.ok;
         if ok {
             at = step.next;
@@ -69,7 +69,7 @@ fn ballots_at(rest: &[u8], from: usize, n: usize, k: usize) -> Records
     let mut ballots = [none; 8];
     let mut at = from;
     for o in 0..n {
-        let step = ballot_at(rest, at, n, k, o);
+        let step = read_ballot(rest, at, n, k, o);
         let ok = step.ok;
         if ok {
             let b = step.ballot;
@@ -79,7 +79,7 @@ fn ballots_at(rest: &[u8], from: usize, n: usize, k: usize) -> Records
             return bad_records();
         }
     }
-    let end = end_at(rest, at);
+    let end = read_end(rest, at);
     let ok = end.ok;
     if ok {
         Records { ok: true, ballots }
@@ -205,10 +205,11 @@ pub fn same_log(log: &[u32], rest: &[u8], k: usize) -> bool
 {
     let mut at: usize = 0;
     for i in 0..k {
-        if log[i] != record_at(rest, at) {
+        let step = read_entry(rest, at);
+        if log[i] != step.value {
             return false;
         }
-        at += 6;
+        at = step.next;
     }
     true
 }
@@ -220,8 +221,9 @@ fn fill(part: &mut [u32], rest: &[u8], from: usize, k: usize)
 {
     let mut at = from;
     for i in 0..k {
-        part[i] = record_at(rest, at);
-        at += 6;
+        let step = read_entry(rest, at);
+        part[i] = step.value;
+        at = step.next;
     }
 }
 

@@ -1,22 +1,23 @@
 -- The tests of a mark and of a record, from the facts that the code finds: a record stands at a position, or it does not. Assumes nothing.
-use Prim.Native.Nat.{ℕ, _+_, _-_, _≤_}
+use Prim.Native.Nat.{ℕ, _+_, _-_, _≤_, _<_}
 use mathlib.Core.Bool.{Bool, false, true}
 use mathlib.Core.List.{List}
 use mathlib.Core.Option.{some}
-use mathlib.Core.Path.{_∙_, _≡_, sym}
+use mathlib.Core.Path.{_∙_, _≡_, sym, ap}
 use native.Mathlib.Nat.{add-zero}
 use native.Mathlib.Omega.{arith}
 use lib.Dec.{eqb, leb}
 use lib.ListN.{drop, getD, length, length-drop}
 use lib.Seq.{drop-drop, getD-drop}
-use borrow.Author.Tests.{eq-eqb, eqb-true, le-leb, leb-true}
+use borrow.Author.Tests.{eq-eqb, eqb-true, le-leb, leb-true, lt-leb}
 use Rattle.protocol.specs.Entry.{isEntry}
 use Rattle.protocol.specs.Tests.{both, pick}
 use Rattle.spelling.specs.Numbers.{be32}
 use Rattle.spelling.specs.Reading.{ballotNext, endOk, recordAt, recordHere}
 use Rattle.protocol.proofs.Tests.{both-0, both-1}
 use Rattle.spelling.proofs.Ballots.{by-test}
-use Rattle.records.specs.Steps.{badLog, endAt, logAt}
+use Rattle.records.specs.Steps.{badLog, endAt, logAt, entryAt}
+use Rattle.records.specs.declared.LogStep.{LogStep}
 
 -- k bytes stand at the position, and the first two are the mark
 pub record Mark (k a b at : ℕ) (s : List ℕ) : Type 0 where
@@ -66,6 +67,15 @@ module _ (n at : ℕ) (s : List ℕ) where
   unfolding logAt pick
   log-bad e = rw e
 
+module _ (at : ℕ) (s : List ℕ) where
+  pub entry-good : at + 6 ≤ length s → record { ok = true; value = recordAt (drop at s); next = at + 6 } ≡ entryAt at s
+  unfolding entryAt pick
+  entry-good h = let l : 6 ≤ length (drop at s) = rw length-drop (omega arith) in rw (le-leb 6 (length (drop at s)) l)
+
+  pub entry-bad : length s < at + 6 → badLog ≡ entryAt at s
+  unfolding entryAt pick
+  entry-bad h = let l : length (drop at s) < 6 = rw length-drop (omega arith) in rw (lt-leb 6 (length (drop at s)) l)
+
 -- ---- a ballot comes next
 
 module _ (o at : ℕ) (s : List ℕ) where
@@ -113,3 +123,7 @@ module _ (at : ℕ) (s : List ℕ) where
   pub end-bad : endOk (drop at s) ≡ false → record { ok = false; next = 0 } ≡ endAt at s
   unfolding endAt pick
   end-bad e = rw e
+
+-- what the step of a log record says where there is room for it
+pub entry-step : (at : ℕ) (s : List ℕ) (r : LogStep) → at + 6 ≤ length s → r ≡ entryAt at s → (r .value ≡ recordAt (drop at s)) × (r .next ≡ at + 6)
+entry-step at s r h e = (ap (λ (x : LogStep). x .value) (e ∙ sym (entry-good at s h)), ap (λ (x : LogStep). x .next) (e ∙ sym (entry-good at s h)))

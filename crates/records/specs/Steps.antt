@@ -2,7 +2,8 @@
 use Prim.Native.Nat.{ℕ, _+_}
 use mathlib.Core.Bool.{true, false}
 use mathlib.Core.List.{List}
-use lib.ListN.{drop}
+use lib.Dec.{leb}
+use lib.ListN.{drop, length}
 use Rattle.ballots.specs.Ballots.{ballotOf, noBallot}
 use Rattle.protocol.specs.Tests.{pick}
 use Rattle.spelling.specs.Reading.{recordHere, recordAt, ballotOk, tailAt, sizeAt, endOk}
@@ -16,6 +17,10 @@ badLog = record { ok = false; value = 0; next = 0 }
 -- the log record at a position, under n offices
 unfoldable pub logAt : ℕ → ℕ → List ℕ → LogStep
 logAt n at s = pick (recordHere n (drop at s)) (record { ok = true; value = recordAt (drop at s); next = at + 6 }) badLog
+
+-- the log record at a position, without the tests of it but for the room
+unfoldable pub entryAt : ℕ → List ℕ → LogStep
+entryAt at s = pick (leb 6 (length (drop at s))) (record { ok = true; value = recordAt (drop at s); next = at + 6 }) badLog
 
 unfoldable pub badBallot : BallotStep
 badBallot = record { ok = false; next = 0; ballot = noBallot }

@@ -8,7 +8,7 @@ ghost use lib.ListN.{length, drop};
 ghost use Rattle.ballots.specs.Ballots.{ballotOf};
 ghost use Rattle.spelling.specs.Numbers.{be32, runAt, runOk};
 ghost use Rattle.spelling.specs.Reading.{valueHere, recordHere, recordAt, ballotNext, endOk};
-ghost use Rattle.records.specs.Steps.{badLog, logAt, badBallot, ballotAt, endAt};
+ghost use Rattle.records.specs.Steps.{badLog, logAt, entryAt, badBallot, ballotAt, endAt};
 
 // A log record, and the position after it.
 pub struct LogStep {
@@ -30,8 +30,8 @@ pub struct EndStep {
     pub next: usize,
 }
 
-// The value of the log record at a position. Public only for the crates above, which prove that one stands there.
-pub fn record_at(s: &[u8], at: usize) -> u32
+// The value of the log record at a position.
+fn record_at(s: &[u8], at: usize) -> u32
     requires { ⌜ at + 6 ≤ length (now s) ⌝ }
     ensures { λ r. ⌜ r ≡ recordAt (drop at (now (s .entry))) ⌝ }
 {
@@ -81,6 +81,24 @@ pub fn log_at(s: &[u8], at: usize, n: usize) -> LogStep
         }
     } else {
         bad_log()
+    }
+}
+
+// The log record at a position of a message that was read already: its value, without the tests of it.
+pub fn entry_at(s: &[u8], at: usize) -> LogStep
+    ensures { λ r. ⌜ r ≡ entryAt at (now (s .entry)) ⌝ }
+{
+    if s.len() < 6 {
+        return bad_log();
+    }
+    if at > s.len() - 6 {
+        return bad_log();
+    }
+    let value = record_at(s, at);
+    LogStep {
+        ok: true,
+        value,
+        next: at + 6,
     }
 }
 

@@ -18,16 +18,16 @@ loop-holds : tie.Need-loop-holds Inv-loop μ-loop
 loop-holds c = begins-left _ _ _ _ _ (c .none .ensures)
 
 returns : tie.Need-returns Inv-loop μ-loop
-returns c = c .bad-records .ensures ∙ sym (fails (c .before .before .before .before .before .before .before .args .rest .now) (c .before .before .before .before .before .before .before .args .from) (c .before .before .before .before .before .before .before .args .n) (c .before .before .before .before .before .before .before .args .k) (c .before .before .before .before .loop .ballots) (c .before .before .before .before .loop .at) (c .before .before .before .before .loop .o) (c .before .before .before .before .loop .inv) (c .before .before .ballot-at .result) (c .before .before .before .loop-test .taken) (c .before .before .ballot-at .ensures) (c .before .if1 .left))
+returns c = c .bad-records .ensures ∙ sym (fails (c .before .before .before .before .before .before .before .args .rest .now) (c .before .before .before .before .before .before .before .args .from) (c .before .before .before .before .before .before .before .args .n) (c .before .before .before .before .before .before .before .args .k) (c .before .before .before .before .loop .ballots) (c .before .before .before .before .loop .at) (c .before .before .before .before .loop .o) (c .before .before .before .before .loop .inv) (c .before .before .read-ballot .result) (c .before .before .before .loop-test .taken) (c .before .before .read-ballot .ensures) (c .before .if1 .left))
 
 loop-again : tie.Need-loop-again Inv-loop μ-loop
-loop-again c = again (c .before .before .before .before .before .before .before .args .rest .now) (c .before .before .before .before .before .before .before .args .from) (c .before .before .before .before .before .before .before .args .n) (c .before .before .before .before .before .before .before .args .k) (c .before .before .before .before .loop .ballots) (c .before .before .before .before .loop .at) (c .before .before .before .before .loop .o) (c .before .before .before .before .loop .inv) (c .before .before .ballot-at .result) (c .before .before .before .loop-test .taken) (c .before .before .ballot-at .ensures) (c .before .if1 .taken)
+loop-again c = again (c .before .before .before .before .before .before .before .args .rest .now) (c .before .before .before .before .before .before .before .args .from) (c .before .before .before .before .before .before .before .args .n) (c .before .before .before .before .before .before .before .args .k) (c .before .before .before .before .loop .ballots) (c .before .before .before .before .loop .at) (c .before .before .before .before .loop .o) (c .before .before .before .before .loop .inv) (c .before .before .read-ballot .result) (c .before .before .before .loop-test .taken) (c .before .before .read-ballot .ensures) (c .before .if1 .taken)
 
 returns-2 : tie.Need-returns-2 Inv-loop μ-loop
-returns-2 c = ends-good (c .before .before .before .before .before .before .args .rest .now) (c .before .before .before .before .before .before .args .from) (c .before .before .before .before .before .before .args .n) (c .before .before .before .before .before .before .args .k) (c .before .before .before .loop .ballots) (c .before .before .before .loop .at) (c .before .before .before .loop .o) (c .before .before .before .loop .inv) (c .before .before .before .before .before .before .pre) (c .before .before .loop-test .left) (sym (end-step-ok _ _) ∙ ap (λ (x : EndStep). x .ok) (sym (c .before .end-at .ensures)) ∙ c .if2 .taken)
+returns-2 c = ends-good (c .before .before .before .before .before .before .args .rest .now) (c .before .before .before .before .before .before .args .from) (c .before .before .before .before .before .before .args .n) (c .before .before .before .before .before .before .args .k) (c .before .before .before .loop .ballots) (c .before .before .before .loop .at) (c .before .before .before .loop .o) (c .before .before .before .loop .inv) (c .before .before .before .before .before .before .pre) (c .before .before .loop-test .left) (sym (end-step-ok _ _) ∙ ap (λ (x : EndStep). x .ok) (sym (c .before .read-end .ensures)) ∙ c .if2 .taken)
 
 returns-3 : tie.Need-returns-3 Inv-loop μ-loop
-returns-3 c = c .bad-records2 .ensures ∙ sym (ends-bad (c .before .before .before .before .before .before .before .args .rest .now) (c .before .before .before .before .before .before .before .args .from) (c .before .before .before .before .before .before .before .args .n) (c .before .before .before .before .before .before .before .args .k) (c .before .before .before .before .loop .ballots) (c .before .before .before .before .loop .at) (c .before .before .before .before .loop .o) (c .before .before .before .before .loop .inv) (c .before .before .before .loop-test .left) (sym (end-step-ok _ _) ∙ ap (λ (x : EndStep). x .ok) (sym (c .before .before .end-at .ensures)) ∙ c .before .if2 .left))
+returns-3 c = c .bad-records2 .ensures ∙ sym (ends-bad (c .before .before .before .before .before .before .before .args .rest .now) (c .before .before .before .before .before .before .before .args .from) (c .before .before .before .before .before .before .before .args .n) (c .before .before .before .before .before .before .before .args .k) (c .before .before .before .before .loop .ballots) (c .before .before .before .before .loop .at) (c .before .before .before .before .loop .o) (c .before .before .before .before .loop .inv) (c .before .before .before .loop-test .left) (sym (end-step-ok _ _) ∙ ap (λ (x : EndStep). x .ok) (sym (c .before .before .read-end .ensures)) ∙ c .before .if2 .left))
 
 pub ballots-at-spec : {M : Type 1} → statement M
 ballots-at-spec =

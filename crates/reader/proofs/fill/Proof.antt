@@ -1,3 +1,4 @@
+-- The invariant: what is left to store from the position on gives all that is to be stored.
 use Prim.Native.Nat.{_≤_, _-_, _+_, _*_}
 use mathlib.Core.Path.{_≡_, refl, sym, _∙_}
 use native.Mathlib.Nat.{sub-zero}
@@ -7,6 +8,7 @@ use lib.Seq.{sets}
 use borrow.Author.Needs.{needs}
 use Rattle.spelling.specs.Numbers.{runAt}
 use Rattle.spelling.specs.Reading.{recordAt}
+use Rattle.records.proofs.Marks.{entry-step}
 use Rattle.spelling.proofs.Steps.{fill-end, fill-step}
 use Rattle.reader.proofs.fill.Statement.{statement}
 use Rattle.reader.proofs.fill.Tie as tie
@@ -23,7 +25,9 @@ loop-holds : tie.Need-loop-holds Inv-loop μ-loop
 loop-holds c = (search needs, (omega arith, (refl, simp sub-zero)))
 
 loop-again : tie.Need-loop-again Inv-loop μ-loop
-loop-again c = (omega arith, (omega arith, (simp length-set (c .before .before .loop .inv .1 .1 .0), rw (c .record-at .ensures) (fill-step 6 recordAt (c .before .before .loop .part) _ _ (c .before .before .loop .at) (c .before .before .before .before .before .args .rest .now) (c .before .loop-test .taken)) ∙ c .before .before .loop .inv .1 .1 .1)))
+loop-again c =
+    let s = entry-step (c .before .before .loop .at) (c .before .before .before .before .before .args .rest .now) (c .read-entry .result) (omega arith) (c .read-entry .ensures) in
+    (omega arith, (omega arith, (simp length-set (c .before .before .loop .inv .1 .1 .0), rw (s .0, s .1) (fill-step 6 recordAt (c .before .before .loop .part) _ _ (c .before .before .loop .at) (c .before .before .before .before .before .args .rest .now) (c .before .loop-test .taken)) ∙ c .before .before .loop .inv .1 .1 .1)))
 
 same-length : tie.Need-same-length Inv-loop μ-loop
 same-length c = c .before .loop .inv .1 .1 .0
@@ -38,8 +42,7 @@ fill-spec =
     Inv-loop
     μ-loop
     loop-holds
-    (λ c κs. omega arith)
-    (λ c. omega arith)
+    (λ c κs. search needs)
     (λ c. omega arith)
     (λ c. omega arith)
     (λ c. omega arith)

@@ -8,7 +8,8 @@ use borrow.Author.Needs.{needs}
 use Rattle.protocol.specs.Beginning.{begins}
 use Rattle.spelling.specs.Numbers.{runAt}
 use Rattle.spelling.specs.Reading.{recordAt}
-use Rattle.reader.proofs.Logs.{same-end, same-again, same-fails}
+use Rattle.records.proofs.Marks.{entry-step}
+use Rattle.reader.proofs.Logs.{same-again, same-end, same-fails}
 use Rattle.reader.proofs.same_log.Statement.{statement}
 use Rattle.reader.proofs.same_log.Tie as tie
 
@@ -23,10 +24,14 @@ loop-holds : tie.Need-loop-holds Inv-loop μ-loop
 loop-holds c = (search needs, (omega arith, simp sub-zero))
 
 returns : tie.Need-returns Inv-loop μ-loop
-returns c = sym (same-fails (c .before .before .before .before .before .before .before .args .log .now) (c .before .before .before .before .before .before .before .args .rest .now) (c .before .before .before .before .before .before .before .args .k) (c .before .before .before .before .loop .i) (c .before .before .before .before .loop .at) (c .before .before .before .loop-test .taken) (c .before .before .before .before .before .before .before .pre .0) (λ e. c .if1 .taken (e ∙ sym (c .before .record-at .ensures)))) ∙ c .before .before .before .before .loop .inv .1 .1
+returns c =
+    let s = entry-step (c .before .before .before .before .before .loop .at) (c .before .before .before .before .before .before .before .before .args .rest .now) (c .before .before .before .read-entry .result) (omega arith) (c .before .before .before .read-entry .ensures) in
+    sym (same-fails (c .before .before .before .before .before .before .before .before .args .log .now) (c .before .before .before .before .before .before .before .before .args .rest .now) (c .before .before .before .before .before .before .before .before .args .k) (c .before .before .before .before .before .loop .i) (c .before .before .before .before .before .loop .at) (c .before .before .before .before .loop-test .taken) (c .before .before .before .before .before .before .before .before .pre .0) (λ e. c .if1 .taken (e ∙ sym (s .0)))) ∙ c .before .before .before .before .before .loop .inv .1 .1
 
 loop-again : tie.Need-loop-again Inv-loop μ-loop
-loop-again c = (omega arith, (omega arith, same-again (c .before .before .before .before .before .before .before .args .log .now) (c .before .before .before .before .before .before .before .args .rest .now) (c .before .before .before .before .before .before .before .args .k) (c .before .before .before .before .loop .i) (c .before .before .before .before .loop .at) (c .before .before .before .loop-test .taken) (c .before .before .before .before .before .before .before .pre .0) (c .if1 .left ∙ c .before .record-at .ensures) ∙ c .before .before .before .before .loop .inv .1 .1))
+loop-again c =
+    let s = entry-step (c .before .before .before .before .before .loop .at) (c .before .before .before .before .before .before .before .before .args .rest .now) (c .before .before .before .read-entry .result) (omega arith) (c .before .before .before .read-entry .ensures) in
+    (omega arith, (omega arith, rw (s .1) (same-again (c .before .before .before .before .before .before .before .before .args .log .now) (c .before .before .before .before .before .before .before .before .args .rest .now) (c .before .before .before .before .before .before .before .before .args .k) (c .before .before .before .before .before .loop .i) (c .before .before .before .before .before .loop .at) (c .before .before .before .before .loop-test .taken) (c .before .before .before .before .before .before .before .before .pre .0) (c .if1 .left ∙ s .0)) ∙ c .before .before .before .before .before .loop .inv .1 .1))
 
 returns-2 : tie.Need-returns-2 Inv-loop μ-loop
 returns-2 c = sym (same-end (c .before .before .before .before .args .log .now) (c .before .before .before .before .args .rest .now) (c .before .before .before .before .args .k) (c .before .loop .i) (c .before .loop .at) (c .loop-test .left)) ∙ c .before .loop .inv .1 .1
@@ -38,11 +43,10 @@ same-log-spec =
     Inv-loop
     μ-loop
     loop-holds
+    (λ c κs. search needs)
     (λ c. omega arith)
     (λ c. omega arith)
-    (λ c κs. omega arith)
     returns
-    (λ c. omega arith)
     (λ c. omega arith)
     (λ c. omega arith)
     loop-again

@@ -1,0 +1,1 @@
+-- The proofs by hand of the functions over a `Reader`.
