@@ -1,4 +1,5 @@
 -- Laws that belong to no one function.
+pub mod Caught
 pub mod Elect
 pub mod Found
 pub mod Issue
@@ -6,3 +7,4 @@ pub mod Promise
 pub mod Send
 pub mod Sound
 pub mod State
+pub mod Take

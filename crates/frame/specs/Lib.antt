@@ -7,3 +7,4 @@ pub mod Sending
 pub mod Settling
 pub mod Frames
 pub mod Electing
+pub mod Taking

@@ -9,6 +9,7 @@ pub mod issuing;
 pub mod sending;
 pub mod settling;
 pub mod soundness;
+pub mod taking;
 
 // n offices with their weights, the own office, the settled length and each office's ballot. The settled entries are the log's first words.
 #[repr(C)]

@@ -55,7 +55,8 @@ take-taken (suc k) (x ∷ l) = ap (λ (r : List ℕ). x ∷ r) (take-taken k l)
 pub part-tail : (b : Ballot) (k : ℕ) → k ≡ length (tailOf b) → take k (b .cells) ≡ tailOf b
 part-tail b k e = rw e (take-taken (b .len) (b .cells))
 
-take-from : (from k : ℕ) (l : List ℕ) → take (k - from) (drop from l) ≡ drop from (take k l)
+-- the part of a list from one place to another
+pub take-from : (from k : ℕ) (l : List ℕ) → take (k - from) (drop from l) ≡ drop from (take k l)
 take-from zero k l = simp unary-clauses
 take-from (suc from) zero l = ap (λ (j : ℕ). take j (drop (suc from) l)) none
   where

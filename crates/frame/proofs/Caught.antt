@@ -1,0 +1,214 @@
+-- The settled log beside a message's: the comparison of the two, and the words after the log has caught up.
+--     either-shorter, either-longer      of two lists the shorter one decides whether one is a beginning of the other
+--     decides-own, decides-theirs        the same of the log's words and the message's log records
+--     keeps, grows, Longer               the settled length and the words after the log has caught up
+--     Caught, caught                     what the settled log has before it is the message's, and what it lacked
+-- Assumes nothing.
+use mathlib.Core.Path.{_≡_, refl, sym, ap, subst, _∙_}
+use mathlib.Core.Bool.{Bool, true, false, _||_}
+use mathlib.Core.Logic.{_⊎_, inl, inr}
+use mathlib.Core.List.{List, [], _++_, append-nil}
+use Prim.Native.Nat.{ℕ, _+_, _-_, _<_, _≤_}
+use native.Mathlib.Omega.{arith}
+use lib.Dec.{ltb}
+use lib.ListN.{length, take, drop, length-drop, take-append-drop}
+use lib.Seq.{sets, length-take-le, drop-append-le, take-at}
+use borrow.Author.Tests.{lt-ltb, le-ltb, ltb-true, ltb-false}
+use Rattle.protocol.specs.Tests.{pick}
+use Rattle.protocol.specs.Beginning.{_⊑_, _⊏_, begins}
+use Rattle.protocol.proofs.Tests.{pick-cases}
+use Rattle.protocol.proofs.Beginning.{⊑-cases, ⊏-length, ⊑-length, ⊑-rest, ⊑-refl, begins-true, begins-of}
+use Rattle.paths.proofs.Walks.{take-from}
+use Rattle.spelling.specs.Numbers.{runAt}
+use Rattle.spelling.specs.Reading.{recordAt}
+use Rattle.spelling.proofs.Runs.{runAt-length}
+use Rattle.reader.proofs.Logs.{same-shorter, same-longer, extended}
+use Rattle.frame.specs.State.{wordsWith}
+use Rattle.frame.specs.Taking.{caughtLength, caughtWords}
+
+-- a beginning that is not shorter is the list itself
+not-shorter : (a b : List ℕ) → a ⊑ b → length b ≤ length a → b ⊑ a
+not-shorter a b p h = go (⊑-cases a b p)
+  where
+    go : (a ≡ b) ⊎ (a ⊏ b) → b ⊑ a
+    go (inl e) = subst (λ (l : List ℕ). b ⊑ l) (sym e) (⊑-refl b)
+    go (inr q) = absurd (omega (arith, ⊏-length a b q))
+
+pub either-shorter : (a b : List ℕ) → length a ≤ length b → (begins a b || begins b a) ≡ begins a b
+either-shorter a b h = go (begins a b) refl (begins b a) refl
+  where
+    go : (x : Bool) → begins a b ≡ x → (y : Bool) → begins b a ≡ y → (x || y) ≡ x
+    go true p y q = refl
+    go false p false q = refl
+    go false p true q = sym (begins-of a b (not-shorter b a (begins-true b a q) h)) ∙ p
+
+pub either-longer : (a b : List ℕ) → length b ≤ length a → (begins a b || begins b a) ≡ begins b a
+either-longer a b h = go (begins a b) refl (begins b a) refl
+  where
+    go : (x : Bool) → begins a b ≡ x → (y : Bool) → begins b a ≡ y → (x || y) ≡ y
+    go false p y q = refl
+    go true p true q = refl
+    go true p false q = sym (begins-of b a (not-shorter a b (begins-true a b p) h)) ∙ q
+
+-- ── the message's log where it stands: k log records in the rest of the message ──
+module _ (log rest : List ℕ) (settled k : ℕ) (room : settled ≤ length log) where
+  abbrev theirs : List ℕ
+  theirs = runAt 6 recordAt k rest
+
+  theirs-length : length theirs ≡ k
+  theirs-length = runAt-length 6 recordAt k rest
+
+  own-long : length (take settled log) ≡ settled
+  own-long = length-take-le settled log room
+
+  again : runAt 6 recordAt (length theirs) rest ≡ theirs
+  again = ap (λ (j : ℕ). runAt 6 recordAt j rest) theirs-length
+
+  pub decides-own : settled ≤ k → begins (take settled log) (runAt 6 recordAt settled rest) ≡ (begins (take settled log) theirs || begins theirs (take settled log))
+  decides-own h =
+      same-shorter log rest theirs settled again room (omega (arith, theirs-length))
+      ∙ sym (either-shorter (take settled log) theirs (omega (arith, theirs-length, own-long)))
+
+  pub decides-theirs : k ≤ settled → begins (take k log) (runAt 6 recordAt k rest) ≡ (begins (take settled log) theirs || begins theirs (take settled log))
+  decides-theirs h =
+      ap (λ (j : ℕ). begins (take j log) (runAt 6 recordAt j rest)) (sym theirs-length)
+      ∙ same-longer log rest theirs settled again room (omega (arith, theirs-length))
+      ∙ sym (either-longer (take settled log) theirs (omega (arith, theirs-length, own-long)))
+
+-- what is left of the log where its settled part is not the shorter one, and where it is
+pub keeps : (words rest : List ℕ) (settled k : ℕ) → k ≤ settled → (settled ≡ caughtLength settled (runAt 6 recordAt k rest)) × (words ≡ caughtWords words settled (runAt 6 recordAt k rest))
+unfolding caughtLength caughtWords pick
+keeps words rest settled k h = let e = le-ltb settled (length (runAt 6 recordAt k rest)) (omega (arith, runAt-length 6 recordAt k rest)) in (simp e, simp e)
+
+pub grows : (words rest : List ℕ) (settled k : ℕ) → settled < k
+    → (k ≡ caughtLength settled (runAt 6 recordAt k rest)) × (sets words settled (drop settled (runAt 6 recordAt k rest)) ≡ caughtWords words settled (runAt 6 recordAt k rest))
+unfolding caughtLength caughtWords pick
+grows words rest settled k h =
+    let l = runAt-length 6 recordAt k rest in
+    let e = lt-ltb settled (length (runAt 6 recordAt k rest)) (omega (arith, l)) in
+    (simp e (sym l), simp e)
+
+-- the new settled length is the longer one
+pub record Longer (settled theirs end : ℕ) : Type 0 where
+  pub past-own : settled ≤ end
+  pub past-theirs : theirs ≤ end
+  pub within : (most : ℕ) → settled ≤ most → theirs ≤ most → end ≤ most
+
+pub longer-end : (rest : List ℕ) (settled k : ℕ) → Longer settled k (caughtLength settled (runAt 6 recordAt k rest))
+unfolding caughtLength
+longer-end rest settled k =
+    let l = runAt-length 6 recordAt k rest in
+    pick-cases (λ (e : ℕ). Longer settled k e) (ltb settled (length (runAt 6 recordAt k rest))) (length (runAt 6 recordAt k rest)) settled
+    (λ t. let q = ltb-true settled (length (runAt 6 recordAt k rest)) t in record { past-own = omega arith; past-theirs = omega arith; within = λ most a b. omega arith })
+    (λ t. let q = ltb-false settled (length (runAt 6 recordAt k rest)) t in record { past-own = omega arith; past-theirs = omega arith; within = λ most a b. omega arith })
+
+-- the words from one place of a list up to another
+abbrev pub part : List ℕ → ℕ → ℕ → List ℕ
+part words from to = take (to - from) (drop from words)
+
+-- beside the settled log and the message's log m: the words x that the settled log lacks, and the words y that m lacks
+pub record Caught (words : List ℕ) (settled : ℕ) (m : List ℕ) (x y : List ℕ) : Type 0 where
+  pub whole : take settled words ++ x ≡ m ++ y
+  pub one : (x ≡ []) ⊎ (y ≡ [])
+  pub long : length (take settled words ++ x) ≡ caughtLength settled m
+  pub kept : wordsWith (take settled words ++ x) words ≡ caughtWords words settled m
+
+abbrev pub Comparable : List ℕ → List ℕ → Type 0
+Comparable a b = (a ⊑ b) ⊎ (b ⊑ a)
+
+none-of : (k : ℕ) (l : List ℕ) → take (k - k) l ≡ []
+none-of k l = ap (λ (j : ℕ). take j l) none
+  where
+    none : k - k ≡ 0
+    none = omega arith
+
+module _ (words : List ℕ) (settled : ℕ) (m : List ℕ) (room : settled ≤ length words) (fits : length m ≤ length words) (c : Comparable (take settled words) m) where
+  abbrev new : List ℕ
+  new = caughtWords words settled m
+
+  abbrev end : ℕ
+  end = caughtLength settled m
+
+  abbrev own : List ℕ
+  own = take settled words
+
+  own-length : length own ≡ settled
+  own-length = length-take-le settled words room
+
+  shorter : settled < length m → own ⊑ m
+  shorter h = go c
+    where
+      go : Comparable own m → own ⊑ m
+      go (inl p) = p
+      go (inr p) = absurd (omega (arith, ⊑-length m own p, own-length))
+
+  longer : length m ≤ settled → m ⊑ own
+  longer h = go c
+    where
+      go : Comparable own m → m ⊑ own
+      go (inl p) = not-shorter own m p (omega (arith, own-length))
+      go (inr p) = p
+
+  -- the message's log is the longer: it is the new one
+  module _ (h : settled < length m) where
+    end-longer : end ≡ length m
+    unfolding caughtLength pick
+    end-longer = rw (lt-ltb settled (length m) h)
+
+    new-longer : new ≡ wordsWith m words
+    unfolding caughtWords pick
+    new-longer = rw (lt-ltb settled (length m) h) (extended words m settled (omega arith) fits (begins-of own m (shorter h)))
+
+    lacked : part new settled end ≡ drop settled m
+    lacked =
+        let later : List ℕ = drop (length m) words in
+        rw (end-longer, new-longer, drop-append-le settled m later (omega arith)) (take-at (drop settled m) later (length m - settled) (length-drop settled m))
+
+    lacked-none : part new (length m) end ≡ []
+    lacked-none = rw end-longer (none-of (length m) (drop (length m) new))
+
+    rest : own ++ drop settled m ≡ m
+    rest = subst (λ (k : ℕ). own ++ drop k m ≡ m) own-length (⊑-rest own m (shorter h))
+
+    caught-longer : Caught words settled m (part new settled end) (part new (length m) end)
+    caught-longer =
+        let grown : own ++ part new settled end ≡ m = ap (λ (l : List ℕ). own ++ l) lacked ∙ rest in
+        record {
+          whole = grown ∙ sym (append-nil m) ∙ ap (λ (l : List ℕ). m ++ l) (sym lacked-none);
+          one = inr lacked-none;
+          long = ap length grown ∙ sym end-longer;
+          kept = ap (λ (l : List ℕ). wordsWith l words) grown ∙ sym new-longer;
+        }
+
+  -- the message's log is not the longer: the words are as they were
+  module _ (h : length m ≤ settled) where
+    end-same : end ≡ settled
+    unfolding caughtLength pick
+    end-same = rw (le-ltb settled (length m) h)
+
+    new-same : new ≡ words
+    unfolding caughtWords pick
+    new-same = rw (le-ltb settled (length m) h)
+
+    none-lacked : part new settled end ≡ []
+    none-lacked = rw end-same (none-of settled (drop settled new))
+
+    before : m ++ part new (length m) end ≡ own
+    before = rw (end-same, new-same, take-from (length m) settled words) (⊑-rest m own (longer h))
+
+    caught-same : Caught words settled m (part new settled end) (part new (length m) end)
+    caught-same =
+        let same : own ++ part new settled end ≡ own = ap (λ (l : List ℕ). own ++ l) none-lacked ∙ append-nil own in
+        record {
+          whole = same ∙ sym before;
+          one = inl none-lacked;
+          long = ap length same ∙ own-length ∙ sym end-same;
+          kept = ap (λ (l : List ℕ). wordsWith l words) same ∙ ap (λ (k : ℕ). own ++ drop k words) own-length ∙ take-append-drop settled words ∙ sym new-same;
+        }
+
+  pub caught : Caught words settled m (part new settled end) (part new (length m) end)
+  caught = go (ltb settled (length m)) refl
+    where
+      go : (b : Bool) → ltb settled (length m) ≡ b → Caught words settled m (part new settled end) (part new (length m) end)
+      go true e = caught-longer (ltb-true settled (length m) e)
+      go false e = caught-same (omega (arith, ltb-false settled (length m) e))

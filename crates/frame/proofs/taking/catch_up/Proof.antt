@@ -1,0 +1,16 @@
+-- A longer log is written past the settled length; any other leaves the words.
+use borrow.Author.Needs.{needs}
+use native.Mathlib.Omega.{arith}
+use mathlib.Core.Path.{_∙_}
+use Rattle.frame.proofs.Caught.{keeps, grows}
+use Rattle.frame.proofs.taking.catch_up.Statement.{statement}
+use Rattle.frame.proofs.taking.catch_up.Tie as tie
+
+returns : tie.Need-returns
+returns c = let a = c .before .before .before .args in keeps (a .log .now) (a .rest .now) (a .settled) (a .k) (omega arith)
+
+returns-2 : tie.Need-returns-2
+returns-2 c = let a = c .before .before .before .before .before .before .before .args in let g = grows (a .log .now) (a .rest .now) (a .settled) (a .k) (omega arith) in (g .0, c .before .before .extend .ensures ∙ g .1)
+
+pub catch-up-spec : {M : Type 1} → statement M
+catch-up-spec = tie.close (tie.spec returns (λ c κs. search needs) (λ c. search needs) returns-2)

@@ -1,0 +1,16 @@
+-- The shorter of the two logs decides.
+use borrow.Author.Needs.{needs}
+use native.Mathlib.Omega.{arith}
+use mathlib.Core.Path.{_∙_}
+use Rattle.frame.proofs.Caught.{decides-own, decides-theirs}
+use Rattle.frame.proofs.taking.comparable.Statement.{statement}
+use Rattle.frame.proofs.taking.comparable.Tie as tie
+
+returns : tie.Need-returns
+returns c = let a = c .before .before .before .before .args in c .same-log .ensures ∙ decides-own (a .log .now) (a .rest .now) (a .settled) (a .k) (c .before .before .before .before .pre .0) (omega arith)
+
+returns-2 : tie.Need-returns-2
+returns-2 c = let a = c .before .before .before .before .args in c .same-log2 .ensures ∙ decides-theirs (a .log .now) (a .rest .now) (a .settled) (a .k) (c .before .before .before .before .pre .0) (omega arith)
+
+pub comparable-spec : {M : Type 1} → statement M
+comparable-spec = tie.close (tie.spec (λ c κs. search needs) returns (λ c κs. search needs) returns-2)
