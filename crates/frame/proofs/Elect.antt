@@ -2,7 +2,9 @@
 --     winning            a winner is an entry, and the log has room for it
 --     step-won, step-nobody      what the step answers and writes
 --     Running            what a run of steps keeps; run-start, run-more, run-last, run-end
---     elect-sound        elect leaves a sound record with its words
+--     elect-sound, elect-state   a done elect leaves a sound record with its words, and the protocol's state
+--     elect-grows, elect-ends    its count is the log's growth, and no entry wins afterwards
+--     elect-keeps        a refused one leaves both
 -- Assumes nothing.
 use mathlib.Core.Path.{_≡_, refl, sym, ap, ap₂, subst₂, _∙_}
 use mathlib.Core.Bool.{Bool, true, false, true≢false}
@@ -20,7 +22,7 @@ use Rattle.protocol.specs.Office.{Office, votes}
 use Rattle.protocol.specs.Elect.{lose, settle, next, withElect, electCount}
 use Rattle.protocol.proofs.Vote.{byWeights-voted}
 use Rattle.protocol.proofs.Limits as Limits
-use Rattle.protocol.proofs.Elect.{elect-none, elect-some}
+use Rattle.protocol.proofs.Elect.{elect-none, elect-some, elect-log, elect-stops}
 use Rattle.ballots.specs.Ballots.{tailOf, ballotOf}
 use Rattle.ballots.specs.declared.Ballot.{Ballot}
 use Rattle.frame.specs.State.{heldBy, holding, wordsWith}
@@ -236,3 +238,17 @@ elect-keeps r words q = go (soundB r words) refl
     go : (b : Bool) → soundB r words ≡ b → (electOf r words .«record» ≡ r) × (electWords r words ≡ words)
     go true e = absurd (q (elect-zero r words e))
     go false e = let u = elect-unsound r words e in (sym (ap (λ (x : Elected). x .«record») (u .0)), sym (u .1))
+
+-- "answers how many entries it settled": the count is the log's growth
+pub elect-grows : (r : Record) (words : List ℕ) → electOf r words .number ≡ 0
+    → (s : List ℕ) × (heldBy (electOf r words .«record») (electWords r words) .log ≡ heldBy r words .log ++ s) × (length s ≡ electOf r words .count)
+elect-grows r words q =
+    let D = elect-done r words q in
+    let g = elect-log (ruleOf r) (heldBy r words) in
+    (g .0, ap (λ (o : Office). o .log) (elect-state r words q) ∙ g .1, g .2 ∙ sym (D .counted))
+
+-- "until no entry wins"
+pub elect-ends : (r : Record) (words : List ℕ) → electOf r words .number ≡ 0 → winnerOf (electOf r words .«record») (electWords r words) ≡ none
+elect-ends r words q =
+    let D = elect-done r words q in
+    ap₂ (λ (x : Record) (o : Office). ruleOf x (o .log) (votes o)) (D .made) (elect-state r words q) ∙ elect-stops (ruleOf r) (byWeights-voted (r .weights)) (heldBy r words)
