@@ -15,6 +15,11 @@ ghost use Rattle.spelling.specs.Numbers.{be16, runAt, runOk};
 ghost use Rattle.spelling.specs.Reading.{recordHere, recordAt, headOk, reading};
 ghost use Rattle.reader.specs.Read.{eightWeights, badRecords, ballotsAt, recordsAt, badReading, readingOf};
 
+// The most offices, and the most settled entries.
+const OFFICES: usize = 8;
+
+const LOG: u16 = 1024;
+
 // What the records after the head say: the ballots. The settled entries stay in the message.
 pub struct Records {
     pub ok: bool,
@@ -132,7 +137,7 @@ fn head_ok(s: &[u8]) -> bool
     if n < 1 {
         return false;
     }
-    if n > 8 {
+    if n > OFFICES {
         return false;
     }
     let sender = wide(s[2]) as usize;
@@ -142,7 +147,7 @@ fn head_ok(s: &[u8]) -> bool
     if s.len() < 6 + 2 * n {
         return false;
     }
-    if be16_at(s, 4 + 2 * n) > 1024 {
+    if be16_at(s, 4 + 2 * n) > LOG {
         return false;
     }
     true

@@ -183,10 +183,10 @@ pub fn ballot_at(s: &[u8], at: usize, n: usize, k: usize, o: usize) -> BallotSte
         if len < 1 {
             return bad_ballot();
         }
-        if len > 32 {
+        if len > Ballot::CELLS {
             return bad_ballot();
         }
-        if k > 1024 - len {
+        if k > Ballot::PATH - len {
             return bad_ballot();
         }
         if values_ok(s, at + 4, n, len) {

@@ -2,7 +2,7 @@
 use Prim.Native.Nat.{ℕ, suc, _+_, _-_, _≤_, _<_, _*_, zero}
 use mathlib.Core.Bool.{Bool, true, false}
 use mathlib.Core.List.{List}
-use mathlib.Core.Path.{_≡_}
+use mathlib.Core.Path.{_≡_, _∙_, sym}
 use native.Mathlib.Nat.{add-zero, mul-zero}
 use native.Mathlib.Numerals.{add-one}
 use native.Mathlib.Omega.{arith}
@@ -51,6 +51,21 @@ unfolding run
 store-end f l xs p i k h =
     let t : length (take k xs) ≤ i = rw length-take (omega arith) in
     rw (drop-of-length-le (take k xs) t)
+
+-- the invariant of a loop that stores the first k of xs, w bytes each, from place at on: what is left to store at turn i, from place p on, gives
+-- all that is to be stored
+abbrev pub Storing : ℕ → (ℕ → List ℕ) → List ℕ → ℕ → List ℕ → ℕ → List ℕ → ℕ → ℕ → Type 0
+Storing w f out₀ at xs k out p i =
+    (i ≤ k) × ((p ≡ at + w * i) × ((length out ≡ length out₀) × (sets out p (run f (drop i (take k xs))) ≡ sets out₀ at (run f (take k xs)))))
+
+module _ (w : ℕ) (f : ℕ → List ℕ) (wide : (v : ℕ) → length (f v) ≡ w) (out₀ : List ℕ) (at : ℕ) (xs : List ℕ) (k : ℕ) (out : List ℕ) (p i : ℕ) (inv : Storing w f out₀ at xs k out p i) where
+  pub storing-again : (out′ : List ℕ) → i < k → k ≤ length xs → length out′ ≡ length out → out′ ≡ sets out p (f (getD xs i 0)) → Storing w f out₀ at xs k out′ (p + w) (i + 1)
+  storing-again out′ h j l e = (omega arith, (omega arith, (l ∙ inv .1 .1 .0, rw e (store-step w f wide out xs p i k h j) ∙ inv .1 .1 .1)))
+
+  pub storing-ends : k ≤ i → (p ≡ at + w * k) × (out ≡ sets out₀ at (run f (take k xs)))
+  storing-ends h =
+      let q : i ≡ k = omega arith in
+      (rw q at (inv .1 .0), sym (store-end f out xs p i k h) ∙ inv .1 .1 .1)
 
 pub test-end : (w : ℕ) (p : List ℕ → Bool) (k i : ℕ) (s : List ℕ) → k ≤ i → runOk w p (k - i) s ≡ true
 unfolding runOk both

@@ -1,3 +1,4 @@
+-- The definition, field by field.
 use borrow.Author.Needs.{needs}
 use Rattle.reader.specs.Read.{badRecords}
 use Rattle.reader.proofs.bad_records.Statement.{statement}

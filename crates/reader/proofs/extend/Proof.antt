@@ -1,3 +1,4 @@
+-- The part of the log from the settled length on is lent and filled; it comes back as stores into the whole.
 use native.Mathlib.Omega.{arith}
 use borrow.Author.Needs.{needs}
 use Rattle.reader.proofs.Logs.{extend-stores}

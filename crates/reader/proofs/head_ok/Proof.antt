@@ -1,3 +1,4 @@
+-- Each failing test contradicts a fact of a head; past the last all of them hold.
 use mathlib.Core.Path.{sym}
 use native.Mathlib.Omega.{arith}
 use borrow.Author.Needs.{needs}

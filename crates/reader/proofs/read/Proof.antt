@@ -1,3 +1,4 @@
+-- The head is tested, then the records after it; each exit is what the definition answers for these tests.
 use Prim.Native.Nat.{ℕ, _+_, _*_}
 use mathlib.Core.List.{List}
 use mathlib.Core.Path.{_≡_, refl, sym, ap, _∙_}

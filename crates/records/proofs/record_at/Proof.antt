@@ -1,3 +1,4 @@
+-- The value stands after the two bytes of the mark.
 use mathlib.Core.Path.{_∙_}
 use lib.Seq.{drop-drop}
 use borrow.Author.Needs.{needs}

@@ -1,3 +1,4 @@
+-- There is no room, or the value decides.
 use mathlib.Core.Path.{_∙_}
 use lib.ListN.{length-drop}
 use borrow.Author.Needs.{needs}

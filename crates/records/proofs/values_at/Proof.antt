@@ -1,3 +1,4 @@
+-- The invariant: what is left to store from the position on gives all that is to be stored.
 use Prim.Native.Nat.{_≤_, _-_, _+_, _*_}
 use mathlib.Core.Path.{_≡_, sym, _∙_}
 use native.Mathlib.Nat.{sub-zero}

@@ -1,3 +1,4 @@
+-- The invariant: what is left to test from the position on gives what there was to test at first.
 use Prim.Native.Nat.{_+_, _≤_, _-_}
 use mathlib.Core.Bool.{true}
 use mathlib.Core.Path.{_≡_, sym, _∙_}

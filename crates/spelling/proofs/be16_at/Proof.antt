@@ -1,3 +1,4 @@
+-- The bytes at the position are those of the list from the position on; two bytes fit 16 bits.
 use Rattle.spelling.specs.Numbers.{be16}
 use native.Mathlib.Nat.{add-zero}
 use lib.Seq.{getD-drop}

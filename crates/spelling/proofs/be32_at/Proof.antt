@@ -1,3 +1,4 @@
+-- The bytes at the position are those of the list from the position on.
 use Rattle.spelling.specs.Numbers.{be32}
 use native.Mathlib.Nat.{add-zero}
 use lib.Seq.{getD-drop}

@@ -1,3 +1,4 @@
+-- The two stores are the two bytes of the definition.
 use Rattle.spelling.specs.Numbers.{bytes16}
 use native.Mathlib.Numerals.{add-one}
 use lib.ListN.{length-set}

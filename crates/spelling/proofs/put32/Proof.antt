@@ -1,3 +1,4 @@
+-- The four stores are the four bytes of the definition, one after the other.
 use Rattle.spelling.specs.Numbers.{bytes32}
 use native.Mathlib.Numerals.{add-one, add-two, add-three}
 use lib.ListN.{length-set}

@@ -1,3 +1,4 @@
+-- An empty ballot has no bytes; another has four, and four for each value.
 use mathlib.Core.Path.{_≡_}
 use native.Mathlib.Omega.{arith}
 use lib.ListN.{length}

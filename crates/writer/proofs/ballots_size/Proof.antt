@@ -1,3 +1,4 @@
+-- The invariant `ToCount`: the size so far and that of the ballots left are the size of all.
 use Prim.Native.Nat.{_-_}
 use mathlib.Core.List.{[]}
 use mathlib.Core.Path.{_≡_, ap}

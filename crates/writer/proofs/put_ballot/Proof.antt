@@ -1,3 +1,4 @@
+-- An empty ballot has no bytes; of another the mark, the office, the length and the values are stored one after the other.
 use Prim.Native.Nat.{_+_, _*_}
 use mathlib.Core.Path.{refl, _∙_, _≡_}
 use native.Mathlib.Omega.{arith}

@@ -1,3 +1,4 @@
+-- The invariant `ToPut`: what is left to write, from the position on, gives all that is to be written and ends where all of it does.
 use Prim.Native.Nat.{_-_}
 use mathlib.Core.List.{[]}
 use mathlib.Core.Path.{_≡_}

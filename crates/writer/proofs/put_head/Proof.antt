@@ -1,3 +1,4 @@
+-- Four bytes, the weights and the settled length are stored one after the other.
 use mathlib.Core.Path.{_≡_, _∙_}
 use native.Mathlib.Omega.{arith}
 use lib.ListN.{length, length-set}

@@ -1,3 +1,4 @@
+-- The mark and the four bytes of the value are stored one after the other.
 use mathlib.Core.Path.{_∙_}
 use native.Mathlib.Numerals.{add-one, add-two}
 use native.Mathlib.Omega.{arith}
