@@ -1,0 +1,2 @@
+-- The definition that only `embed` has; the others are frame's.
+pub mod Part

@@ -1,0 +1,107 @@
+// The engine's calls as C functions, for a service to link: the record by value, log and buffers lent. Each answers
+// what the call of `frame` answers, by the same equation; include/joukerpan.h declares them for C.
+ghost use mathlib.Core.Path.{_≡_};
+ghost use Rattle.frame.specs.Soundness.{soundB};
+ghost use Rattle.frame.specs.Founding.{foundOf};
+ghost use Rattle.frame.specs.Issuing.{issueOf};
+ghost use Rattle.frame.specs.Frames.{settledFrameOf, tentativeFrameOf};
+ghost use Rattle.frame.specs.Electing.{electOf, electWords};
+ghost use Rattle.frame.specs.Sending.{sendOf, sendBytes};
+ghost use Rattle.frame.specs.Taking.{takeOf, takeWords};
+ghost use Rattle.embed.specs.Part.{partOf};
+use frame::Record;
+use frame::electing::Elected;
+use frame::founding::Founded;
+use frame::frames::Framed;
+use frame::issuing::Issued;
+use frame::sending::Sent;
+use frame::taking::Taken;
+
+// Eight weights. An array by itself cannot cross to C; a struct that holds one can.
+#[repr(C)]
+pub struct Weights {
+    pub of: [u16; 8],
+}
+
+// What Settled answers across C: a part of the log cannot cross, so its length does. The part is the front of the caller's own log.
+#[repr(C)]
+pub struct Part {
+    pub number: u32,
+    pub length: usize,
+}
+
+// A fresh record: an empty log and no ballots.
+#[no_mangle]
+pub extern "C" fn joukerpan_found(n: usize, own: usize, weights: Weights, log: &[u32]) -> Founded
+    ensures { λ r. ⌜ r ≡ foundOf n own (weights .of) (now (log .entry)) ⌝ }
+{
+    let of = weights.of;
+    Record::found(n, own, of, log)
+}
+
+// Whether the record with its log is sound.
+#[no_mangle]
+pub extern "C" fn joukerpan_sound(office: Record, log: &[u32]) -> bool
+    ensures { λ r. ⌜ r ≡ soundB office (now (log .entry)) ⌝ }
+{
+    office.sound(log)
+}
+
+// The entry is appended to the own ballot.
+#[no_mangle]
+pub extern "C" fn joukerpan_issue(office: Record, log: &[u32], line: u32, code: u32) -> Issued
+    ensures { λ r. ⌜ r ≡ issueOf office (now (log .entry)) line code ⌝ }
+{
+    office.issue(log, line, code)
+}
+
+// How many words at the front of the log are settled.
+#[no_mangle]
+pub extern "C" fn joukerpan_settled(office: Record, log: &[u32]) -> Part
+    ensures { λ r. ⌜ r ≡ partOf office (now (log .entry)) ⌝ }
+{
+    let mut number: u32 = 0;
+    let part = office.settled(log, &mut number);
+    let length = part.len();
+    Part { number, length }
+}
+
+// The code of the last entry for the line in the settled log.
+#[no_mangle]
+pub extern "C" fn joukerpan_settled_frame(office: Record, log: &[u32], line: u32) -> Framed
+    ensures { λ r. ⌜ r ≡ settledFrameOf office (now (log .entry)) line ⌝ }
+{
+    office.settled_frame(log, line)
+}
+
+// The code of the last entry for the line in the own path.
+#[no_mangle]
+pub extern "C" fn joukerpan_tentative_frame(office: Record, log: &[u32], line: u32) -> Framed
+    ensures { λ r. ⌜ r ≡ tentativeFrameOf office (now (log .entry)) line ⌝ }
+{
+    office.tentative_frame(log, line)
+}
+
+// Election steps until no entry wins.
+#[no_mangle]
+pub extern "C" fn joukerpan_elect(office: Record, log: &mut [u32]) -> Elected
+    ensures { λ r. ⌜ (r ≡ electOf office (now (log .entry))) × (now (log .exit) ≡ electWords office (now (log .entry))) ⌝ }
+{
+    office.elect(log)
+}
+
+// The record's message, written to the front of the output.
+#[no_mangle]
+pub extern "C" fn joukerpan_send(office: Record, log: &[u32], output: &mut [u8]) -> Sent
+    ensures { λ r. ⌜ (r ≡ sendOf office (now (log .entry)) (now (output .entry))) × (now (output .exit) ≡ sendBytes office (now (log .entry)) (now (output .entry))) ⌝ }
+{
+    office.send(log, output)
+}
+
+// Another office's message, worked into the record and its log.
+#[no_mangle]
+pub extern "C" fn joukerpan_take(office: Record, log: &mut [u32], message: &[u8]) -> Taken
+    ensures { λ r. ⌜ (r ≡ takeOf office (now (log .entry)) (now (message .entry))) × (now (log .exit) ≡ takeWords office (now (log .entry)) (now (message .entry))) ⌝ }
+{
+    office.take(log, message)
+}
