@@ -1,0 +1,29 @@
+-- A done founding at office k leaves a sound record that says a fresh office. Assumes nothing.
+use mathlib.Core.Path.{_≡_, ap}
+use mathlib.Core.List.{List}
+use Prim.Native.Nat.{ℕ}
+use Rattle.protocol.specs.Office.{fresh}
+use Rattle.frame.specs.declared.Record.{Record}
+use Rattle.frame.specs.Founding.{foundOf}
+use Rattle.frame.proofs.Found.{found-done, found-sound, found-fresh}
+use Rattle.agreement.specs.World.{Desk}
+use Rattle.agreement.specs.Demand.{says}
+use Rattle.agreement.proofs.View.{Manned}
+
+-- the desk that a founding makes
+abbrev pub foundDesk : ℕ → List ℕ → ℕ → List ℕ → Desk
+foundDesk n ws k words = record { held = foundOf n k ws words .«record»; words = words }
+
+module _ (n : ℕ) (ws : List ℕ) (k : ℕ) (words : List ℕ) (done : foundOf n k ws words .number ≡ 0) where
+  pub found-manned : Manned n ws k (foundDesk n ws k words)
+  found-manned =
+      let made = found-done n k ws words done .made in
+      record {
+        count = ap (λ (r : Record). r .n) made;
+        own = ap (λ (r : Record). r .own) made;
+        weights = ap (λ (r : Record). r .weights) made;
+        sound = found-sound n k ws words done;
+      }
+
+  pub found-says : says (foundDesk n ws k words) ≡ fresh
+  found-says = found-fresh n k ws words done

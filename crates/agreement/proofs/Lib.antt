@@ -1,0 +1,15 @@
+-- Demand 3, proved.
+pub mod Places
+pub mod View
+pub mod Held
+pub mod Founded
+pub mod Issued
+pub mod Sent
+pub mod Taken
+pub mod Elected
+pub mod Follows
+pub mod Numbers
+pub mod Demand
+pub mod Calls
+pub mod Opening
+pub mod Rehearsed

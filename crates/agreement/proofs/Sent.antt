@@ -1,0 +1,43 @@
+-- A done send at a desk posts the spelling of what the desk says, and a send at a desk is refused with 6 alone. Assumes nothing.
+use mathlib.Core.Path.{_≡_, refl, sym, ap, ap₂, _∙_}
+use mathlib.Core.Bool.{Bool, true, false}
+use mathlib.Core.List.{List}
+use mathlib.Core.Logic.{_⊎_, inl, inr}
+use Prim.Native.Nat.{ℕ}
+use lib.Dec.{ltb}
+use lib.ListN as L
+use lib.ListN.{length}
+use Rattle.protocol.specs.Tests.{pick}
+use Rattle.writer.specs.Written.{contentOf as contentBy}
+use Rattle.frame.specs.Sending.{contentOf, messageOf, sendNumber, sendOf}
+use Rattle.frame.proofs.Sound.{sound-true}
+use Rattle.frame.proofs.Send.{content-valid, content-message, send-wrote}
+use Rattle.agreement.specs.World.{Desk, posted}
+use Rattle.agreement.specs.Demand.{says}
+use Rattle.agreement.proofs.View.{means, Manned, Spelled, means-content}
+
+module _ (n : ℕ) (ws : List ℕ) (k : ℕ) (d : Desk) (m : Manned n ws k d) (out : List ℕ) where
+  pub send-number : (sendOf (d .held) (d .words) out .number ≡ 0) ⊎ (sendOf (d .held) (d .words) out .number ≡ 6)
+  unfolding sendOf sendNumber pick
+  send-number = rw (sound-true (d .held) (d .words) (m .sound)) (go (ltb (length out) (length (messageOf (d .held) (d .words)))))
+    where
+      go : (t : Bool) → (_≡_ {A = ℕ} (pick t 6 0) 0) ⊎ (_≡_ {A = ℕ} (pick t 6 0) 6)
+      go true = inr refl
+      go false = inl refl
+
+  module _ (done : sendOf (d .held) (d .words) out .number ≡ 0) where
+    pub send-spelled : Spelled n ws (posted d out)
+    unfolding sendOf contentBy
+    send-spelled = record {
+      content = contentOf (d .held) (d .words);
+      bytes = sym (send-wrote (d .held) (d .words) out done);
+      valid = content-valid (d .held) (d .words) (m .sound);
+      count = m .count;
+      weights = ap₂ L.take (m .count) (m .weights);
+    }
+
+    pub send-means : means (posted d out) ≡ record { sender = k; state = says d }
+    unfolding send-spelled
+    send-means =
+        means-content n ws (posted d out) send-spelled ∙ content-message (d .held) (d .words) (m .sound)
+        ∙ ap (λ (j : ℕ). record { sender = j; state = says d }) (m .own)

@@ -1,0 +1,27 @@
+-- What else holds of the world of demand 3 after every list of calls: what its offices keep, and what a call there may be refused with. The
+-- theorem is `kept` in proofs/Calls.antt. Assumes nothing.
+use mathlib.Core.Path.{_≡_}
+use mathlib.Core.Bool.{true}
+use mathlib.Core.List.{List}
+use mathlib.Core.Option.{some}
+use mathlib.Core.Logic.{_⊎_}
+use Prim.Native.Nat.{ℕ}
+use lib.ListN.{length}
+use Rattle.frame.specs.Soundness.{soundB}
+use Rattle.agreement.specs.World.{Desk, World, Call, send, take, elect, deskAt, number, step, after}
+
+pub record Kept (n : ℕ) (weights : List ℕ) (start : World) (cs : List Call) : Type 0 where
+  -- there are n offices still; each has its own number, the founding's n and weights, and a record that is sound with its log
+  pub offices : length (after start cs .desks) ≡ n
+  pub own : (k : ℕ) (d : Desk) → deskAt (after start cs) k ≡ some d → d .held .own ≡ k
+  pub alike : (k : ℕ) (d : Desk) → deskAt (after start cs) k ≡ some d → (d .held .n ≡ n) × (d .held .weights ≡ weights)
+  pub sound : (k : ℕ) (d : Desk) → deskAt (after start cs) k ≡ some d → soundB (d .held) (d .words) ≡ true
+  -- so no call is refused with 1, and elect is never refused
+  pub never-unsound : (c : Call) → number (after start cs) c ≡ 1 → ⊥
+  pub elects : (k : ℕ) → number (after start cs) (elect k) ≡ 0
+  -- send is refused where the output is too short, and for nothing else
+  pub sends : (k : ℕ) (out : List ℕ) → (number (after start cs) (send k out) ≡ 0) ⊎ (number (after start cs) (send k out) ≡ 6)
+  -- take, of a sent message, is refused at the sender's own office, and for nothing else: never 7, 8 or 10
+  pub takes : (k m : ℕ) → (number (after start cs) (take k m) ≡ 0) ⊎ (number (after start cs) (take k m) ≡ 9)
+  -- "A refused call changes nothing"
+  pub refused : (c : Call) → (number (after start cs) c ≡ 0 → ⊥) → step (after start cs) c ≡ after start cs
