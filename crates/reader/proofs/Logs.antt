@@ -1,6 +1,6 @@
 -- The settled entries in the message: those compared with a log, and those written to the part of it that is lent. Assumes nothing.
 use Prim.Native.Nat.{ℕ, _*_, _-_, _≤_, suc, zero, _+_, _<_}
-use mathlib.Core.Bool.{Bool, _&&_, false, true, false≢true}
+use mathlib.Core.Bool.{Bool, _&&_, false, true}
 use mathlib.Core.List.{List, [], _++_, _∷_, append-nil}
 use mathlib.Core.Path.{_∙_, _≡_, ap, refl, sym}
 use native.Mathlib.Nat.{mul-zero, sub-zero}
@@ -13,6 +13,7 @@ use borrow.Author.Tests.{eq-eqb, eqb-false, eqb-true, ne-eqb}
 use Rattle.protocol.specs.Beginning.{begins}
 use Rattle.spelling.specs.Numbers.{runAt}
 use Rattle.spelling.specs.Reading.{recordAt}
+use Rattle.protocol.proofs.Beginning.{begins-true, ⊑-rest}
 use Rattle.spelling.proofs.Ballots.{by-test}
 use Rattle.spelling.proofs.Runs.{drop-more}
 
@@ -113,20 +114,11 @@ module _ (log rest theirs : List ℕ) (settled : ℕ) (are : runAt 6 recordAt (l
 
 -- ---- what the log is once the missing entries are written: the message's settled log, and the later words as they were
 
-begins-rest : (a b : List ℕ) → begins a b ≡ true → a ++ drop (length a) b ≡ b
-unfolding begins
-begins-rest [] b e = refl
-begins-rest (x ∷ a) [] e = absurd (false≢true e)
-begins-rest (x ∷ a) (y ∷ b) e =
-    by-test _ (eqb x y)
-    (λ q. let f : begins a b ≡ true = rw q at e in rw (eqb-true x y q) (ap (λ (l : List ℕ). y ∷ l) (begins-rest a b f)))
-    (λ q. absurd (false≢true (rw q at e)))
-
 pub extended : (log theirs : List ℕ) (settled : ℕ) → settled ≤ length theirs → length theirs ≤ length log → begins (take settled log) theirs ≡ true
     → sets log settled (drop settled theirs) ≡ theirs ++ drop (length theirs) log
 extended log theirs settled h j e =
     let l : length (take settled log) ≡ settled = length-take-le settled log (omega arith) in
     let d : length (drop settled theirs) ≡ length theirs - settled = length-drop settled theirs in
     let s : settled + length (drop settled theirs) ≡ length theirs = omega arith in
-    let q : take settled log ++ drop settled theirs ≡ theirs = rw l at (begins-rest (take settled log) theirs e) in
+    let q : take settled log ++ drop settled theirs ≡ theirs = rw l at (⊑-rest (take settled log) theirs (begins-true (take settled log) theirs e)) in
     sets-eq (drop settled theirs) log settled (omega arith) ∙ rw s (ap (λ (x : List ℕ). x ++ drop (length theirs) log) q)

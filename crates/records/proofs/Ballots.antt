@@ -14,10 +14,9 @@ use Rattle.ballots.specs.declared.Ballot.{Ballot}
 use Rattle.protocol.specs.Tests.{both, pick}
 use Rattle.spelling.specs.Numbers.{be32, runAt, runOk}
 use Rattle.spelling.specs.Reading.{ballotNext, ballotOk, sizeAt, valueHere}
-use Rattle.protocol.proofs.Tests.{both-0, both-1}
-use Rattle.spelling.proofs.Ballots.{by-test, ok-no, ok-yes, tail-no, tail-yes}
+use Rattle.protocol.proofs.Tests.{both-0}
+use Rattle.spelling.proofs.Ballots.{ok-no, ok-yes, tail-no, tail-yes}
 use Rattle.spelling.proofs.Runs.{runAt-length}
-use Rattle.spelling.proofs.Steps.{run-room, value-length}
 use Rattle.records.specs.Steps.{badBallot, ballotAt}
 
 pub size-yes : (o : ℕ) (s : List ℕ) → ballotNext o s ≡ true → sizeAt o s ≡ 4 + 4 * getD s 3 0
@@ -27,18 +26,6 @@ size-yes o s e = rw e
 pub size-no : (o : ℕ) (s : List ℕ) → ballotNext o s ≡ false → sizeAt o s ≡ 0
 unfolding sizeAt pick
 size-no o s e = rw e
-
--- a ballot that is read has room
-pub ballot-room : (n k o : ℕ) (s : List ℕ) → ballotOk n k o s ≡ true → sizeAt o s ≤ length s
-ballot-room n k o s e = by-test _ (ballotNext o s) yes-case (λ q. rw (size-no o s q) (omega arith))
-  where
-    yes-case : ballotNext o s ≡ true → sizeAt o s ≤ length s
-    yes-case q =
-        let l : ℕ = getD s 3 0 in
-        let t = both-1 (leb 1 l) _ (sym (ok-yes o s n k q) ∙ e) in
-        let u : runOk 4 (valueHere n) l (drop 4 s) ≡ true = both-1 (leb (k + l) 1024) _ (both-1 (leb l 32) _ t) in
-        let v : 1 ≤ l = leb-true 1 l (both-0 _ _ (sym (ok-yes o s n k q) ∙ e)) in
-        rw (size-yes o s q) (omega (arith, run-room 4 (valueHere n) (value-length n) l (drop 4 s) u, length-drop 4 s))
 
 module _ (n k o at : ℕ) (s : List ℕ) where
   pub step-none : ballotNext o (drop at s) ≡ false → ballotAt n k o at s ≡ record { ok = true; next = at; ballot = ballotOf [] }

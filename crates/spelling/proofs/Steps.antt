@@ -3,17 +3,17 @@ use Prim.Native.Nat.{ℕ, suc, _+_, _-_, _≤_, _<_, _*_, zero}
 use mathlib.Core.Bool.{Bool, true, false}
 use mathlib.Core.List.{List}
 use mathlib.Core.Path.{_≡_, _∙_, sym}
-use native.Mathlib.Nat.{add-zero, mul-zero}
+use native.Mathlib.Nat.{mul-zero}
 use native.Mathlib.Numerals.{add-one}
 use native.Mathlib.Omega.{arith}
-use lib.Dec.{leb, eqb}
+use lib.Dec.{leb}
 use lib.ListN.{length, getD, take, drop, set, length-drop, length-take, drop-of-length-le}
-use lib.Seq.{sets, drop-drop, drop-cons, getD-take, getD-drop, length-take-le}
-use borrow.Author.Tests.{leb-true, le-leb}
+use lib.Seq.{sets, drop-drop, drop-cons, getD-take, length-take-le}
+use borrow.Author.Tests.{leb-true}
 use Rattle.protocol.specs.Tests.{both}
 use Rattle.protocol.proofs.Tests.{both-0, both-1}
 use Rattle.spelling.specs.Numbers.{runAt, run, runOk}
-use Rattle.spelling.specs.Reading.{ballotNext, recordHere, valueHere}
+use Rattle.spelling.specs.Reading.{recordHere, valueHere}
 use Rattle.spelling.proofs.Numbers.{sets-append}
 
 -- reading: what is left to test at turn i, of k, at position at
@@ -82,11 +82,6 @@ fill-step w g l k i at s h =
 pub fill-end : (w : ℕ) (g : List ℕ → ℕ) (l : List ℕ) (k i : ℕ) (s : List ℕ) → k ≤ i → sets l i (runAt w g (k - i) s) ≡ l
 unfolding runAt
 fill-end w g l k i s h = let q : k - i ≡ 0 = omega arith in rw q
-
--- the last test of a ballot's mark
-pub next-test : (s : List ℕ) (at o : ℕ) → 4 ≤ length s - at → getD s at 0 ≡ 0x42 → getD s (at + 1) 0 ≡ 0x41 → ballotNext o (drop at s) ≡ eqb (getD s (at + 2) 0) o
-unfolding ballotNext both
-next-test s at o h p q = simp (length-drop, getD-drop, add-zero, le-leb 4 (length s - at) h, p, q)
 
 -- k items that stand there have room
 pub run-room : (w : ℕ) (p : List ℕ → Bool) → ((s : List ℕ) → p s ≡ true → w ≤ length s) → (k : ℕ) (s : List ℕ) → runOk w p k s ≡ true → w * k ≤ length s
