@@ -111,7 +111,7 @@ module _ (r : Record) (words s : List ℕ) where
     not-read e = rw (sound-true r words S, e)
 
     module _ (c : Content) (e : reading s ≡ some c) where
-      read-number : takeNumber r words s ≡ refuseContent r words c
+      pub read-number : takeNumber r words s ≡ refuseContent r words c
       unfolding takeNumber pick
       read-number = rw (sound-true r words S, e)
 
