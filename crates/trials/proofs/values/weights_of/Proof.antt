@@ -1,0 +1,31 @@
+-- The invariant: there are eight weights.
+use borrow.Author.Needs.{needs}
+use mathlib.Core.Path.{_≡_}
+use Prim.Native.Nat.{_-_}
+use lib.ListN.{length}
+use Rattle.trials.proofs.values.weights_of.Statement.{statement}
+use Rattle.trials.proofs.values.weights_of.Tie as tie
+
+abbrev Inv-loop : tie.InvT-loop
+Inv-loop cells weights₀ i₀ weights i = length weights ≡ 8
+
+abbrev μ-loop : tie.MeasureT-loop
+μ-loop cells weights₀ i₀ weights i = 8 - i
+
+pub weights-of-spec : {M : Type 1} → statement M
+weights-of-spec =
+    tie.close
+    (tie.spec
+    Inv-loop
+    μ-loop
+    (λ c. search needs)
+    (λ c. search needs)
+    (λ c. search needs)
+    (λ c. search needs)
+    (λ c κs. search needs)
+    (λ c. search needs)
+    (λ c. search needs)
+    (λ c. search needs)
+    (λ c. search needs)
+    (λ c. search needs)
+    (λ c. search needs))
