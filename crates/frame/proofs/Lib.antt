@@ -1,6 +1,5 @@
 -- Laws that belong to no one function.
 pub mod Accept
-pub mod Caught
 pub mod Elect
 pub mod Found
 pub mod Issue

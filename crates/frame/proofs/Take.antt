@@ -2,32 +2,25 @@
 --     take-refused                      a refused call changes nothing
 --     not-sound, not-read, other-count, other-weights, from-self, apart, accepts      the call's number, as the code finds it
 --     Accepted, accepted                what a message is that the call accepts
---     Ready, ready                      the limits that the code's work on such a message stays in
---     take-made                         the code's work on it is what the definition says
+--     ready, take-made                  the work on such a message may be done, and is what the definition says
 -- Assumes nothing.
 use mathlib.Core.Path.{_≡_, refl, sym, ap, ap₂, subst, _∙_}
-use mathlib.Core.Bool.{Bool, true, false, _||_}
-use mathlib.Core.List.{List, [], _∷_, _++_, map}
+use mathlib.Core.Bool.{Bool, true, false, cond}
+use mathlib.Core.List.{List, _++_, map}
 use mathlib.Core.Option.{Option, none, some}
-use Prim.Native.Nat.{ℕ, zero, suc, _+_, _-_, _*_, _<_, _≤_}
-use native.Mathlib.Nat.{not-suc-le-zero, le-of-suc-le-suc}
+use Prim.Native.Nat.{ℕ, _+_, _-_, _*_, _<_, _≤_}
 use native.Mathlib.Omega.{arith}
 use lib.Dec.{eqb}
-use lib.ListN.{length, getD, take, drop, set, replicate, length-append, length-drop, length-replicate, take-append-drop, length-map}
+use lib.ListN.{length, take, drop, replicate, length-append, length-drop, length-replicate, length-take, take-append-drop, length-map}
 use lib.Seq.{take-at}
 use borrow.Author.Tests.{eq-eqb, ne-eqb}
 use Rattle.protocol.specs.Tests.{both, pick, allB}
-use Rattle.protocol.specs.Beginning.{begins}
-use Rattle.protocol.specs.Office.{Office}
-use Rattle.protocol.specs.Take.{offers, withTake, refuseTake}
-use Rattle.protocol.proofs.Tests.{both-0, both-false-0, zeros, map-set, getD-map}
-use Rattle.protocol.proofs.Limits.{take-done}
-use Rattle.ballots.specs.declared.Ballot.{Ballot}
-use Rattle.ballots.specs.Ballots.{tailOf, ballotOf, offEnd, same}
+use Rattle.protocol.specs.Office.{Office, Message}
+use Rattle.protocol.specs.Take.{withTake, refuseTake}
+use Rattle.protocol.proofs.Tests.{both-0, both-false-0, zeros}
+use Rattle.ballots.specs.Ballots.{tailOf, ballotOf, same}
 use Rattle.ballots.proofs.Same.{same-true, same-refl}
-use Rattle.ballots.proofs.Laws.{held-all}
-use Rattle.paths.specs.Paths.{pastBallot, adopted}
-use Rattle.paths.proofs.Laws.{Taking, take-past}
+use Rattle.ballots.proofs.Laws.{held-all, tails-of}
 use Rattle.spelling.specs.Numbers.{runAt}
 use Rattle.spelling.specs.Content.{Content, asMessage, eightTails}
 use Rattle.spelling.specs.Reading.{reading, recordAt, messageOk, contentAt, countAt, settledAt, restAt}
@@ -37,14 +30,15 @@ use Rattle.spelling.proofs.Runs.{runAt-length}
 use Rattle.spelling.proofs.Laws.{reading-is, reading-log, reading-room}
 use Rattle.reader.specs.Read.{readingOf, eightWeights, ballotsOf}
 use Rattle.reader.specs.declared.Reading.{Reading}
+use Rattle.intake.specs.Intake.{messageIn, mergedOf, either, Ready}
+use Rattle.intake.specs.declared.Merged.{Merged}
 use Rattle.reader.proofs.Answers.{read-some, read-none, rest-of-message}
 use Rattle.frame.specs.State.{heldBy, holding, wordsWith}
 use Rattle.frame.specs.Soundness.{soundB, Sound}
-use Rattle.frame.specs.Taking.{sameOffices, refuseContent, onReading, takeNumber, takenOffice, takeOf, takeWords, caughtLength, caughtWords}
+use Rattle.frame.specs.Taking.{sameOffices, refuseContent, onReading, takeNumber, takenOffice, takeOf, takeWords}
 use Rattle.frame.specs.declared.Record.{Record}
 use Rattle.frame.specs.declared.taking.Taken.{Taken}
 use Rattle.frame.proofs.Sound.{sound, sound-true}
-use Rattle.frame.proofs.Caught.{Caught, caught, part, Comparable}
 
 -- what an answer and the words after it are to be
 abbrev pub Takes : Record → List ℕ → List ℕ → Taken → List ℕ → Type 0
@@ -162,10 +156,6 @@ module _ (r : Record) (c : Content) where
 abbrev pub logIn : Reading → List ℕ → List ℕ
 logIn m s = runAt 6 recordAt (m .settled) (take (length s - m .head) (drop (m .head) s))
 
--- one of the settled logs is a beginning of the other
-abbrev pub either : List ℕ → List ℕ → Bool
-either a b = begins a b || begins b a
-
 log-in : (m : Reading) (s : List ℕ) (c : Content) → Says m c → reading s ≡ some c → logIn m s ≡ c .log
 log-in m s c f e = rw (rest-of-message s (m .head), f .head, f .settled) (reading-log s c e)
 
@@ -177,6 +167,15 @@ module _ (k : ℕ) (c : Content) (o : Office) where
   number-10 : (c .sender ≡ k → ⊥) → either (o .log) (c .log) ≡ false → refuseTake k (asMessage c) o ≡ 10
   unfolding refuseTake asMessage
   number-10 n e = rw (ne-eqb (c .sender) k n, e)
+
+  done-either : refuseTake k (asMessage c) o ≡ 0 → either (o .log) (c .log) ≡ true
+  unfolding refuseTake asMessage
+  done-either e = go (eqb (c .sender) k) (either (o .log) (c .log)) e
+    where
+      go : (a b : Bool) → _≡_ {A = ℕ} (cond a 9 (cond b 0 10)) 0 → b ≡ true
+      go true b e = absurd (omega arith)
+      go false true e = refl
+      go false false e = absurd (omega arith)
 
   number-0 : (c .sender ≡ k → ⊥) → either (o .log) (c .log) ≡ true → refuseTake k (asMessage c) o ≡ 0
   unfolding refuseTake asMessage
@@ -268,34 +267,13 @@ unfolding takeOf
 take-answer r words s next e q = λ i. record { number = sym e i; «record» = q i }
 
 -- ── the code's work on an accepted message ──
-getD-any : {A : Type 0} (l : List A) (i : ℕ) (a b : A) → i < length l → getD l i a ≡ getD l i b
-getD-any [] i a b h = absurd (not-suc-le-zero h)
-getD-any (x ∷ l) zero a b h = refl
-getD-any (x ∷ l) (suc i) a b h = getD-any l i a b (le-of-suc-le-suc h)
+-- the part of the message that is lent: its rest after the head
+abbrev pub restOf : Reading → List ℕ → List ℕ
+restOf m s = take (length s - m .head) (drop (m .head) s)
 
 eight-tails : (c : Content) → Layout c → length (asMessage c .state .tails) ≡ 8
 unfolding asMessage eightTails
 eight-tails c l = rw (length-append, length-replicate) (omega (arith, l .tails, l .count))
-
--- the ballots that are offered: the own place has the sender's
-offered : (k : ℕ) (c : Content) (m : Reading) → Layout c → Says m c
-    → map ballotOf (offers k (asMessage c)) ≡ set (m .ballots) k (getD (m .ballots) (m .sender) offEnd)
-unfolding asMessage
-offered k c m l f =
-    let ts : List (List ℕ) = asMessage c .state .tails in
-    let bs : List Ballot = map ballotOf ts in
-    let there : c .sender < length bs = rw (length-map ts ballotOf, eight-tails c l) (omega (arith, l .below, l .count)) in
-    map-set ballotOf ts k (getD ts (c .sender) [])
-    ∙ ap (set bs k) (sym (getD-map ballotOf [] ts (c .sender)) ∙ getD-any bs (c .sender) (ballotOf []) offEnd there)
-    ∙ ap₂ (λ (x : List Ballot) (i : ℕ). set x k (getD x i offEnd)) (sym (f .ballots)) (sym (f .sender))
-
-pub record Ready (r : Record) (words s : List ℕ) (m : Reading) : Type 0 where
-  pub own : r .own < 8
-  pub sender : m .sender < 8
-  pub head : m .head ≤ length s
-  pub room : 6 * m .settled ≤ length s - m .head
-  pub fits : m .settled ≤ length words
-  pub settled : r .settled ≤ length words
 
 module _ (r : Record) (words s : List ℕ) (m : Reading) (e : takeNumber r words s ≡ 0) (is : m ≡ readingOf (reading s)) where
   taken : Accepted r words s
@@ -310,77 +288,43 @@ module _ (r : Record) (words s : List ℕ) (m : Reading) (e : takeNumber r words
   layout-it : Layout said
   layout-it = layout s said (taken .reads)
 
-  pub ready : Ready r words s m
+  in-message : logIn m s ≡ said .log
+  in-message = log-in m s said says-it (taken .reads)
+
+  held-tails : map tailOf (m .ballots) ≡ asMessage said .state .tails
+  held-tails = ap (map tailOf) (says-it .ballots) ∙ tails-of (asMessage said .state .tails)
+
+  -- what was read is the message
+  is-message : messageIn (restOf m s) m ≡ asMessage said
+  unfolding asMessage
+  is-message = λ i. record { sender = says-it .sender i; state = record { log = in-message i; tails = held-tails i } }
+
+  pub head-within : m .head ≤ length s
+  head-within = omega (arith, reading-room s said (taken .reads), says-it .head)
+
+  pub ready : Ready words (r .settled) (r .ballots) (r .own) (restOf m s) m
   ready =
       let S = taken .sounds in
       let H = S .head in
       let l = reading-room s said (taken .reads) in
       record {
-        own = omega (arith, H .member, H .most);
-        sender = omega (arith, says-it .sender, layout-it .below, layout-it .count);
-        head = omega (arith, l, says-it .head);
-        room = omega (arith, l, says-it .head, says-it .settled);
-        fits = omega (arith, says-it .settled, layout-it .log, S .room);
-        settled = omega (arith, S .most, S .room);
+        own-below = omega (arith, H .member, H .most);
+        sender-below = omega (arith, says-it .sender, layout-it .below, layout-it .count);
+        settled-within = omega (arith, S .most, S .room);
+        theirs-within = omega (arith, says-it .settled, layout-it .log, S .room);
+        records-within = simp (length-take, length-drop) (omega (arith, l, says-it .head, says-it .settled));
+        comparable = ap (either (take (r .settled) words)) in-message ∙ done-either (r .own) said (heldBy r words) (taken .done);
+        held = held-all (r .n) (r .settled) (r .ballots) (S .fine);
+        theirs-eight = ap length (says-it .ballots) ∙ length-map (asMessage said .state .tails) ballotOf ∙ eight-tails said layout-it;
+        theirs-held = ap (map ballotOf) held-tails ∙ sym (says-it .ballots);
       }
 
-  -- the settled log beside the message's, after the log has caught up
-  abbrev new : List ℕ
-  new = caughtWords words (r .settled) (logIn m s)
-
-  abbrev end : ℕ
-  end = caughtLength (r .settled) (logIn m s)
-
-  in-message : logIn m s ≡ asMessage said .state .log
-  unfolding asMessage
-  in-message = log-in m s said says-it (taken .reads)
-
-  long : length (logIn m s) ≡ m .settled
-  long = runAt-length 6 recordAt (m .settled) (take (length s - m .head) (drop (m .head) s))
-
-  caught-up : Caught words (r .settled) (logIn m s) (part new (r .settled) end) (part new (m .settled) end)
-  caught-up =
-      subst (λ (k : ℕ). Caught words (r .settled) (logIn m s) (part new (r .settled) end) (part new k end)) long
-      (caught words (r .settled) (logIn m s) (ready .settled) (omega (arith, long, ready .fits))
-      (subst (λ (l : List ℕ). Comparable (take (r .settled) words) l) (sym in-message) (take-done (r .own) (asMessage said) (heldBy r words) (taken .done) .comparable)))
-
-  made : Taking (r .own) (asMessage said) (heldBy r words) (part new (r .settled) end) (part new (m .settled) end)
-  made =
-      take-past (r .own) (asMessage said) (heldBy r words) (part new (r .settled) end) (part new (m .settled) end)
-      (caught-up .whole ∙ ap (λ (l : List ℕ). l ++ part new (m .settled) end) in-message) (caught-up .one)
-
-  own-held : map ballotOf (map tailOf (r .ballots)) ≡ r .ballots
-  own-held = held-all (r .n) (r .settled) (r .ballots) (taken .sounds .fine)
-
-  -- the ballots that the code makes
-  abbrev adoptedBy : List ℕ → ℕ → List Ballot
-  adoptedBy ws k = adopted (part ws (m .settled) k) (map (pastBallot (part ws (r .settled) k)) (r .ballots)) (set (m .ballots) (r .own) (getD (m .ballots) (m .sender) offEnd))
-
-  ballots-made : map ballotOf (withTake (r .own) (asMessage said) (heldBy r words) .tails) ≡ adoptedBy new end
-  ballots-made =
-      made .ballots
-      ∙ ap₂ (λ (bs qs : List Ballot). adopted (part new (m .settled) end) (map (pastBallot (part new (r .settled) end)) bs) qs) own-held (offered (r .own) said m layout-it says-it)
-
-  record-made : _≡_ {A = Record} (record { n = r .n; own = r .own; weights = r .weights; settled = end; ballots = adoptedBy new end }) (takeOf r words s .«record»)
-  record-made =
-      sym (take-done-is r words s e .0 ∙ ap (holding r) (taken-office r words s taken)
-      ∙ (λ i. record { n = r .n; own = r .own; weights = r .weights; settled = (ap length (made .log) ∙ caught-up .long) i; ballots = ballots-made i }))
-
-  words-made : new ≡ takeWords r words s
-  words-made =
-      sym (take-done-is r words s e .1 ∙ ap (λ (o : Office). wordsWith (o .log) words) (taken-office r words s taken)
-      ∙ ap (λ (l : List ℕ). wordsWith l words) (made .log) ∙ caught-up .kept)
-
-  pub take-made : (k : ℕ) (ws : List ℕ) (bs bs' : List Ballot) → k ≡ end → ws ≡ new
-      → bs ≡ map (pastBallot (part ws (r .settled) k)) (r .ballots)
-      → bs' ≡ adopted (part ws (m .settled) k) bs (set (m .ballots) (r .own) (getD (m .ballots) (m .sender) offEnd))
-      → (_≡_ {A = Record} (record { n = r .n; own = r .own; weights = r .weights; settled = k; ballots = bs' }) (takeOf r words s .«record»)) × (ws ≡ takeWords r words s)
-  take-made k ws bs bs' ek ew eb ea = (together ∙ record-made, ew ∙ words-made)
-    where
-      all : bs' ≡ adoptedBy new end
-      all =
-          ea ∙ ap (λ (x : List Ballot). adopted (part ws (m .settled) k) x (set (m .ballots) (r .own) (getD (m .ballots) (m .sender) offEnd))) eb
-          ∙ ap₂ adoptedBy ew ek
-
-      together : _≡_ {A = Record} (record { n = r .n; own = r .own; weights = r .weights; settled = k; ballots = bs' }) (record { n = r .n; own = r .own; weights = r .weights; settled = end; ballots = adoptedBy new end })
-      together = λ i. record { n = r .n; own = r .own; weights = r .weights; settled = ek i; ballots = all i }
+  pub take-made : (q : Merged) (ws : List ℕ) → q ≡ mergedOf (withTake (r .own) (messageIn (restOf m s) m) (heldBy r words))
+      → ws ≡ wordsWith (withTake (r .own) (messageIn (restOf m s) m) (heldBy r words) .log) words
+      → (_≡_ {A = Record} (record { n = r .n; own = r .own; weights = r .weights; settled = q .settled; ballots = q .ballots }) (takeOf r words s .«record»)) × (ws ≡ takeWords r words s)
+  take-made q ws eq ew =
+      let o : withTake (r .own) (messageIn (restOf m s) m) (heldBy r words) ≡ takenOffice r words s = ap (λ (x : Message). withTake (r .own) x (heldBy r words)) is-message ∙ sym (taken-office r words s taken) in
+      let d = take-done-is r words s e in (
+        ap (λ (x : Merged). record { n = r .n; own = r .own; weights = r .weights; settled = x .settled; ballots = x .ballots }) (eq ∙ ap mergedOf o) ∙ sym (d .0),
+        ew ∙ ap (λ (x : Office). wordsWith (x .log) words) o ∙ sym (d .1),
+      )

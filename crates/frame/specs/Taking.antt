@@ -3,9 +3,8 @@ use Prim.Native.Nat.{ℕ}
 use mathlib.Core.Bool.{Bool}
 use mathlib.Core.List.{List}
 use mathlib.Core.Option.{Option, none, some}
-use lib.Dec.{eqb, ltb}
-use lib.ListN.{length, take, drop}
-use lib.Seq.{sets}
+use lib.Dec.{eqb}
+use lib.ListN.{take}
 use Rattle.protocol.specs.Tests.{both, pick}
 use Rattle.protocol.specs.Office.{Office}
 use Rattle.protocol.specs.Take.{withTake, refuseTake}
@@ -47,11 +46,3 @@ takeOf r words s = record {
 -- the log's words after take
 unfoldable pub takeWords : Record → List ℕ → List ℕ → List ℕ
 takeWords r words s = pick (eqb (takeNumber r words s) 0) (wordsWith (takenOffice r words s .log) words) words
-
--- "if the message's log extends the settled log, the record writes the missing entries from its own length onward": the settled length
--- and the log's words after that, where the two logs are comparable
-unfoldable pub caughtLength : ℕ → List ℕ → ℕ
-caughtLength settled log = pick (ltb settled (length log)) (length log) settled
-
-unfoldable pub caughtWords : List ℕ → ℕ → List ℕ → List ℕ
-caughtWords words settled log = pick (ltb settled (length log)) (sets words settled (drop settled log)) words

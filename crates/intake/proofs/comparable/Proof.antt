@@ -2,9 +2,9 @@
 use borrow.Author.Needs.{needs}
 use native.Mathlib.Omega.{arith}
 use mathlib.Core.Path.{_∙_}
-use Rattle.frame.proofs.Caught.{decides-own, decides-theirs}
-use Rattle.frame.proofs.taking.comparable.Statement.{statement}
-use Rattle.frame.proofs.taking.comparable.Tie as tie
+use Rattle.intake.proofs.Caught.{decides-own, decides-theirs}
+use Rattle.intake.proofs.comparable.Statement.{statement}
+use Rattle.intake.proofs.comparable.Tie as tie
 
 returns : tie.Need-returns
 returns c = let a = c .before .before .before .before .args in c .same-log .ensures ∙ decides-own (a .log .now) (a .rest .now) (a .settled) (a .k) (c .before .before .before .before .pre .0) (omega arith)

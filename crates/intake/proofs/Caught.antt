@@ -23,8 +23,7 @@ use Rattle.spelling.specs.Numbers.{runAt}
 use Rattle.spelling.specs.Reading.{recordAt}
 use Rattle.spelling.proofs.Runs.{runAt-length}
 use Rattle.reader.proofs.Logs.{same-shorter, same-longer, extended}
-use Rattle.frame.specs.State.{wordsWith}
-use Rattle.frame.specs.Taking.{caughtLength, caughtWords}
+use Rattle.intake.specs.Intake.{either, caughtLength, caughtWords}
 
 -- a beginning that is not shorter is the list itself
 not-shorter : (a b : List ℕ) → a ⊑ b → length b ≤ length a → b ⊑ a
@@ -34,7 +33,7 @@ not-shorter a b p h = go (⊑-cases a b p)
     go (inl e) = subst (λ (l : List ℕ). b ⊑ l) (sym e) (⊑-refl b)
     go (inr q) = absurd (omega (arith, ⊏-length a b q))
 
-pub either-shorter : (a b : List ℕ) → length a ≤ length b → (begins a b || begins b a) ≡ begins a b
+pub either-shorter : (a b : List ℕ) → length a ≤ length b → either a b ≡ begins a b
 either-shorter a b h = go (begins a b) refl (begins b a) refl
   where
     go : (x : Bool) → begins a b ≡ x → (y : Bool) → begins b a ≡ y → (x || y) ≡ x
@@ -42,7 +41,7 @@ either-shorter a b h = go (begins a b) refl (begins b a) refl
     go false p false q = refl
     go false p true q = sym (begins-of a b (not-shorter b a (begins-true b a q) h)) ∙ p
 
-pub either-longer : (a b : List ℕ) → length b ≤ length a → (begins a b || begins b a) ≡ begins b a
+pub either-longer : (a b : List ℕ) → length b ≤ length a → either a b ≡ begins b a
 either-longer a b h = go (begins a b) refl (begins b a) refl
   where
     go : (x : Bool) → begins a b ≡ x → (y : Bool) → begins b a ≡ y → (x || y) ≡ y
@@ -64,12 +63,12 @@ module _ (log rest : List ℕ) (settled k : ℕ) (room : settled ≤ length log)
   again : runAt 6 recordAt (length theirs) rest ≡ theirs
   again = ap (λ (j : ℕ). runAt 6 recordAt j rest) theirs-length
 
-  pub decides-own : settled ≤ k → begins (take settled log) (runAt 6 recordAt settled rest) ≡ (begins (take settled log) theirs || begins theirs (take settled log))
+  pub decides-own : settled ≤ k → begins (take settled log) (runAt 6 recordAt settled rest) ≡ either (take settled log) theirs
   decides-own h =
       same-shorter log rest theirs settled again room (omega (arith, theirs-length))
       ∙ sym (either-shorter (take settled log) theirs (omega (arith, theirs-length, own-long)))
 
-  pub decides-theirs : k ≤ settled → begins (take k log) (runAt 6 recordAt k rest) ≡ (begins (take settled log) theirs || begins theirs (take settled log))
+  pub decides-theirs : k ≤ settled → begins (take k log) (runAt 6 recordAt k rest) ≡ either (take settled log) theirs
   decides-theirs h =
       ap (λ (j : ℕ). begins (take j log) (runAt 6 recordAt j rest)) (sym theirs-length)
       ∙ same-longer log rest theirs settled again room (omega (arith, theirs-length))
@@ -101,6 +100,10 @@ longer-end rest settled k =
     pick-cases (λ (e : ℕ). Longer settled k e) (ltb settled (length (runAt 6 recordAt k rest))) (length (runAt 6 recordAt k rest)) settled
     (λ t. let q = ltb-true settled (length (runAt 6 recordAt k rest)) t in record { past-own = omega arith; past-theirs = omega arith; within = λ most a b. omega arith })
     (λ t. let q = ltb-false settled (length (runAt 6 recordAt k rest)) t in record { past-own = omega arith; past-theirs = omega arith; within = λ most a b. omega arith })
+
+-- words with a log in front of those past it
+abbrev pub wordsWith : List ℕ → List ℕ → List ℕ
+wordsWith log words = log ++ drop (length log) words
 
 -- the words from one place of a list up to another
 abbrev pub part : List ℕ → ℕ → ℕ → List ℕ

@@ -2,9 +2,9 @@
 use borrow.Author.Needs.{needs}
 use native.Mathlib.Omega.{arith}
 use mathlib.Core.Path.{_∙_}
-use Rattle.frame.proofs.Caught.{keeps, grows}
-use Rattle.frame.proofs.taking.catch_up.Statement.{statement}
-use Rattle.frame.proofs.taking.catch_up.Tie as tie
+use Rattle.intake.proofs.Caught.{keeps, grows}
+use Rattle.intake.proofs.catch_up.Statement.{statement}
+use Rattle.intake.proofs.catch_up.Tie as tie
 
 returns : tie.Need-returns
 returns c = let a = c .before .before .before .args in keeps (a .log .now) (a .rest .now) (a .settled) (a .k) (omega arith)

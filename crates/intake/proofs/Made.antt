@@ -1,0 +1,99 @@
+-- The code's work on a message is the protocol's take: `merged`. Assumes nothing.
+use mathlib.Core.Path.{_≡_, refl, sym, ap, ap₂, subst, _∙_}
+use mathlib.Core.Bool.{true}
+use mathlib.Core.Logic.{_⊎_, inl, inr}
+use mathlib.Core.List.{List, [], _∷_, map}
+use Prim.Native.Nat.{ℕ, zero, suc, _<_, _≤_}
+use native.Mathlib.Nat.{not-suc-le-zero, le-of-suc-le-suc}
+use native.Mathlib.Omega.{arith}
+use lib.ListN.{length, getD, take, set, length-map}
+use Rattle.protocol.specs.Beginning.{begins}
+use Rattle.protocol.specs.Take.{offers, withTake}
+use Rattle.protocol.proofs.Tests.{or-true, map-set, getD-map}
+use Rattle.protocol.proofs.Beginning.{begins-true}
+use Rattle.ballots.specs.declared.Ballot.{Ballot}
+use Rattle.ballots.specs.Ballots.{tailOf, ballotOf, offEnd}
+use Rattle.paths.specs.Paths.{pastBallot, adopted}
+use Rattle.paths.proofs.Laws.{Taking, take-past}
+use Rattle.spelling.specs.Numbers.{runAt}
+use Rattle.spelling.specs.Reading.{recordAt}
+use Rattle.spelling.proofs.Runs.{runAt-length}
+use Rattle.reader.specs.declared.Reading.{Reading}
+use Rattle.intake.specs.Intake.{officeIn, messageIn, mergedOf, either, caughtLength, caughtWords, Ready}
+use Rattle.intake.specs.declared.Merged.{Merged}
+use Rattle.intake.proofs.Caught.{Caught, caught, part, Comparable, wordsWith, Longer, longer-end}
+
+getD-any : {A : Type 0} (l : List A) (i : ℕ) (a b : A) → i < length l → getD l i a ≡ getD l i b
+getD-any [] i a b h = absurd (not-suc-le-zero h)
+getD-any (x ∷ l) zero a b h = refl
+getD-any (x ∷ l) (suc i) a b h = getD-any l i a b (le-of-suc-le-suc h)
+
+compared : (a b : List ℕ) → either a b ≡ true → Comparable a b
+compared a b e = go (or-true (begins a b) (begins b a) e)
+  where
+    go : (begins a b ≡ true) ⊎ (begins b a ≡ true) → Comparable a b
+    go (inl p) = inl (begins-true a b p)
+    go (inr p) = inr (begins-true b a p)
+
+module _ (words : List ℕ) (settled : ℕ) (ballots : List Ballot) (own : ℕ) (rest : List ℕ) (m : Reading) (R : Ready words settled ballots own rest m) where
+  abbrev theirs : List ℕ
+  theirs = runAt 6 recordAt (m .settled) rest
+
+  -- the log's words and the settled length after the log has caught up
+  abbrev new : List ℕ
+  new = caughtWords words settled theirs
+
+  abbrev pub endOf : ℕ
+  endOf = caughtLength settled theirs
+
+  pub longer : Longer settled (m .settled) endOf
+  longer = longer-end rest settled (m .settled)
+
+  pub within : endOf ≤ length words
+  within = longer .within (length words) (R .settled-within) (R .theirs-within)
+
+  long : length theirs ≡ m .settled
+  long = runAt-length 6 recordAt (m .settled) rest
+
+  caught-up : Caught words settled theirs (part new settled endOf) (part new (m .settled) endOf)
+  caught-up =
+      subst (λ (k : ℕ). Caught words settled theirs (part new settled endOf) (part new k endOf)) long
+      (caught words settled theirs (R .settled-within) (omega (arith, long, R .theirs-within)) (compared (take settled words) theirs (R .comparable)))
+
+  taking : Taking own (messageIn rest m) (officeIn words settled ballots) (part new settled endOf) (part new (m .settled) endOf)
+  taking = take-past own (messageIn rest m) (officeIn words settled ballots) (part new settled endOf) (part new (m .settled) endOf) (caught-up .whole) (caught-up .one)
+
+  -- the ballots that are offered: the own place has the sender's
+  abbrev offered : List Ballot
+  offered = set (m .ballots) own (getD (m .ballots) (m .sender) offEnd)
+
+  offers-made : map ballotOf (offers own (messageIn rest m)) ≡ offered
+  offers-made =
+      let ts : List (List ℕ) = map tailOf (m .ballots) in
+      let bs : List Ballot = map ballotOf ts in
+      let there : m .sender < length bs = rw (length-map ts ballotOf, length-map (m .ballots) tailOf, R .theirs-eight) (R .sender-below) in
+      map-set ballotOf ts own (getD ts (m .sender) [])
+      ∙ ap (set bs own) (sym (getD-map ballotOf [] ts (m .sender)) ∙ getD-any bs (m .sender) (ballotOf []) offEnd there)
+      ∙ ap (λ (x : List Ballot). set x own (getD x (m .sender) offEnd)) (R .theirs-held)
+
+  -- the ballots that the code makes
+  abbrev adoptedBy : List ℕ → ℕ → List Ballot
+  adoptedBy ws k = adopted (part ws (m .settled) k) (map (pastBallot (part ws settled k)) ballots) offered
+
+  ballots-made : map ballotOf (withTake own (messageIn rest m) (officeIn words settled ballots) .tails) ≡ adoptedBy new endOf
+  ballots-made =
+      taking .ballots
+      ∙ ap₂ (λ (bs qs : List Ballot). adopted (part new (m .settled) endOf) (map (pastBallot (part new settled endOf)) bs) qs) (R .held) offers-made
+
+  pub merged : (k : ℕ) (ws : List ℕ) (bs bs' : List Ballot) → k ≡ endOf → ws ≡ new
+      → bs ≡ map (pastBallot (part ws settled k)) ballots
+      → bs' ≡ adopted (part ws (m .settled) k) bs offered
+      → (_≡_ {A = Merged} (record { settled = k; ballots = bs' }) (mergedOf (withTake own (messageIn rest m) (officeIn words settled ballots))))
+      × (ws ≡ wordsWith (withTake own (messageIn rest m) (officeIn words settled ballots) .log) words)
+  merged k ws bs bs' ek ew eb ea = (
+    (λ i. record { settled = (ek ∙ sym (ap length (taking .log) ∙ caught-up .long)) i; ballots = (all ∙ sym ballots-made) i }),
+    ew ∙ sym (ap (λ (l : List ℕ). wordsWith l words) (taking .log) ∙ caught-up .kept),
+  )
+    where
+      all : bs' ≡ adoptedBy new endOf
+      all = ea ∙ ap (λ (x : List Ballot). adopted (part ws (m .settled) k) x offered) eb ∙ ap₂ adoptedBy ew ek

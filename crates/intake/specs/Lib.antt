@@ -1,0 +1,2 @@
+-- The definitions that the contracts of `intake` cite.
+pub mod Intake

@@ -1,0 +1,69 @@
+// Take's work on a log and eight ballots, from a message that was read: the two logs compared, the log caught up, the ballots brought past
+// it and offered the message's. Public only for the crate above, which proves what the functions require.
+ghost use mathlib.Core.Path.{_≡_};
+ghost use mathlib.Core.List.{_++_};
+ghost use Prim.Native.Nat.{_*_, _≤_};
+ghost use lib.ListN.{length, take, drop};
+ghost use Rattle.protocol.specs.Take.{withTake};
+ghost use Rattle.spelling.specs.Numbers.{runAt};
+ghost use Rattle.spelling.specs.Reading.{recordAt};
+ghost use Rattle.intake.specs.Intake.{officeIn, messageIn, mergedOf, either, caughtLength, caughtWords, Ready};
+use ballots::Ballot;
+use reader::Reading;
+
+// A settled length and the ballots beside that log.
+pub struct Merged {
+    pub settled: usize,
+    pub ballots: [Ballot; 8],
+}
+
+// Whether one of the two settled logs is a beginning of the other: the log's first words, and the message's k log records.
+pub fn comparable(log: &[u32], settled: usize, rest: &[u8], k: usize) -> bool
+    requires { ⌜ (settled ≤ length (now log)) × (6 * k ≤ length (now rest)) ⌝ }
+    ensures { λ r. ⌜ r ≡ either (take settled (now (log .entry))) (runAt 6 recordAt k (now (rest .entry))) ⌝ }
+{
+    if settled <= k {
+        return reader::same_log(log, rest, settled);
+    }
+    reader::same_log(log, rest, k)
+}
+
+// Where the message's log is the longer, writes the missing entries from the settled length onward; answers the new settled length.
+fn catch_up(log: &mut [u32], settled: usize, rest: &[u8], k: usize) -> usize
+    requires { ⌜ (k ≤ length (now log)) × (6 * k ≤ length (now rest)) ⌝ }
+    ensures { λ r. ⌜ (r ≡ caughtLength settled (runAt 6 recordAt k (now (rest .entry)))) × (now (log .exit) ≡ caughtWords (now (log .entry)) settled (runAt 6 recordAt k (now (rest .entry)))) ⌝ }
+{
+    if k <= settled {
+        return settled;
+    }
+    reader::extend(log, settled, rest, k);
+    k
+}
+
+// Takes a message whose log is comparable with the settled one: the log catches up, every ballot is brought past the entries that this
+// settled, and each is offered the message's ballot of its office, the own one the sender's. Later words keep their contents.
+pub fn take_in(
+    log: &mut [u32],
+    settled: usize,
+    ballots: [Ballot; 8],
+    own: usize,
+    rest: &[u8],
+    m: Reading,
+) -> Merged
+    requires { ⌜ Ready (now log) settled ballots own (now rest) m ⌝ }
+    ensures merged { λ r. ⌜ r ≡ mergedOf (withTake own (messageIn (now (rest .entry)) m) (officeIn (now (log .entry)) settled ballots)) ⌝ }
+    ensures words { λ _. ⌜ now (log .exit) ≡ withTake own (messageIn (now (rest .entry)) m) (officeIn (now (log .entry)) settled ballots) .log ++ drop (length (withTake own (messageIn (now (rest .entry)) m) (officeIn (now (log .entry)) settled ballots) .log)) (now (log .entry)) ⌝ }
+{
+    let theirs = m.settled;
+    let sender = m.sender;
+    let mut offers = m.ballots;
+    let from_sender = offers[sender];
+    offers[own] = from_sender;
+    let end = catch_up(log, settled, rest, theirs);
+    let rebased = paths::rebase(ballots, &log[settled..end]);
+    let adopted = paths::adopt(rebased, offers, &log[theirs..end]);
+    Merged {
+        settled: end,
+        ballots: adopted,
+    }
+}
