@@ -2,3 +2,4 @@
 
 pub mod Fill
 pub mod Walk
+pub mod Word

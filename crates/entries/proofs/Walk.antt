@@ -1,18 +1,23 @@
--- A loop that walks a list from the front, with the invariant that the rest answers as the whole list does.
---     rest-step      the rest at i is the element at i and the rest at i + 1
---     all-next, all-stop, all-done     of `allB`: the element passes, it fails, the list is at its end
+-- Loops that walk a list: the invariant says that what is left of it answers as the whole list does.
+--     rest-step                        the rest at i is the element at i and the rest at i + 1
+--     all-next, all-stop, all-done     of `allB`, up to the first element that fails: one passes, one fails, the list is at its end
+--     with-next, with-done             of `allB`, testing every element: one more, the list is at its end
+--     last-here, last-before           of `lastCode`, from the end: the last word is for the line, or it is not
 -- Assumes nothing.
 use mathlib.Core.Path.{_≡_, refl, sym, _∙_}
-use mathlib.Core.Bool.{Bool, true, false}
+use mathlib.Core.Bool.{Bool, true, false, _&&_}
 use mathlib.Core.List.{List, [], _∷_, _++_}
-use Prim.Native.Nat.{ℕ, _+_, _-_, _<_, _≤_}
+use Prim.Native.Nat.{ℕ, suc, _+_, _-_, _<_, _≤_}
 use native.Mathlib.Numerals.{add-one}
 use lib.ListN.{length, getD, take, drop, drop-of-length-le, length-drop}
-use lib.Seq.{drop-cons, take-all}
+use lib.Seq.{drop-cons, take-all, take-suc}
 use native.Mathlib.Omega.{arith}
 use Rattle.protocol.specs.Tests.{allB, both, pick}
 use Rattle.protocol.specs.Frames.{lastCode}
 use Rattle.protocol.specs.Entry.{lineOf, codeOf}
+use Rattle.protocol.proofs.Tests.{pick-true, pick-false}
+use lib.Dec.{eqb}
+use borrow.Author.Tests.{eq-eqb, ne-eqb}
 
 pub rest-step : {A : Type 0} (d : A) (xs : List A) (i : ℕ) → i < length xs → drop i xs ≡ getD xs i d ∷ drop (i + 1) xs
 rest-step d xs i h = rw (add-one, drop-cons xs i d)
@@ -38,16 +43,47 @@ module _ {A : Type 0} {b : Bool} (t : A → Bool) (d : A) (xs : List A) (i : ℕ
   unfolding allB both
   all-done h = sym (inv ∙ rw (drop-of-length-le xs h))
 
-module _ (line code : ℕ) (xs : List ℕ) (i : ℕ) where
-  pub last-next : i < length xs → lastCode line code (drop i xs) ≡ lastCode line (pick (lib.Dec.eqb (lineOf (getD xs i 0)) line) (codeOf (getD xs i 0)) code) (drop (i + 1) xs)
-  unfolding lastCode
-  last-next h = rw (rest-step 0 xs i h)
+-- the code's conjunction
+pub and-both : (a b : Bool) → (a && b) ≡ both a b
+unfolding both
+and-both true b = refl
+and-both false b = refl
 
-  pub last-done : length xs ≤ i → lastCode line code (drop i xs) ≡ code
-  unfolding lastCode
-  last-done h = rw (drop-of-length-le xs h)
+both-again : (a b c : Bool) → both a (both b c) ≡ both (a && b) c
+unfolding both
+both-again true b c = refl
+both-again false b c = refl
+
+-- a walk of `allB t` that makes every test: what was found so far and the rest give the answer b
+abbrev pub AllWith : {A : Type 0} → Bool → (A → Bool) → List A → Bool → ℕ → Type 0
+AllWith b t xs good i = b ≡ both good (allB t (drop i xs))
+
+module _ {A : Type 0} {b : Bool} (t : A → Bool) (d : A) (xs : List A) (good : Bool) (i : ℕ) (inv : AllWith b t xs good i) where
+  pub with-next : i < length xs → (g : Bool) → g ≡ t (getD xs i d) → AllWith b t xs (good && g) (i + 1)
+  unfolding allB
+  with-next h g e = inv ∙ rw (rest-step d xs i h, sym e) (both-again good g (allB t (drop (i + 1) xs)))
+
+  pub with-done : length xs ≤ i → good ≡ b
+  unfolding allB both
+  with-done h = sym (inv ∙ rw (drop-of-length-le xs h) (both-end good))
+    where
+      both-end : (a : Bool) → both a true ≡ a
+      both-end true = refl
+      both-end false = refl
 
 pub last-append : (line code : ℕ) (xs ys : List ℕ) → lastCode line code (xs ++ ys) ≡ lastCode line (lastCode line code xs) ys
 unfolding lastCode
 last-append line code [] ys = refl
-last-append line code (x ∷ xs) ys = last-append line (pick (lib.Dec.eqb (lineOf x) line) (codeOf x) code) xs ys
+last-append line code (x ∷ xs) ys = last-append line (pick (eqb (lineOf x) line) (codeOf x) code) xs ys
+
+-- a walk of `lastCode` from the end: the last word is for the line, or the words before it give the code
+module _ (line code : ℕ) (xs : List ℕ) (j : ℕ) (h : j < length xs) where
+  last-of : lastCode line code (take (suc j) xs) ≡ pick (eqb (lineOf (getD xs j 0)) line) (codeOf (getD xs j 0)) (lastCode line code (take j xs))
+  unfolding lastCode
+  last-of = rw (take-suc xs j 0 h) (last-append line code (take j xs) (getD xs j 0 ∷ []))
+
+  pub last-here : lineOf (getD xs j 0) ≡ line → lastCode line code (take (suc j) xs) ≡ codeOf (getD xs j 0)
+  last-here e = last-of ∙ pick-true _ _ _ (eq-eqb _ _ e)
+
+  pub last-before : (lineOf (getD xs j 0) ≡ line → ⊥) → lastCode line code (take (suc j) xs) ≡ lastCode line code (take j xs)
+  last-before e = last-of ∙ pick-false _ _ _ (ne-eqb _ _ e)

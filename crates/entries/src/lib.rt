@@ -1,8 +1,9 @@
 // Entries as 32-bit words: packing, the test of a word, and walks over a slice of words.
 ghost use mathlib.Core.Path.{_≡_};
-ghost use lib.Dec.{eqb};
+ghost use Prim.Native.Nat.{ℕ};
+ghost use lib.Dec.{eqb, leb};
 ghost use Rattle.protocol.specs.Tests.{allB, pick};
-ghost use Rattle.protocol.specs.Entry.{value, isEntry, lineOf, codeOf};
+ghost use Rattle.protocol.specs.Entry.{value, isEntry};
 ghost use Rattle.protocol.specs.Frames.{lastCode};
 
 // The value of the entry (office, line, code).
@@ -12,62 +13,64 @@ pub fn pack(office: u8, line: u8, code: u16) -> u32
     (office as u32) * 16777216 + (line as u32) * 65536 + (code as u32)
 }
 
+// n where it is below 256, else 256: a word has 8 bits for its office.
+fn offices(n: usize) -> u32
+    ensures { λ r. ⌜ r ≡ pick (leb n 256) n 256 ⌝ }
+{
+    if n > 256 {
+        return 256;
+    }
+    n as u32
+}
+
+// Whether a word is the value of an entry for n offices, any n that `offices` stands for. No branch, so that a loop of it runs on vectors.
+fn tests(word: u32, most: u32) -> bool
+    ensures { λ r. ⌜ ((n : ℕ) → most ≡ pick (leb n 256) n 256 → r ≡ isEntry n word) ⌝ }
+{
+    (word / 16777216 < most) & ((word / 65536 % 256 <= 63) & (word % 65536 <= 9999))
+}
+
 // Whether a word is the value of an entry for n offices.
 pub fn is_entry(word: u32, n: usize) -> bool
     ensures { λ r. ⌜ r ≡ isEntry n word ⌝ }
 {
-    let office = word / 16777216;
-    if office as usize >= n {
-        return false;
-    }
-    if word / 65536 % 256 > 63 {
-        return false;
-    }
-    word % 65536 <= 9999
+    tests(word, offices(n))
 }
 
 // Whether every word is the value of an entry for n offices.
 pub fn all_entries(words: &[u32], n: usize) -> bool
     ensures { λ r. ⌜ r ≡ allB (isEntry n) (now (words .entry)) ⌝ }
 {
+    let most = offices(n);
+    let mut good = true;
     for i in 0..words.len() {
-        if !is_entry(words[i], n) {
-            return false;
-        }
+        good = good & tests(words[i], most);
     }
-    true
+    good
 }
 
 // Whether every word is zero.
 pub fn all_zero(words: &[u32]) -> bool
     ensures { λ r. ⌜ r ≡ allB (eqb 0) (now (words .entry)) ⌝ }
 {
+    let mut good = true;
     for i in 0..words.len() {
-        if words[i] != 0 {
-            return false;
-        }
+        good = good & (0 == words[i]);
     }
-    true
+    good
 }
 
-// The word's code where it is an entry for the line, else the code given.
-fn newer(word: u32, line: u32, code: u32) -> u32
-    ensures { λ r. ⌜ r ≡ pick (eqb (lineOf word) line) (codeOf word) code ⌝ }
-{
-    if word / 65536 % 256 == line {
-        word % 65536
-    } else {
-        code
-    }
-}
-
-// The code of the last entry for the line, or the code given where there is none.
+// The code of the last entry for the line, or the code given where there is none. The newest entry is the likeliest, so the walk is from the end.
 pub fn last_code(words: &[u32], line: u32, code: u32) -> u32
     ensures { λ r. ⌜ r ≡ lastCode line code (now (words .entry)) ⌝ }
 {
-    let mut found = code;
-    for i in 0..words.len() {
-        found = newer(words[i], line, found);
+    let mut end = words.len();
+    while end > 0 {
+        let word = words[end - 1];
+        if word / 65536 % 256 == line {
+            return word % 65536;
+        }
+        end = end - 1;
     }
-    found
+    code
 }
