@@ -35,7 +35,7 @@ use Rattle.intake.specs.declared.Merged.{Merged}
 use Rattle.reader.proofs.Answers.{read-some, read-none, rest-of-message}
 use Rattle.frame.specs.State.{heldBy, holding, wordsWith}
 use Rattle.frame.specs.Soundness.{soundB, Sound}
-use Rattle.frame.specs.Taking.{sameOffices, refuseContent, onReading, takeNumber, takenOffice, takeOf, takeWords}
+use Rattle.frame.specs.Taking.{sameOffices, refuseContent, onReading, takeNumber, takenOffice, takeOf, takeWords, refusedWith}
 use Rattle.frame.specs.declared.Record.{Record}
 use Rattle.frame.specs.declared.taking.Taken.{Taken}
 use Rattle.frame.proofs.Sound.{sound, sound-true}
@@ -44,7 +44,7 @@ use Rattle.frame.proofs.Sound.{sound, sound-true}
 abbrev pub Takes : Record → List ℕ → List ℕ → Taken → List ℕ → Type 0
 Takes r words s answer words' = (answer ≡ takeOf r words s) × (words' ≡ takeWords r words s)
 
-pub take-refused : (r : Record) (words s : List ℕ) (x : ℕ) → takeNumber r words s ≡ x → (x ≡ 0 → ⊥) → Takes r words s (record { number = x; «record» = r }) words
+pub take-refused : (r : Record) (words s : List ℕ) (x : ℕ) → takeNumber r words s ≡ x → (x ≡ 0 → ⊥) → Takes r words s (refusedWith x r) words
 unfolding takeOf takeWords pick
 take-refused r words s x e n = let d = ne-eqb x 0 n in (simp (e, d), simp (e, d))
 

@@ -43,6 +43,10 @@ takeOf r words s = record {
   «record» = pick (eqb (takeNumber r words s) 0) (holding r (takenOffice r words s)) r;
 }
 
+-- the answer of a refused call: the record as it was
+abbrev pub refusedWith : ℕ → Record → Taken
+refusedWith number r = record { number = number; «record» = r }
+
 -- the log's words after take
 unfoldable pub takeWords : Record → List ℕ → List ℕ → List ℕ
 takeWords r words s = pick (eqb (takeNumber r words s) 0) (wordsWith (takenOffice r words s .log) words) words

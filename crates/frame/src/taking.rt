@@ -3,7 +3,7 @@ ghost use mathlib.Core.Path.{_≡_};
 ghost use Rattle.spelling.specs.Reading.{reading};
 ghost use Rattle.reader.specs.Read.{readingOf};
 ghost use Rattle.frame.specs.Soundness.{Sound};
-ghost use Rattle.frame.specs.Taking.{takeNumber, takeOf, takeWords};
+ghost use Rattle.frame.specs.Taking.{takeNumber, takeOf, takeWords, refusedWith};
 use crate::Record;
 use reader::Reading;
 
@@ -14,6 +14,16 @@ pub struct Taken {
 }
 
 impl Record {
+    // The answer of a refused call: the record as it was.
+    fn refused(self, number: u32) -> Taken
+        ensures { λ r. ⌜ r ≡ refusedWith number self ⌝ }
+    {
+        Taken {
+            number: number,
+            record: self,
+        }
+    }
+
     // Takes an accepted message: the settled length and the ballots that the message makes of them.
     fn take_accepted(self, log: &mut [u32], msg: &[u8], m: Reading) -> Record
         requires { ⌜ (takeNumber self (now log) (now msg) ≡ 0) × (m ≡ readingOf (reading (now msg))) ⌝ }
@@ -41,34 +51,19 @@ impl Record {
         let theirs = m.weights;
         let head = m.head;
         if !m.ok {
-            return Taken {
-                number: 7,
-                record: self,
-            };
+            return self.refused(7);
         }
         if m.n != self.n {
-            return Taken {
-                number: 8,
-                record: self,
-            };
+            return self.refused(8);
         }
         if !ballots::same_weights(theirs, weights) {
-            return Taken {
-                number: 8,
-                record: self,
-            };
+            return self.refused(8);
         }
         if m.sender == self.own {
-            return Taken {
-                number: 9,
-                record: self,
-            };
+            return self.refused(9);
         }
         if !intake::comparable(&log[..], settled, &msg[head..], m.settled) {
-            return Taken {
-                number: 10,
-                record: self,
-            };
+            return self.refused(10);
         }
         let next = self.take_accepted(log, msg, m);
         Taken {
@@ -82,10 +77,7 @@ impl Record {
         ensures { λ r. ⌜ (r ≡ takeOf self (now (log .entry)) (now (msg .entry))) × (now (log .exit) ≡ takeWords self (now (log .entry)) (now (msg .entry))) ⌝ }
     {
         if !self.sound(&log[..]) {
-            return Taken {
-                number: 1,
-                record: self,
-            };
+            return self.refused(1);
         }
         self.take_sound(log, msg)
     }

@@ -10,7 +10,7 @@ use Rattle.frame.proofs.Record.take.Statement.{statement}
 use Rattle.frame.proofs.Record.take.Tie as tie
 
 returns : tie.Need-returns
-returns c = let a = c .before .before .before .before .before .args in take-refused (a .self) (a .log .now) (a .msg .now) 1 (not-sound (a .self) (a .log .now) (a .msg .now) (sym (c .before .sound .ensures) ∙ not-true _ (c .if1 .taken))) (λ (q : _≡_ {A = ℕ} 1 0). omega arith)
+returns c = let a = c .before .before .before .before .before .before .args in let t = take-refused (a .self) (a .log .now) (a .msg .now) 1 (not-sound (a .self) (a .log .now) (a .msg .now) (sym (c .before .before .sound .ensures) ∙ not-true _ (c .before .if1 .taken))) (λ (q : _≡_ {A = ℕ} 1 0). omega arith) in (c .refused .ensures ∙ t .0, t .1)
 
 take-sound-requires : tie.Need-take-sound-requires
 take-sound-requires c κs = sound _ _ (sym (c .before .before .sound .ensures) ∙ not-false _ (c .before .if1 .left))
@@ -18,4 +18,4 @@ take-sound-requires c κs = sound _ _ (sym (c .before .before .sound .ensures) �
 pub take-spec : {M : Type 1} → statement M
 take-spec =
     tie.close
-    (tie.spec (λ c κs. search needs) (λ c. search needs) returns take-sound-requires (λ c. search needs) (λ c. search needs))
+    (tie.spec (λ c κs. search needs) (λ c κs. search needs) (λ c. search needs) returns take-sound-requires (λ c. search needs) (λ c. search needs))
