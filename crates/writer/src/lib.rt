@@ -14,14 +14,14 @@ ghost use Rattle.spelling.specs.Numbers.{bytes16, bytes32, run};
 ghost use Rattle.spelling.specs.Spelling.{headBytes, logRecord, ballotBytes, ballotsBytes, spelling};
 ghost use Rattle.writer.specs.Written.{tailsOf, contentOf, size, Writable};
 
-// One log record at a position.
+// One log record at a position. The value goes first: its four stores then become one.
 fn put_record(out: &mut [u8], at: usize, value: u32)
     requires { ⌜ at + 6 ≤ length (now out) ⌝ }
     ensures { λ _. ⌜ now (out .exit) ≡ sets (now (out .entry)) at (logRecord value) ⌝ }
 {
+    put32(out, at + 2, value);
     out[at] = 0x4C;
     out[at + 1] = 0x47;
-    put32(out, at + 2, value);
 }
 
 // The first k values of the log, as log records from a position on; the position after them.
