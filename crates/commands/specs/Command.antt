@@ -8,7 +8,9 @@ use lib.Dec.{ltb, leb, eqb}
 use lib.ListN.{length, getD, drop, replicate}
 use Rattle.protocol.specs.Tests.{both, pick}
 use Rattle.commands.specs.declared.Command.{Command}
-use Rattle.commands.specs.declared.Command.the-variants.{Found, Issue, Send, Take, Elect, View, Other}
+use Rattle.commands.specs.declared.Command.the-variants.{Found, Issue, Send, Take, Elect, View}
+use Rattle.commands.specs.declared.Parsed.{Parsed}
+use Rattle.commands.specs.declared.Parsed.the-variants.{Says, Other}
 use Rattle.commands.specs.declared.Line.{Line}
 use Rattle.commands.specs.declared.fields.More.{More}
 use Rattle.commands.specs.Number.{byNumber, numberOf}
@@ -34,33 +36,33 @@ abbrev pub letterV : ℕ
 letterV = 118
 
 -- a letter with one number after it
-unfoldable pub withOne : ℕ → ℕ → Command
-withOne letter k = pick (eqb letter letterE) (Elect k) Other
+unfoldable pub withOne : ℕ → ℕ → Parsed
+withOne letter k = pick (eqb letter letterE) (Says (Elect k)) Other
 
 -- a letter with two numbers after it
-unfoldable pub withTwo : ℕ → ℕ → ℕ → Command
+unfoldable pub withTwo : ℕ → ℕ → ℕ → Parsed
 withTwo letter k x =
-    pick (eqb letter letterS) (Send k x) (pick (eqb letter letterT) (Take k x) (pick (eqb letter letterV) (View k x) Other))
+    pick (eqb letter letterS) (Says (Send k x)) (pick (eqb letter letterT) (Says (Take k x)) (pick (eqb letter letterV) (Says (View k x)) Other))
 
 -- a letter with three numbers after it
-unfoldable pub withThree : ℕ → ℕ → ℕ → ℕ → Command
-withThree letter k x y = pick (eqb letter letterI) (Issue k x y) Other
+unfoldable pub withThree : ℕ → ℕ → ℕ → ℕ → Parsed
+withThree letter k x y = pick (eqb letter letterI) (Says (Issue k x y)) Other
 
 -- a letter with a first number and `count` further ones in the cells
-unfoldable pub commandBy : ℕ → ℕ → ℕ → List ℕ → Command
+unfoldable pub commandBy : ℕ → ℕ → ℕ → List ℕ → Parsed
 commandBy letter first count cells =
-    pick (eqb letter letterF) (Found first)
+    pick (eqb letter letterF) (Says (Found first))
     (pick (eqb count 0) (withOne letter first)
     (pick (eqb count 1) (withTwo letter first (getD cells 0 0))
     (pick (eqb count 2) (withThree letter first (getD cells 0 0) (getD cells 1 0)) Other)))
 
 abbrev pub noLine : Line
-noLine = record { command = Other; weights = replicate 8 0 }
+noLine = record { parsed = Other; weights = replicate 8 0 }
 
 -- the numbers past the first, if all are proper; a founding's are its weights
 unfoldable pub withMore : ℕ → ℕ → More → Line
 withMore letter first more =
-    pick (more .proper) (record { command = commandBy letter first (more .count) (more .cells); weights = more .cells }) noLine
+    pick (more .proper) (record { parsed = commandBy letter first (more .count) (more .cells); weights = more .cells }) noLine
 
 -- a letter, and the fields after it
 unfoldable pub lineBy : ℕ → List (List ℕ) → Line

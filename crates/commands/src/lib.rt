@@ -13,7 +13,7 @@ use lines::part_end;
 use number::Number;
 use number::number_of;
 
-// A command with its numbers. `Other` is "a line of any other form".
+// A command with its numbers.
 pub enum Command {
     // n; its weights stand beside it in `Line`
     Found(usize),
@@ -27,12 +27,17 @@ pub enum Command {
     Elect(usize),
     // office, line
     View(usize, u32),
+}
+
+// A command, or "a line of any other form".
+pub enum Parsed {
+    Says(Command),
     Other,
 }
 
 // What a line says. The weights are those of a founding, "the rest zero"; an enum cannot hold an array.
 pub struct Line {
-    pub command: Command,
+    pub parsed: Parsed,
     pub weights: [u16; 8],
 }
 
@@ -40,9 +45,9 @@ pub struct Line {
 fn no_line() -> Line
     ensures { λ r. ⌜ r ≡ noLine ⌝ }
 {
-    let command = Command::Other;
+    let parsed = Parsed::Other;
     Line {
-        command,
+        parsed,
         weights: [0; 8],
     }
 }
@@ -60,47 +65,47 @@ fn wide(x: u16) -> u32
 }
 
 // The command of a letter with one number.
-fn with_one(letter: u8, k: u16) -> Command
+fn with_one(letter: u8, k: u16) -> Parsed
     ensures { λ r. ⌜ r ≡ withOne letter k ⌝ }
 {
     if letter == b'e' {
-        return Command::Elect(place(k));
+        return Parsed::Says(Command::Elect(place(k)));
     }
-    Command::Other
+    Parsed::Other
 }
 
 // The command of a letter with two numbers.
-fn with_two(letter: u8, k: u16, x: u16) -> Command
+fn with_two(letter: u8, k: u16, x: u16) -> Parsed
     ensures { λ r. ⌜ r ≡ withTwo letter k x ⌝ }
 {
     if letter == b's' {
-        return Command::Send(place(k), place(x));
+        return Parsed::Says(Command::Send(place(k), place(x)));
     }
     if letter == b't' {
-        return Command::Take(place(k), place(x));
+        return Parsed::Says(Command::Take(place(k), place(x)));
     }
     if letter == b'v' {
-        return Command::View(place(k), wide(x));
+        return Parsed::Says(Command::View(place(k), wide(x)));
     }
-    Command::Other
+    Parsed::Other
 }
 
 // The command of a letter with three numbers.
-fn with_three(letter: u8, k: u16, x: u16, y: u16) -> Command
+fn with_three(letter: u8, k: u16, x: u16, y: u16) -> Parsed
     ensures { λ r. ⌜ r ≡ withThree letter k x y ⌝ }
 {
     if letter == b'i' {
-        return Command::Issue(place(k), wide(x), wide(y));
+        return Parsed::Says(Command::Issue(place(k), wide(x), wide(y)));
     }
-    Command::Other
+    Parsed::Other
 }
 
 // The command of a letter, its first number, and the count and values of its further numbers.
-fn command_by(letter: u8, first: u16, count: usize, cells: [u16; 8]) -> Command
+fn command_by(letter: u8, first: u16, count: usize, cells: [u16; 8]) -> Parsed
     ensures { λ r. ⌜ r ≡ commandBy letter first count cells ⌝ }
 {
     if letter == b'f' {
-        return Command::Found(place(first));
+        return Parsed::Says(Command::Found(place(first)));
     }
     if count == 0 {
         return with_one(letter, first);
@@ -111,7 +116,7 @@ fn command_by(letter: u8, first: u16, count: usize, cells: [u16; 8]) -> Command
     if count == 2 {
         return with_three(letter, first, cells[0], cells[1]);
     }
-    Command::Other
+    Parsed::Other
 }
 
 // The line of a letter, its first number and its further numbers.
@@ -122,9 +127,9 @@ fn with_more(letter: u8, first: u16, more: More) -> Line
     if !more.proper {
         return no_line();
     }
-    let command = command_by(letter, first, more.count, cells);
+    let parsed = command_by(letter, first, more.count, cells);
     Line {
-        command,
+        parsed,
         weights: cells,
     }
 }
