@@ -1,3 +1,4 @@
--- Parts between marks, and a line that is held.
+-- Parts between marks, a line that is held, and bytes that come in pieces.
 pub mod Parts
 pub mod Held
+pub mod Feeding

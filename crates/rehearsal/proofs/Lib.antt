@@ -1,0 +1,4 @@
+-- Laws of the rehearsal.
+pub mod Fresh
+pub mod Says
+pub mod Feeds

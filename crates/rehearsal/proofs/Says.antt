@@ -1,0 +1,127 @@
+-- What a line says, put together from what the calls promise.
+--     aim-there      an aim at an office is at one of the eight
+--     say-short      an answer takes at most 65 bytes
+--     say-found, say-turn, say-nothing      a line by its aim
+-- Assumes nothing.
+use mathlib.Core.Path.{_≡_, refl, sym, ap, _∙_}
+use mathlib.Core.Bool.{Bool, true, false}
+use mathlib.Core.List.{List, [], _∷_, _++_}
+use Prim.Native.Nat.{ℕ, _+_, _-_, _*_, _<_, _≤_}
+use native.Mathlib.Omega.{arith}
+use lib.Dec.{ltb, eqb}
+use lib.ListN.{length, getD, set, take, drop}
+use borrow.Author.Tests.{ltb-true}
+use Rattle.protocol.specs.Tests.{pick}
+use Rattle.protocol.proofs.Tests.{pick-cases}
+use Rattle.lines.specs.Feeding.{Said}
+use Rattle.commands.specs.declared.Command.{Command}
+use Rattle.commands.specs.declared.Command.the-variants.{Found, Issue, Send, Take, Elect, View}
+use Rattle.commands.specs.declared.Parsed.{Parsed}
+use Rattle.commands.specs.declared.Parsed.the-variants.{Says, Other}
+use Rattle.commands.specs.declared.Line.{Line}
+use Rattle.commands.specs.Command.{lineOf}
+use Rattle.answers.specs.declared.Answer.{Answer}
+use Rattle.answers.specs.Answer.{printedOf}
+use Rattle.answers.proofs.Printing.{printed-short}
+use Rattle.frame.specs.declared.Record.{Record}
+use Rattle.turns.specs.declared.Turn.{Turn}
+use Rattle.turns.specs.Answers.{question}
+use Rattle.turns.specs.Turns.{issueTurn, sendTurn, electTurn, viewTurn, stays, turnOf, turnWords, turnSlots}
+use Rattle.rehearsal.specs.declared.aims.Aim.{Aim}
+use Rattle.rehearsal.specs.declared.aims.Aim.the-variants.{Everyone, At, Nothing}
+use Rattle.rehearsal.specs.declared.founding.Founding.{Founding}
+use Rattle.rehearsal.specs.World.{World, logOf}
+use Rattle.rehearsal.specs.Founding.{founded}
+use Rattle.rehearsal.specs.Lines.{atOffice, commandAim, aimOf, Answered, foundAnswer, turnAnswer, recordAt, aimed, answerLine, sayLine}
+
+at-there : (offices k′ : ℕ) (c′ : Command) (k : ℕ) (c : Command) → atOffice offices k′ c′ ≡ At k c → k < 8
+unfolding atOffice
+at-there offices k′ c′ k c =
+    pick-cases (λ (a : Aim). a ≡ At k c → k < 8) (ltb k′ offices) (pick (ltb k′ 8) (At k′ c′) Nothing) Nothing
+    (λ t. pick-cases (λ (a : Aim). a ≡ At k c → k < 8) (ltb k′ 8) (At k′ c′) Nothing
+    (λ u e. let z : k′ ≡ k = cc in omega (arith, ltb-true k′ 8 u))
+    (λ u e. let z : _≡_ {A = ℕ} 0 1 = cc in absurd (omega arith)))
+    (λ t e. let z : _≡_ {A = ℕ} 0 1 = cc in absurd (omega arith))
+
+command-there : (offices : ℕ) (c′ : Command) (k : ℕ) (c : Command) → commandAim offices c′ ≡ At k c → k < 8
+unfolding commandAim
+command-there offices (Found n) k c e = let z : _≡_ {A = ℕ} 0 1 = cc in absurd (omega arith)
+command-there offices (Issue k′ line code) k c e = at-there offices k′ (Issue k′ line code) k c e
+command-there offices (Send k′ m) k c e = at-there offices k′ (Send k′ m) k c e
+command-there offices (Take k′ m) k c e = at-there offices k′ (Take k′ m) k c e
+command-there offices (Elect k′) k c e = at-there offices k′ (Elect k′) k c e
+command-there offices (View k′ line) k c e = at-there offices k′ (View k′ line) k c e
+
+pub aim-there : (offices : ℕ) (p : Parsed) (k : ℕ) (c : Command) → aimOf offices p ≡ At k c → k < 8
+unfolding aimOf
+aim-there offices (Says c′) k c e = command-there offices c′ k c e
+aim-there offices Other k c e = let z : _≡_ {A = ℕ} 0 1 = cc in absurd (omega arith)
+
+-- an answer has room for three numbers
+abbrev Three : Answer → Type 0
+Three a = length (a .numbers) ≡ 3
+
+turn-three : (c : Command) (r : Record) (lengths words slots : List ℕ) → Three (turnOf c r lengths words slots .answer)
+unfolding turnOf issueTurn sendTurn electTurn viewTurn
+turn-three (Found n) r lengths words slots = refl
+turn-three (Issue k line code) r lengths words slots = refl
+turn-three (Send k m) r lengths words slots =
+    pick-cases (λ (t : Turn). Three (t .answer)) (ltb m 4) (sendTurn r lengths words slots m) (stays r lengths) (λ e. refl) (λ e. refl)
+turn-three (Take k m) r lengths words slots = refl
+turn-three (Elect k) r lengths words slots = refl
+turn-three (View k line) r lengths words slots = refl
+
+found-three : (n : ℕ) (ws : List ℕ) (offices : ℕ) (records : List Record) (lengths logs : List ℕ) → Three (founded n ws offices records lengths logs .answer)
+unfolding founded
+found-three n ws offices records lengths logs = pick-cases (λ (f : Founding). Three (f .answer)) _ _ _ (λ e. refl) (λ e. refl)
+
+aimed-three : (w : World) (ws : List ℕ) (a : Aim) → Three (aimed w ws a .answer)
+unfolding aimed
+aimed-three w ws (Everyone n) = found-three n ws (w .offices) (w .records) (w .lengths) (w .logs)
+aimed-three w ws (At k c) = turn-three c (recordAt w k) (w .lengths) (logOf (w .logs) k) (w .slots)
+aimed-three w ws Nothing = refl
+
+pub say-short : (w : World) (bytes : List ℕ) → length (sayLine w bytes .printed) ≤ 65
+unfolding sayLine answerLine
+say-short w bytes =
+    let a = aimOf (w .offices) (lineOf bytes .parsed) in
+    printed-short (aimed w (lineOf bytes .weights) a .answer) (aimed-three w (lineOf bytes .weights) a)
+
+-- an office's turn on `size` words of its log
+abbrev pub lentAnswer : World → ℕ → ℕ → Turn → List ℕ → List ℕ → Answered
+lentAnswer w k size t words slots =
+    record {
+      world = record {
+        offices = w .offices;
+        records = set (w .records) k (t .record);
+        lengths = t .lengths;
+        logs = take (k * 1024) (w .logs) ++ (words ++ drop size (drop (k * 1024) (w .logs)));
+        slots = slots;
+      };
+      answer = t .answer;
+    }
+
+-- what was read of a line, and its aim
+module _ (w : World) (bytes held : List ℕ) (line : Line) (a : Aim) (eh : held ≡ bytes) (el : line ≡ lineOf held) (ea : a ≡ aimOf (w .offices) (line .parsed)) where
+  abbrev pub SaysAs : Answered → Type 0
+  SaysAs x = sayLine w bytes ≡ record { world = x .world; printed = printedOf (x .answer) }
+
+  say-as : (x : Answered) → x ≡ aimed w (line .weights) a → SaysAs x
+  unfolding sayLine answerLine
+  say-as x e = rw (e, ea, el, eh)
+
+  pub say-found : (n : ℕ) (f : Founding) → a ≡ Everyone n → f ≡ founded n (line .weights) (w .offices) (w .records) (w .lengths) (w .logs) → SaysAs (foundAnswer w f)
+  unfolding aimed
+  say-found n f e ef = say-as (foundAnswer w f) (rw (ef, e))
+
+  -- the office's log is lent from k * 1024 on for `size` words
+  pub say-turn : (k : ℕ) (c : Command) (size : ℕ) (t : Turn) (words slots : List ℕ) → a ≡ At k c → size ≡ 1024 →
+      t ≡ turnOf c (recordAt w k) (w .lengths) (take size (drop (k * 1024) (w .logs))) (w .slots) →
+      words ≡ turnWords c (recordAt w k) (w .lengths) (take size (drop (k * 1024) (w .logs))) (w .slots) →
+      slots ≡ turnSlots c (recordAt w k) (take size (drop (k * 1024) (w .logs))) (w .slots) → SaysAs (lentAnswer w k size t words slots)
+  unfolding aimed
+  say-turn k c size t words slots e es et ew el = say-as (lentAnswer w k size t words slots) (rw (et, ew, el, es, e))
+
+  pub say-nothing : (x : Answer) → a ≡ Nothing → x ≡ question → SaysAs (record { world = w; answer = x })
+  unfolding aimed
+  say-nothing x e ex = say-as (record { world = w; answer = x }) (rw (ex, e))

@@ -1,0 +1,5 @@
+-- The rehearsal.
+pub mod World
+pub mod Founding
+pub mod Lines
+pub mod Feeding

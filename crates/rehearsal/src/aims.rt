@@ -1,0 +1,49 @@
+// Whom a line is for.
+ghost use mathlib.Core.Path.{_≡_};
+ghost use Rattle.rehearsal.specs.Lines.{atOffice, commandAim, aimOf};
+use commands::Command;
+use commands::Parsed;
+
+pub enum Aim {
+    // a founding of so many offices
+    Everyone(usize),
+    // an office that is there, and its command
+    At(usize, Command),
+    Nothing,
+}
+
+// The office, if it is there.
+fn at_office(offices: usize, k: usize, command: Command) -> Aim
+    ensures { λ r. ⌜ r ≡ atOffice offices k command ⌝ }
+{
+    if k >= offices {
+        return Aim::Nothing;
+    }
+    if k >= 8 {
+        return Aim::Nothing;
+    }
+    Aim::At(k, command)
+}
+
+fn command_aim(offices: usize, command: Command) -> Aim
+    ensures { λ r. ⌜ r ≡ commandAim offices command ⌝ }
+{
+    match command {
+        Command::Found(n) => Aim::Everyone(n),
+        Command::Issue(k, _, _) => at_office(offices, k, command),
+        Command::Send(k, _) => at_office(offices, k, command),
+        Command::Take(k, _) => at_office(offices, k, command),
+        Command::Elect(k) => at_office(offices, k, command),
+        Command::View(k, _) => at_office(offices, k, command),
+    }
+}
+
+// Whom the line is for; a line of any other form is for nobody.
+pub fn aim_of(offices: usize, parsed: Parsed) -> Aim
+    ensures { λ r. ⌜ r ≡ aimOf offices parsed ⌝ }
+{
+    let Parsed::Says(command) = parsed else {
+        return Aim::Nothing;
+    };
+    command_aim(offices, command)
+}

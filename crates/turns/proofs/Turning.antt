@@ -1,0 +1,44 @@
+-- What a call answered, put into a turn: each law takes the call's promise and the answer's. Assumes nothing.
+use mathlib.Core.Path.{_≡_, refl, sym, ap, _∙_}
+use mathlib.Core.List.{List, [], _∷_, _++_}
+use Prim.Native.Nat.{ℕ, _+_, _-_, _*_}
+use native.Mathlib.Omega.{arith}
+use lib.ListN.{take, drop}
+use Rattle.commands.specs.Command.{letterI, letterS, letterT, letterE, letterV}
+use Rattle.answers.specs.declared.Answer.{Answer}
+use Rattle.frame.specs.declared.Record.{Record}
+use Rattle.frame.specs.declared.issuing.Issued.{Issued}
+use Rattle.frame.specs.declared.sending.Sent.{Sent}
+use Rattle.frame.specs.declared.electing.Elected.{Elected}
+use Rattle.frame.specs.declared.frames.Framed.{Framed}
+use Rattle.frame.specs.Issuing.{issueOf}
+use Rattle.frame.specs.Sending.{sendOf, sendBytes}
+use Rattle.frame.specs.Electing.{electOf}
+use Rattle.frame.specs.Frames.{settledFrameOf, tentativeFrameOf}
+use Rattle.turns.specs.declared.Turn.{Turn}
+use Rattle.turns.specs.Pieces.{pieceOf, withPiece, slotOf}
+use Rattle.turns.specs.Answers.{saysOne, saysTwo, saysThree}
+use Rattle.turns.specs.Turns.{issueTurn, sentLengths, sendTurn, sendSlots, electTurn, viewTurn}
+
+module _ (r : Record) (lengths words : List ℕ) (a : Answer) where
+  pub issued-turn : (line code : ℕ) (i : Issued) → i ≡ issueOf r words line code → a ≡ saysOne letterI (i .number) → _≡_ {A = Turn} (record { «record» = i .record; lengths = lengths; answer = a }) (issueTurn r lengths words line code)
+  unfolding issueTurn
+  issued-turn line code i ei ea = rw (ea, ei)
+
+  pub elected-turn : (e : Elected) → e ≡ electOf r words → a ≡ saysTwo letterE (e .number) (e .count) → _≡_ {A = Turn} (record { «record» = e .record; lengths = lengths; answer = a }) (electTurn r lengths words)
+  unfolding electTurn
+  elected-turn e ee ea = rw (ea, ee)
+
+  pub viewed-turn : (line : ℕ) (s t : Framed) → s ≡ settledFrameOf r words line → t ≡ tentativeFrameOf r words line → a ≡ saysThree letterV (s .number) (s .code) (t .code) → _≡_ {A = Turn} (record { «record» = r; lengths = lengths; answer = a }) (viewTurn r lengths words line)
+  unfolding viewTurn
+  viewed-turn line s t es et ea = rw (ea, es, et)
+
+  -- the slot is lent from `from` on for `size` bytes
+  module _ (slots : List ℕ) (m size : ℕ) (whole : size ≡ 7032) where
+    pub sent-turn : (next : List ℕ) (s : Sent) → s ≡ sendOf r words (take size (drop (m * 7032) slots)) → next ≡ sentLengths lengths m (s .number) (s .length) → a ≡ saysTwo letterS (s .number) (s .length) → _≡_ {A = Turn} (record { «record» = r; lengths = next; answer = a }) (sendTurn r lengths words slots m)
+    unfolding sendTurn
+    sent-turn next s es en ea = rw (en, ea, es, whole)
+
+    pub sent-slots : (bytes : List ℕ) → bytes ≡ sendBytes r words (take size (drop (m * 7032) slots)) → take (m * 7032) slots ++ (bytes ++ drop size (drop (m * 7032) slots)) ≡ sendSlots r words slots m
+    unfolding sendSlots
+    sent-slots bytes eb = rw (eb, whole)
