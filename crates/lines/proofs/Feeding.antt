@@ -1,6 +1,7 @@
 -- Feeding by bytes, by lines and in pieces.
 --     feed-append      two pieces are fed as their bytes together
 --     feed-line, feed-rest      a whole line at the front; no whole line
+--     finish-none, finish-line      the end of the input
 --     FeedRest, feed-begins, feed-next, feed-ends      the loop over the lines: what is left, fed from here on, gives what all gives
 -- Assumes nothing.
 use mathlib.Core.Path.{_≡_, refl, sym, ap, _∙_}
@@ -12,7 +13,7 @@ use native.Mathlib.Omega.{arith}
 use lib.Dec.{eqb, leb·suc-suc}
 use lib.ListN.{length, getD, take, drop, length-append, length-take, length-drop}
 use lib.Seq.{sets, length-sets, take-all, drop-drop, drop-cons, take-append-le}
-use borrow.Author.Tests.{lt-ltb, le-ltb}
+use borrow.Author.Tests.{eq-eqb, ne-eqb}
 use Rattle.protocol.specs.Tests.{pick}
 use Rattle.spelling.proofs.Numbers.{sets-append}
 use Rattle.lines.specs.Parts.{partLength}
@@ -133,3 +134,12 @@ module _ {W : Type 0} (say : W → List ℕ → Said W) where
           printed = omega (arith, ap (λ (f : Fed W). length (f .printed)) x, inv .place);
           output = sym (ap (λ (f : Fed W). sets out printed (f .printed)) x) ∙ inv .bytes;
         }
+
+  -- the end of the input, with nothing held and with a line
+  pub finish-none : (w : W) (held out : List ℕ) → length held ≡ 0 → FedAs (finishBy say w held) out w held out 0
+  unfolding finishBy feedBy pick
+  finish-none w held out e = rw (eq-eqb (length held) 0 e) (record { world = refl; line = refl; printed = refl; output = refl })
+
+  pub finish-line : (w : W) (held : List ℕ) → (length held ≡ 0 → ⊥) → feedBy say w held (10 ∷ []) ≡ finishBy say w held
+  unfolding finishBy pick
+  finish-line w held e = rw (ne-eqb (length held) 0 e)

@@ -26,7 +26,7 @@ use Rattle.answers.proofs.Printing.{printed-short}
 use Rattle.frame.specs.declared.Record.{Record}
 use Rattle.turns.specs.declared.Turn.{Turn}
 use Rattle.turns.specs.Answers.{question}
-use Rattle.turns.specs.Turns.{issueTurn, sendTurn, electTurn, viewTurn, stays, turnOf, turnWords, turnSlots}
+use Rattle.turns.specs.Turns.{issueTurn, sendTurn, takeTurn, electTurn, viewTurn, stays, turnOf, turnWords, turnSlots}
 use Rattle.rehearsal.specs.declared.aims.Aim.{Aim}
 use Rattle.rehearsal.specs.declared.aims.Aim.the-variants.{Everyone, At, Nothing}
 use Rattle.rehearsal.specs.declared.founding.Founding.{Founding}
@@ -62,12 +62,13 @@ abbrev Three : Answer → Type 0
 Three a = length (a .numbers) ≡ 3
 
 turn-three : (c : Command) (r : Record) (lengths words slots : List ℕ) → Three (turnOf c r lengths words slots .answer)
-unfolding turnOf issueTurn sendTurn electTurn viewTurn
+unfolding turnOf issueTurn sendTurn takeTurn electTurn viewTurn
 turn-three (Found n) r lengths words slots = refl
 turn-three (Issue k line code) r lengths words slots = refl
 turn-three (Send k m) r lengths words slots =
     pick-cases (λ (t : Turn). Three (t .answer)) (ltb m 4) (sendTurn r lengths words slots m) (stays r lengths) (λ e. refl) (λ e. refl)
-turn-three (Take k m) r lengths words slots = refl
+turn-three (Take k m) r lengths words slots =
+    pick-cases (λ (t : Turn). Three (t .answer)) (ltb m 4) (takeTurn r lengths words slots m) (stays r lengths) (λ e. refl) (λ e. refl)
 turn-three (Elect k) r lengths words slots = refl
 turn-three (View k line) r lengths words slots = refl
 

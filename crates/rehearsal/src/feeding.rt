@@ -1,19 +1,21 @@
 // Feeding the rehearsal with input.
 ghost use mathlib.Core.Path.{_≡_};
 ghost use Prim.Native.Nat.{_*_, _≤_};
-ghost use lib.ListN.{length};
+ghost use lib.ListN.{length, take};
 ghost use Rattle.lines.specs.Held.{lineHeld};
 ghost use Rattle.lines.specs.Feeding.{FedAs};
 ghost use Rattle.commands.specs.Command.{lineOf};
 ghost use Rattle.rehearsal.specs.Lines.{feedOf, finishOf};
-ghost use Rattle.rehearsal.specs.Feeding.{worldOf};
+ghost use Rattle.rehearsal.specs.Feeding.{worldOf, atFirst};
 use crate::Rehearsal;
 use crate::aims::Aim;
 use crate::aims::aim_of;
 use crate::founding::found;
 use answers::print;
+use ballots::Ballot;
 use commands::Line;
 use commands::line_of;
+use frame::Record;
 use lines::Held;
 use lines::part_end;
 use lines::within;
@@ -36,15 +38,10 @@ fn line_held(held: Held) -> Line
 }
 
 // Answers each whole line, and holds what is left. Each byte of the chunk has room for an answer.
-pub fn feed_all(
-    r: Rehearsal,
-    logs: &mut [u32],
-    slots: &mut [u8],
-    chunk: &[u8],
-    out: &mut [u8],
-) -> Fed
+fn feed_all(r: Rehearsal, logs: &mut [u32], slots: &mut [u8], chunk: &[u8], out: &mut [u8]) -> Fed
     requires { ⌜ (length (now logs) ≡ 8192) × (length (now slots) ≡ 28128) × (65 * length (now chunk) ≤ length (now out)) ⌝ }
     ensures { λ f. ⌜ FedAs (feedOf (worldOf r (now (logs .entry)) (now (slots .entry))) (lineHeld (r .held)) (now (chunk .entry))) (now (out .entry)) (worldOf (f .rehearsal) (now (logs .exit)) (now (slots .exit))) (lineHeld (f .rehearsal .held)) (now (out .exit)) (f .printed) ⌝ }
+    ensures { λ f. ⌜ f .printed ≤ 65 * length (now (chunk .entry)) ⌝ }
 {
     let mut offices = r.offices;
     let mut records = r.records;
@@ -97,5 +94,67 @@ pub fn feed_all(
                 printed = print(out, printed, answer);
             }
         }
+    }
+}
+
+impl Rehearsal {
+    // No office, empty slots, no line.
+    pub fn new() -> Rehearsal
+        ensures { λ r. ⌜ r ≡ atFirst ⌝ }
+    {
+        let none = Ballot::none();
+        let zero = Record {
+            n: 0,
+            own: 0,
+            weights: [0; 8],
+            settled: 0,
+            ballots: [none; 8],
+        };
+        let held = Held::none();
+        Rehearsal {
+            offices: 0,
+            records: [zero; 8],
+            lengths: [0; 4],
+            held,
+        }
+    }
+
+    // Feeds the first `used` bytes of the chunk: answers each line that ends there, and holds what is left of the last one.
+    // The eight logs and the four slots are lent; what is printed stands at the output's front.
+    pub fn feed(
+        self,
+        logs: &mut [u32; 8192],
+        slots: &mut [u8; 28128],
+        chunk: &[u8; 8192],
+        used: usize,
+        out: &mut [u8; 532480],
+    ) -> Fed
+        ensures { λ f. ⌜ FedAs (feedOf (worldOf self (now (logs .entry)) (now (slots .entry))) (lineHeld (self .held)) (take used (now (chunk .entry)))) (now (out .entry)) (worldOf (f .rehearsal) (now (logs .exit)) (now (slots .exit))) (lineHeld (f .rehearsal .held)) (now (out .exit)) (f .printed) ⌝ }
+        ensures { λ f. ⌜ f .printed ≤ 532480 ⌝ }
+    {
+        let bytes: &[u8] = chunk;
+        let size = within(used, 8192);
+        feed_all(self, logs, slots, &bytes[..size], out)
+    }
+
+    // The end of the input: a line that is held lacks its newline, and is answered.
+    pub fn finish(
+        self,
+        logs: &mut [u32; 8192],
+        slots: &mut [u8; 28128],
+        out: &mut [u8; 532480],
+    ) -> Fed
+        ensures { λ f. ⌜ FedAs (finishOf (worldOf self (now (logs .entry)) (now (slots .entry))) (lineHeld (self .held))) (now (out .entry)) (worldOf (f .rehearsal) (now (logs .exit)) (now (slots .exit))) (lineHeld (f .rehearsal .held)) (now (out .exit)) (f .printed) ⌝ }
+        ensures { λ f. ⌜ f .printed ≤ 532480 ⌝ }
+    {
+        let held = self.held;
+        if held.length == 0 {
+            return Fed {
+                rehearsal: self,
+                printed: 0,
+            };
+        }
+        let newline = [b'\n'];
+        feed_all(self, logs, slots, &newline, out)
     }
 }

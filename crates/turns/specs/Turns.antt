@@ -10,6 +10,7 @@ use Rattle.commands.specs.Command.{letterI, letterS, letterT, letterE, letterV}
 use Rattle.frame.specs.declared.Record.{Record}
 use Rattle.frame.specs.Issuing.{issueOf}
 use Rattle.frame.specs.Sending.{sendOf, sendBytes}
+use Rattle.frame.specs.Taking.{takeOf, takeWords}
 use Rattle.frame.specs.Electing.{electOf, electWords}
 use Rattle.frame.specs.Frames.{settledFrameOf, tentativeFrameOf}
 use Rattle.turns.specs.declared.Turn.{Turn}
@@ -40,6 +41,18 @@ sendTurn r lengths words slots m =
 unfoldable pub sendSlots : Record → List ℕ → List ℕ → ℕ → List ℕ
 sendSlots r words slots m = withPiece 7032 slots m (sendBytes r words (slotOf slots m))
 
+-- `t k m`; "an empty slot is a message of no bytes"
+unfoldable pub takeTurn : Record → List ℕ → List ℕ → List ℕ → ℕ → Turn
+takeTurn r lengths words slots m =
+    record {
+      «record» = takeOf r words (messageIn slots lengths m) .record;
+      lengths = lengths;
+      answer = saysOne letterT (takeOf r words (messageIn slots lengths m) .number);
+    }
+
+unfoldable pub takeTurnWords : Record → List ℕ → List ℕ → List ℕ → ℕ → List ℕ
+takeTurnWords r lengths words slots m = takeWords r words (messageIn slots lengths m)
+
 -- `e k`
 unfoldable pub electTurn : Record → List ℕ → List ℕ → Turn
 electTurn r lengths words =
@@ -59,7 +72,7 @@ unfoldable pub turnOf : Command → Record → List ℕ → List ℕ → List �
 turnOf (Found n) r lengths words slots = stays r lengths
 turnOf (Issue k line code) r lengths words slots = issueTurn r lengths words line code
 turnOf (Send k m) r lengths words slots = pick (ltb m 4) (sendTurn r lengths words slots m) (stays r lengths)
-turnOf (Take k m) r lengths words slots = stays r lengths
+turnOf (Take k m) r lengths words slots = pick (ltb m 4) (takeTurn r lengths words slots m) (stays r lengths)
 turnOf (Elect k) r lengths words slots = electTurn r lengths words
 turnOf (View k line) r lengths words slots = viewTurn r lengths words line
 
@@ -68,7 +81,7 @@ unfoldable pub turnWords : Command → Record → List ℕ → List ℕ → List
 turnWords (Found n) r lengths words slots = words
 turnWords (Issue k line code) r lengths words slots = words
 turnWords (Send k m) r lengths words slots = words
-turnWords (Take k m) r lengths words slots = words
+turnWords (Take k m) r lengths words slots = pick (ltb m 4) (takeTurnWords r lengths words slots m) words
 turnWords (Elect k) r lengths words slots = electWords r words
 turnWords (View k line) r lengths words slots = words
 

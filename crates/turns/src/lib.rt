@@ -7,10 +7,11 @@ ghost use Rattle.frame.specs.Electing.{electWords};
 ghost use lib.ListN.{length, set};
 ghost use Rattle.protocol.specs.Tests.{pick};
 ghost use Rattle.turns.specs.Answers.{saysOne, saysTwo, saysThree, question};
-ghost use Rattle.turns.specs.Turns.{stays, issueTurn, sentLengths, sendTurn, sendSlots, electTurn, viewTurn, turnOf, turnWords, turnSlots};
+ghost use Rattle.turns.specs.Turns.{stays, issueTurn, sentLengths, sendTurn, sendSlots, takeTurn, takeTurnWords, electTurn, viewTurn, turnOf, turnWords, turnSlots};
 use answers::Answer;
 use commands::Command;
 use frame::Record;
+use lines::within;
 
 // The record and the lengths of the slots' messages after the turn, and the answer.
 pub struct Turn {
@@ -131,6 +132,30 @@ pub fn send_turn(
     }
 }
 
+// `t k m` takes the message of a slot that is there.
+pub fn take_turn(
+    record: Record,
+    lengths: [usize; 4],
+    log: &mut [u32],
+    slots: &[u8],
+    m: usize,
+) -> Turn
+    requires { ⌜ (m < 4) × (length (now slots) ≡ 28128) ⌝ }
+    ensures { λ r. ⌜ (r ≡ takeTurn «record» lengths (now (log .entry)) (now (slots .entry)) m) × (now (log .exit) ≡ takeTurnWords «record» lengths (now (log .entry)) (now (slots .entry)) m) ⌝ }
+{
+    let from = m * 7032;
+    let size = within(lengths[m], 7032);
+    let to = from + size;
+    let taken = record.take(log, &slots[from..to]);
+    let next = taken.record;
+    let answer = says_one(b't', taken.number);
+    Turn {
+        record: next,
+        lengths,
+        answer,
+    }
+}
+
 // `e k` elects at the office.
 pub fn elect_turn(record: Record, lengths: [usize; 4], log: &mut [u32]) -> Turn
     ensures { λ r. ⌜ (r ≡ electTurn «record» lengths (now (log .entry))) × (now (log .exit) ≡ electWords «record» (now (log .entry))) ⌝ }
@@ -181,7 +206,12 @@ pub fn turn_at(
             }
             send_turn(record, lengths, log, slots, m)
         }
-        Command::Take(_, _) => stay(record, lengths),
+        Command::Take(_, m) => {
+            if m >= 4 {
+                return stay(record, lengths);
+            }
+            take_turn(record, lengths, log, slots, m)
+        }
         Command::Elect(_) => elect_turn(record, lengths, log),
         Command::View(_, line) => view_turn(record, lengths, log, line),
     }

@@ -6,49 +6,7 @@ use Prim.Native.Nat.{_+_, _-_, _*_}
 use borrow.Author.Needs.{needs}
 use Rattle.turns.proofs.send_turn.Statement.{statement}
 use Rattle.turns.proofs.send_turn.Tie as tie
-use Rattle.turns.proofs.send_turn.Reads as reads
-use Rattle.turns.proofs.send_turn.Lts as lts
-use Rattle.frame.proofs.Record.send.Reads as send-reads
-use Rattle.turns.proofs.says_two.Reads as says-two-reads
-use Rattle.turns.proofs.sent_lengths.Reads as sent-lengths-reads
 
--- src/lib.rt:121:16
-mul-from : tie.Need-mul-from
-mul-from c = search needs
-
--- src/lib.rt:122:14
-add-to : tie.Need-add-to
-add-to c = search needs
-
--- src/lib.rt:123:33
-sub-send : tie.Need-sub-send
-sub-send c = search needs
-
--- src/lib.rt:123:33
-part-send-start : tie.Need-part-send-start
-part-send-start c = search needs
-
--- src/lib.rt:123:33
-part-send-end : tie.Need-part-send-end
-part-send-end c = search needs
-
--- src/lib.rt:123:9
-send-requires : tie.Need-send-requires
-send-requires c κs = search needs
-
--- src/lib.rt:124:9
-sent-lengths-requires : tie.Need-sent-lengths-requires
-sent-lengths-requires c κs = search needs
-
--- src/lib.rt:125:9
-says-two-requires : tie.Need-says-two-requires
-says-two-requires c κs = search needs
-
--- src/lib.rt:111:1
-same-length : tie.Need-same-length
-same-length c = search needs
-
--- src/lib.rt:111:1
 returns : tie.Need-returns
 returns c =
     let a = c .before .before .before .before .before .before .before .before .args in
@@ -62,13 +20,13 @@ pub send-turn-spec : {M : Type 1} → statement M
 send-turn-spec =
     tie.close
     (tie.spec
-    mul-from
-    add-to
-    sub-send
-    part-send-start
-    part-send-end
-    send-requires
-    sent-lengths-requires
-    says-two-requires
-    same-length
+    (λ c. search needs)
+    (λ c. search needs)
+    (λ c. search needs)
+    (λ c. search needs)
+    (λ c. search needs)
+    (λ c κs. search needs)
+    (λ c κs. search needs)
+    (λ c κs. search needs)
+    (λ c. search needs)
     returns)

@@ -4,20 +4,15 @@ use Rattle.protocol.specs.Tests.{pick}
 use Rattle.rehearsal.specs.Lines.{atOffice}
 use Rattle.rehearsal.proofs.aims.at_office.Statement.{statement}
 use Rattle.rehearsal.proofs.aims.at_office.Tie as tie
-use Rattle.rehearsal.proofs.aims.at_office.Reads as reads
-use Rattle.rehearsal.proofs.aims.at_office.Lts as lts
 
--- src/aims.rt:20:9
 returns : tie.Need-returns
 unfolding atOffice pick
 returns c = let a = c .before .args in rw (le-ltb (a .k) (a .offices) (c .if1 .taken))
 
--- src/aims.rt:23:9
 returns-2 : tie.Need-returns-2
 unfolding atOffice pick
 returns-2 c = let a = c .before .before .args in rw (lt-ltb (a .k) (a .offices) (c .before .if1 .left), le-ltb (a .k) 8 (c .if2 .taken))
 
--- src/aims.rt:16:1
 returns-3 : tie.Need-returns-3
 unfolding atOffice pick
 returns-3 c = let a = c .before .before .args in rw (lt-ltb (a .k) (a .offices) (c .before .if1 .left), lt-ltb (a .k) 8 (c .if2 .left))

@@ -10,28 +10,13 @@ use Rattle.commands.specs.Command.{lineOf}
 use borrow.Author.Needs.{needs}
 use Rattle.rehearsal.proofs.feeding.line_held.Statement.{statement}
 use Rattle.rehearsal.proofs.feeding.line_held.Tie as tie
-use Rattle.rehearsal.proofs.feeding.line_held.Reads as reads
-use Rattle.rehearsal.proofs.feeding.line_held.Lts as lts
-use Rattle.commands.proofs.line_of.Reads as line-of-reads
-use Rattle.lines.proofs.within.Reads as within-reads
 
--- src/feeding.rt:34:9
-within-requires : tie.Need-within-requires
-within-requires c κs = search needs
-
--- src/feeding.rt:35:13
 array-share-prefix-bytes : tie.Need-array-share-prefix-bytes
 array-share-prefix-bytes c = let h : length (c .before .before .args .held .bytes) ≡ 129 = search needs in rw (c .within .ensures, h) (min-le-right (c .before .before .args .held .length) 129)
 
--- src/feeding.rt:35:13
 slice-aggregate-line-of : tie.Need-slice-aggregate-line-of
 slice-aggregate-line-of c = let h : length (c .before .before .before .args .held .bytes) ≡ 129 = search needs in sym (length-take-le (c .before .within .result) (c .before .before .before .args .held .bytes) (rw (c .before .within .ensures, h) (min-le-right (c .before .before .before .args .held .length) 129)))
 
--- src/feeding.rt:35:5
-line-of-requires : tie.Need-line-of-requires
-line-of-requires c κs = search needs
-
--- src/feeding.rt:30:1
 returns : tie.Need-returns
 returns c = let a = c .before .before .before .before .args .held in let h : length (a .bytes) ≡ 129 = search needs in c .line-of .ensures ∙ ap lineOf (ap (λ (k : ℕ). take k (a .bytes)) (c .before .before .within .ensures) ∙ take-within (a .length) 129 (a .bytes) h)
 
@@ -39,8 +24,8 @@ pub line-held-spec : {M : Type 1} → statement M
 line-held-spec =
     tie.close
     (tie.spec
-    within-requires
+    (λ c κs. search needs)
     array-share-prefix-bytes
     slice-aggregate-line-of
-    line-of-requires
+    (λ c κs. search needs)
     returns)

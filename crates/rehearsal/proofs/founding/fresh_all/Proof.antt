@@ -8,9 +8,6 @@ use Rattle.protocol.proofs.Tests.{length-mapped}
 use Rattle.rehearsal.proofs.Fresh.{freshTo, fresh-next, fresh-ends}
 use Rattle.rehearsal.proofs.founding.fresh_all.Statement.{statement}
 use Rattle.rehearsal.proofs.founding.fresh_all.Tie as tie
-use Rattle.rehearsal.proofs.founding.fresh_all.Reads as reads
-use Rattle.rehearsal.proofs.founding.fresh_all.Lts as lts
-use Rattle.rehearsal.proofs.founding.fresh_at.Reads as fresh-at-reads
 
 abbrev Inv-loop : tie.InvT-loop
 Inv-loop n weights logs fresh₀ k₀ fresh k = (k ≤ 8) × (length fresh₀ ≡ 8) × (fresh ≡ freshTo n weights logs fresh₀ k)
@@ -18,38 +15,18 @@ Inv-loop n weights logs fresh₀ k₀ fresh k = (k ≤ 8) × (length fresh₀ �
 abbrev μ-loop : tie.MeasureT-loop
 μ-loop n weights logs fresh₀ k₀ fresh k = 8 - k
 
--- src/founding.rt:35:5
 loop-holds : tie.Need-loop-holds Inv-loop μ-loop
 loop-holds c = (search needs, search (needs, length-mapped), refl)
 
--- src/founding.rt:36:13
 fresh-at-requires : tie.Need-fresh-at-requires Inv-loop μ-loop
 fresh-at-requires c κs = (omega arith, c .before .before .before .pre)
 
--- src/founding.rt:37:9
-mul-fresh : tie.Need-mul-fresh Inv-loop μ-loop
-mul-fresh c = search needs
-
--- src/founding.rt:37:9
-array-set-from-fresh : tie.Need-array-set-from-fresh Inv-loop μ-loop
-array-set-from-fresh c = search needs
-
--- src/founding.rt:35:9
-add-k : tie.Need-add-k Inv-loop μ-loop
-add-k c = search needs
-
--- src/founding.rt:35:5
-loop-less : tie.Need-loop-less Inv-loop μ-loop
-loop-less c = search needs
-
--- src/founding.rt:35:5
 loop-again : tie.Need-loop-again Inv-loop μ-loop
 loop-again c =
     let a = c .before .before .before .before .args in
     let l = c .before .before .loop in
     (omega arith, l .inv .1, ap (λ s. set s (l .k) (c .fresh-at .result)) (l .inv .2) ∙ fresh-next (a .n) (a .weights) (a .logs .now) (a .records) (l .inv .1) (l .k) (c .fresh-at .result) (omega arith) (c .fresh-at .ensures))
 
--- src/founding.rt:30:1
 returns : tie.Need-returns Inv-loop μ-loop
 returns c = let a = c .before .before .before .args in let l = c .before .loop in l .inv .2 ∙ fresh-ends (a .n) (a .weights) (a .logs .now) (a .records) (l .inv .1) (l .k) (omega arith)
 
@@ -61,9 +38,9 @@ fresh-all-spec =
     μ-loop
     loop-holds
     fresh-at-requires
-    mul-fresh
-    array-set-from-fresh
-    add-k
-    loop-less
+    (λ c. search needs)
+    (λ c. search needs)
+    (λ c. search needs)
+    (λ c. search needs)
     loop-again
     returns)

@@ -1,0 +1,44 @@
+-- What is fed are the chunk's first bytes, as many as there are of those that are used.
+use borrow.Author.Needs.{needs}
+use mathlib.Core.Path.{_≡_, sym, ap, _∙_}
+use mathlib.Core.List.{List}
+use native.Mathlib.Omega.{arith}
+use native.Mathlib.Nat.{min-le-right}
+use Prim.Native.Nat.{ℕ, _*_, _≤_}
+use lib.ListN.{length, take, length-take}
+use lib.Seq.{length-take-le}
+use Rattle.lines.proofs.Holding.{take-within}
+use borrow.Author.Needs.{needs}
+use Rattle.rehearsal.proofs.Rehearsal.feed.Statement.{statement}
+use Rattle.rehearsal.proofs.Rehearsal.feed.Tie as tie
+
+slice-aggregate-feed-all : tie.Need-slice-aggregate-feed-all
+slice-aggregate-feed-all c =
+    let a = c .before .before .before .before .before .args in
+    let h : length (a .chunk .now) ≡ 8192 = search needs in
+    let size = c .before .before .before .within .result in
+    let s : size ≤ 8192 = rw (c .before .before .before .within .ensures) (min-le-right (a .used) 8192) in
+    sym (length-take-le size (a .chunk .now) (omega arith))
+
+feed-all-requires : tie.Need-feed-all-requires
+feed-all-requires c κs =
+    let a = c .before .before .before .before .before .before .args in
+    let h : length (a .chunk .now) ≡ 8192 = search needs in
+    let size = c .before .before .before .before .within .result in
+    let s : size ≤ 8192 = rw (c .before .before .before .before .within .ensures) (min-le-right (a .used) 8192) in
+    let l : length (a .logs .now) ≡ 8192 = search needs in
+    let m : length (a .slots .now) ≡ 28128 = search needs in
+    let o : length (a .out .now) ≡ 532480 = search needs in
+    (l, m, omega (arith, length-take size (a .chunk .now)))
+
+returns : tie.Need-returns
+returns c =
+    let a = c .before .before .before .before .before .before .before .args in
+    let h : length (a .chunk .now) ≡ 8192 = search needs in
+    let size = c .before .before .before .before .before .within .result in
+    let s : size ≤ 8192 = rw (c .before .before .before .before .before .within .ensures) (min-le-right (a .used) 8192) in
+    let e : take size (a .chunk .now) ≡ take (a .used) (a .chunk .now) = ap (λ (k : ℕ). take k (a .chunk .now)) (c .before .before .before .before .before .within .ensures) ∙ take-within (a .used) 8192 (a .chunk .now) h in
+    (rw (← e) (c .feed-all .ensures .0), omega (arith, c .feed-all .ensures .1, length-take size (a .chunk .now)))
+
+pub feed-spec : {M : Type 1} → statement M
+feed-spec = tie.close (tie.spec (λ c κs. search needs) slice-aggregate-feed-all feed-all-requires returns)
