@@ -1,8 +1,51 @@
 // The rehearsal on standard input and output: reads large pieces to the input's end, and answers what it has read before it reads on,
 // so that it serves a terminal and a pipe alike.
+ghost use Prim.Native.Nat.{_≤_};
 use libc::STDIN_FILENO;
 use libc::STDOUT_FILENO;
 use rehearsal::Rehearsal;
+
+// The rehearsal after a piece of input, and whether to read on.
+struct Next {
+    rehearsal: Rehearsal,
+    more: bool,
+}
+
+// Writes the output's first bytes.
+fn show(out: &[u8; 532480], count: usize)
+    requires { ⌜ count ≤ 532480 ⌝ }
+{
+    let all: &[u8] = out;
+    io::write_all(STDOUT_FILENO, &all[..count]);
+}
+
+// Reads once and answers what came; at the input's end, or where a read fails, what is held.
+fn serve(
+    rehearsal: Rehearsal,
+    logs: &mut [u32; 8192],
+    slots: &mut [u8; 28128],
+    chunk: &mut [u8; 8192],
+    out: &mut [u8; 532480],
+) -> Next {
+    let got = libc::read(STDIN_FILENO, chunk);
+    if got <= 0 {
+        let last = rehearsal.finish(logs, slots, out);
+        show(out, last.printed);
+        let rest = last.rehearsal;
+        return Next {
+            rehearsal: rest,
+            more: false,
+        };
+    }
+    let used = io::count(got, chunk);
+    let fed = rehearsal.feed(logs, slots, chunk, used, out);
+    show(out, fed.printed);
+    let rest = fed.rehearsal;
+    Next {
+        rehearsal: rest,
+        more: true,
+    }
+}
 
 // A proved loop has to end, and nothing says that an input does: the loop counts its turns down, from a number that no run uses up.
 pub fn rehearse() {
@@ -10,21 +53,14 @@ pub fn rehearse() {
     let mut slots = [0u8; 28128];
     let mut chunk = [0u8; 8192];
     let mut out = [0u8; 532480];
-    let mut stage = Rehearsal::new();
+    let mut rehearsal = Rehearsal::new();
     let mut turns = u64::MAX;
     while turns > 0 {
-        let got = libc::read(STDIN_FILENO, &mut chunk);
-        if got <= 0 {
-            break;
+        let next = serve(rehearsal, &mut logs, &mut slots, &mut chunk, &mut out);
+        rehearsal = next.rehearsal;
+        if !next.more {
+            return;
         }
-        let used = io::count(got, &chunk);
-        let fed = stage.feed(&mut logs, &mut slots, &chunk, used, &mut out);
-        stage = fed.rehearsal;
-        let n = fed.printed;
-        io::write_all(STDOUT_FILENO, &out[..n]);
         turns -= 1;
     }
-    let last = stage.finish(&mut logs, &mut slots, &mut out);
-    let n = last.printed;
-    io::write_all(STDOUT_FILENO, &out[..n]);
 }
