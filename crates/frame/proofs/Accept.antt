@@ -1,6 +1,5 @@
 -- What take answers of a message, and that it accepts what send writes and no other spelling.
 --     take-sound, take-state, take-keeps      the record after a done take is sound and holds the protocol's state; a refused one changes nothing
---     sent-number, sent-state, sent-sound     a take of what another office's record wrote, as the protocol has it
 --     reads-spellings, reads-only             with a sound record, a call is refused with 7 exactly where the bytes spell no valid content
 --     accepts-sent                            every message that is accepted is what send writes for some sound record
 -- Assumes nothing.
@@ -13,22 +12,21 @@ use native.Mathlib.Omega.{arith}
 use lib.Dec.{eqb}
 use lib.ListN.{length, take, drop, replicate}
 use lib.Seq.{take-append-seam, take-at}
-use borrow.Author.Tests.{eq-eqb, eqb-true}
+use borrow.Author.Tests.{eqb-true}
 use Rattle.protocol.specs.Tests.{pick}
 use Rattle.protocol.specs.Beginning.{begins}
 use Rattle.protocol.specs.Office.{Office, Message}
 use Rattle.protocol.specs.Take.{withTake, refuseTake}
-use Rattle.protocol.proofs.Tests.{both-0, both-1, both-true, take-map}
+use Rattle.protocol.proofs.Tests.{both-0, both-1, take-map}
 use Rattle.protocol.proofs.Limits as Limits
-use Rattle.ballots.specs.Ballots.{tailOf, ballotOf, same}
+use Rattle.ballots.specs.Ballots.{tailOf, ballotOf}
 use Rattle.ballots.proofs.Laws.{tails-of}
-use Rattle.ballots.proofs.Same.{same-true, same-refl}
+use Rattle.ballots.proofs.Same.{same-true}
 use Rattle.spelling.specs.Numbers.{Bytes}
 use Rattle.spelling.specs.Content.{Content, asMessage, eightTails, validContent}
 use Rattle.spelling.specs.Spelling.{spelling}
 use Rattle.spelling.specs.Reading.{reading}
 use Rattle.spelling.proofs.Valid.{valid-facts, valid-office}
-use Rattle.spelling.proofs.BelowByte.{spelling-bytes}
 use Rattle.spelling.proofs.Laws.{reading-spelling, spelling-reading}
 use Rattle.writer.specs.Written as written
 use Rattle.frame.specs.State.{heldBy, holding, wordsWith}
@@ -37,7 +35,6 @@ use Rattle.frame.specs.Sending.{contentOf, messageOf}
 use Rattle.frame.specs.Taking.{sameOffices, refuseContent, takeNumber, takeOf, takeWords}
 use Rattle.frame.specs.declared.Record.{Record}
 use Rattle.frame.proofs.State.{held-by, held-fine, sound-of}
-use Rattle.frame.proofs.Send.{content-valid, content-message}
 use Rattle.frame.proofs.Take.{Accepted, accepted, take-refused, take-done-is, taken-office, not-read, read-number}
 
 number-is : (r : Record) (words s : List ℕ) → takeOf r words s .number ≡ takeNumber r words s
@@ -167,29 +164,3 @@ module _ (r : Record) (words : List ℕ) (S : Sound r words) where
       go : (x : Option Content) → reading s ≡ x → (c : Content) × (validContent c ≡ true) × (spelling c ≡ s)
       go none e = absurd (h (not-read r words s S e))
       go (some c) e = let t = spelling-reading s c bytes e in (c, t .1, t .0)
-
-  -- ── a message that another office's record wrote ──
-  module _ (r' : Record) (words' : List ℕ) (S' : Sound r' words') (count : r' .n ≡ r .n) (weights : r' .weights ≡ r .weights) where
-    pub sent-read : reading (messageOf r' words') ≡ some (contentOf r' words')
-    sent-read = reading-spelling (contentOf r' words') (content-valid r' words' S')
-
-    sent-offices : sameOffices r (contentOf r' words') ≡ true
-    unfolding sameOffices written.contentOf
-    sent-offices =
-        both-true _ _ (eq-eqb (r' .n) (r .n) count)
-        (ap₂ (λ (k : ℕ) (ws : List ℕ). same (take k ws) (take (r .n) (r .weights))) count weights ∙ same-refl (take (r .n) (r .weights)))
-
-    pub sent-number : takeNumber r words (messageOf r' words') ≡ refuseTake (r .own) (record { sender = r' .own; state = heldBy r' words' }) (heldBy r words)
-    unfolding refuseContent pick
-    sent-number =
-        read-number r words (messageOf r' words') S (contentOf r' words') sent-read ∙ rw sent-offices
-        (ap (λ (m : Message). refuseTake (r .own) m (heldBy r words)) (content-message r' words' S'))
-
-    pub sent-state : takeOf r words (messageOf r' words') .number ≡ 0
-        → heldBy (takeOf r words (messageOf r' words') .«record») (takeWords r words (messageOf r' words')) ≡ withTake (r .own) (record { sender = r' .own; state = heldBy r' words' }) (heldBy r words)
-    sent-state done =
-        take-state r words (messageOf r' words') done (contentOf r' words') sent-read
-        ∙ ap (λ (m : Message). withTake (r .own) m (heldBy r words)) (content-message r' words' S')
-
-    pub sent-sound : takeOf r words (messageOf r' words') .number ≡ 0 → Sound (takeOf r words (messageOf r' words') .«record») (takeWords r words (messageOf r' words'))
-    sent-sound done = take-sound r words (messageOf r' words') done (spelling-bytes (contentOf r' words') (content-valid r' words' S'))
