@@ -176,8 +176,5 @@ extends-of (y ∷ b) [] p = refl
 extends-of [] (x ∷ a) p = absurd p
 extends-of (y ∷ b) (x ∷ a) p = rw (eq-eqb x y (p .0)) (extends-of b a (p .1))
 
-pub begins-false : (a b : List ℕ) → begins a b ≡ false → a ⊑ b → ⊥
-begins-false a b e p = true≢false (sym (begins-of a b p) ∙ e)
-
 pub extends-false : (b a : List ℕ) → extends b a ≡ false → a ⊏ b → ⊥
 extends-false b a e p = true≢false (sym (extends-of b a p) ∙ e)

@@ -1,16 +1,14 @@
 -- What a reading says to the caller of `read`. Assumes nothing.
 use Prim.Native.Nat.{ℕ, _-_}
 use mathlib.Core.Bool.{false, false≢true, true}
-use mathlib.Core.List.{List, map}
+use mathlib.Core.List.{List}
 use mathlib.Core.Option.{Option, none, some}
 use mathlib.Core.Path.{_≡_, refl, sym}
 use native.Mathlib.Omega.{arith}
 use lib.ListN.{drop, length, length-drop, take}
 use lib.Seq.{take-all}
-use Rattle.ballots.specs.Ballots.{tailOf}
-use Rattle.spelling.specs.Content.{Content, asMessage, eightTails}
-use Rattle.ballots.proofs.Laws.{tails-of}
-use Rattle.reader.specs.Read.{badReading, ballotsOf, readingOf}
+use Rattle.spelling.specs.Content.{Content}
+use Rattle.reader.specs.Read.{badReading, readingOf}
 
 -- a reading that is not refused is that of a content; a refused one of none
 pub read-some : (o : Option Content) → readingOf o .ok ≡ true → (c : Content) × (o ≡ some c)
@@ -22,11 +20,6 @@ pub read-none : (o : Option Content) → readingOf o .ok ≡ false → o ≡ non
 unfolding readingOf
 read-none none e = refl
 read-none (some c) e = absurd (false≢true (sym e))
-
--- the ballots hold the tails of the message's state
-pub ballots-tails : (c : Content) → map tailOf (ballotsOf (c .n) (c .tails)) ≡ asMessage c .state .tails
-unfolding ballotsOf asMessage
-ballots-tails c = tails-of (eightTails (c .n) (c .tails))
 
 -- the rest of the message, which the caller hands on
 pub rest-of-message : (s : List ℕ) (h : ℕ) → take (length s - h) (drop h s) ≡ drop h s

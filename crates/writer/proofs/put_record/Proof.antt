@@ -1,5 +1,4 @@
 -- The four bytes of the value are stored, then the mark before them.
-use mathlib.Core.Path.{_∙_}
 use native.Mathlib.Omega.{arith}
 use lib.ListN.{length-set}
 use borrow.Author.Needs.{needs}
