@@ -1,9 +1,9 @@
-// Ballots by value: the test of one and of all eight, and the tests of the eight weights.
+// Ballots by value: the test of one, and the tests of the eight weights.
 ghost use mathlib.Core.Path.{_≡_};
 ghost use lib.Dec.{eqb};
 ghost use lib.ListN.{drop};
 ghost use Rattle.protocol.specs.Tests.{allB};
-ghost use Rattle.ballots.specs.Ballots.{ballotFine, isNoBallot, totalWeight, noBallot, pushed, same};
+ghost use Rattle.ballots.specs.Ballots.{ballotFine, totalWeight, noBallot, pushed, same};
 
 // A tail of 0 to 32 entries in the first cells. Unused cells are zero; length 0 means none.
 #[repr(C)]
@@ -59,32 +59,6 @@ impl Ballot {
         next.len = len + 1;
         next
     }
-}
-
-// Whether every ballot is fine.
-pub fn all_fine(ballots: [Ballot; 8], n: usize, settled: usize) -> bool
-    ensures { λ r. ⌜ r ≡ allB (ballotFine n settled) ballots ⌝ }
-{
-    for i in 0..8 {
-        let b = ballots[i];
-        if !b.fine(n, settled) {
-            return false;
-        }
-    }
-    true
-}
-
-// Whether the ballots from place n on are none.
-pub fn none_from(ballots: [Ballot; 8], n: usize) -> bool
-    ensures { λ r. ⌜ r ≡ allB isNoBallot (drop n ballots) ⌝ }
-{
-    for i in n..8 {
-        let b = ballots[i];
-        if b.len != 0 {
-            return false;
-        }
-    }
-    true
 }
 
 // Whether the weights from place n on are zero.

@@ -1,5 +1,8 @@
 // When a record with its log is sound.
 ghost use mathlib.Core.Path.{_≡_};
+ghost use lib.ListN.{drop};
+ghost use Rattle.protocol.specs.Tests.{allB};
+ghost use Rattle.ballots.specs.Ballots.{ballotFine, isNoBallot};
 ghost use Rattle.frame.specs.Soundness.{headFine, soundB};
 use crate::Record;
 
@@ -23,6 +26,35 @@ pub fn head_fine(n: usize, own: usize, weights: [u16; 8]) -> bool
 }
 
 impl Record {
+    // Whether every ballot is fine. The walk is over the record itself: no copy of the ballots is made.
+    fn all_fine(self) -> bool
+        ensures { λ r. ⌜ r ≡ allB (ballotFine (self .n) (self .settled)) (self .ballots) ⌝ }
+    {
+        let n = self.n;
+        let settled = self.settled;
+        for i in 0..8 {
+            let b = self.ballots[i];
+            if !b.fine(n, settled) {
+                return false;
+            }
+        }
+        true
+    }
+
+    // Whether the ballots from place n on are none.
+    fn none_from_n(self) -> bool
+        ensures { λ r. ⌜ r ≡ allB isNoBallot (drop (self .n) (self .ballots)) ⌝ }
+    {
+        let n = self.n;
+        for i in n..8 {
+            let b = self.ballots[i];
+            if b.len != 0 {
+                return false;
+            }
+        }
+        true
+    }
+
     // Whether the record with its log is sound.
     pub fn sound(self, log: &[u32]) -> bool
         ensures { λ r. ⌜ r ≡ soundB self (now (log .entry)) ⌝ }
@@ -30,7 +62,6 @@ impl Record {
         let n = self.n;
         let settled = self.settled;
         let weights = self.weights;
-        let ballots = self.ballots;
         if log.len() < Record::LOG {
             return false;
         }
@@ -43,9 +74,9 @@ impl Record {
         if !entries::all_entries(&log[..settled], n) {
             return false;
         }
-        if !ballots::all_fine(ballots, n, settled) {
+        if !self.all_fine() {
             return false;
         }
-        ballots::none_from(ballots, n)
+        self.none_from_n()
     }
 }

@@ -1,0 +1,46 @@
+-- A walk from place n on: what is left of the ballots answers as all from place n on do.
+use borrow.Author.Needs.{needs}
+use native.Mathlib.Omega.{arith}
+use mathlib.Core.Path.{_≡_, refl, sym}
+use Prim.Native.Nat.{_-_}
+use lib.ListN.{length, drop}
+use borrow.Author.Tests.{eq-eqb, ne-eqb}
+use Rattle.protocol.specs.Tests.{allB}
+use Rattle.protocol.proofs.Tests.{length-mapped}
+use Rattle.entries.proofs.Walk.{AllRest, all-next, all-stop, all-done}
+use Rattle.ballots.specs.Ballots.{isNoBallot, offEnd}
+use Rattle.frame.proofs.Record.none_from_n.Statement.{statement}
+use Rattle.frame.proofs.Record.none_from_n.Tie as tie
+
+abbrev Inv-loop : tie.InvT-loop
+Inv-loop self n i₀ i = AllRest (allB isNoBallot (drop n (self .ballots))) isNoBallot (self .ballots) i
+
+abbrev μ-loop : tie.MeasureT-loop
+μ-loop self n i₀ i = 8 - i
+
+loop-holds : tie.Need-loop-holds Inv-loop μ-loop
+loop-holds c = refl
+
+returns : tie.Need-returns Inv-loop μ-loop
+returns c = let l = c .before .before .before .before .loop in let a = c .before .before .before .before .before .args in let h : length (a .t1 .ballots) ≡ 8 = search (needs, length-mapped) in all-stop isNoBallot offEnd (a .t1 .ballots) (l .i) (l .inv) (omega arith) (ne-eqb 0 _ (λ e. c .if1 .taken (sym e)))
+
+loop-again : tie.Need-loop-again Inv-loop μ-loop
+loop-again c = let l = c .before .before .before .before .loop in let a = c .before .before .before .before .before .args in let h : length (a .t1 .ballots) ≡ 8 = search (needs, length-mapped) in all-next isNoBallot offEnd (a .t1 .ballots) (l .i) (l .inv) (omega arith) (eq-eqb 0 _ (sym (c .if1 .left)))
+
+returns-2 : tie.Need-returns-2 Inv-loop μ-loop
+returns-2 c = let l = c .before .loop in let a = c .before .before .args in let h : length (a .t1 .ballots) ≡ 8 = search (needs, length-mapped) in all-done isNoBallot offEnd (a .t1 .ballots) (l .i) (l .inv) (omega arith)
+
+pub none-from-n-spec : {M : Type 1} → statement M
+none-from-n-spec =
+    tie.close
+    (tie.spec
+    Inv-loop
+    μ-loop
+    loop-holds
+    (λ c. search needs)
+    (λ c. search needs)
+    returns
+    (λ c. search needs)
+    (λ c. search needs)
+    loop-again
+    returns-2)
