@@ -9,7 +9,7 @@ use Rattle.lines.specs.Held.{cut}
 use Rattle.lines.proofs.Feeding.{FeedRest, feed-next}
 use Rattle.lines.specs.Feeding.{Said}
 use Rattle.answers.specs.Answer.{printedOf}
-use Rattle.rehearsal.specs.World.{World}
+use Rattle.stage.specs.World.{World}
 use Rattle.rehearsal.specs.Lines.{Answered, sayLine}
 use Rattle.rehearsal.proofs.Says.{say-short}
 

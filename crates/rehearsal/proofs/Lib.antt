@@ -1,4 +1,3 @@
 -- Laws of the rehearsal.
-pub mod Fresh
 pub mod Says
 pub mod Feeds

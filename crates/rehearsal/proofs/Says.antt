@@ -1,7 +1,6 @@
 -- What a line says, put together from what the calls promise.
---     aim-there      an aim at an office is at one of the eight
 --     say-short      an answer takes at most 65 bytes
---     say-found, say-turn, say-nothing      a line by its aim
+--     say-found, say-turn, say-nobody      a line by its aim
 -- Assumes nothing.
 use mathlib.Core.Path.{_≡_, refl, sym, ap, _∙_}
 use mathlib.Core.Bool.{Bool, true, false}
@@ -27,35 +26,14 @@ use Rattle.frame.specs.declared.Record.{Record}
 use Rattle.turns.specs.declared.Turn.{Turn}
 use Rattle.turns.specs.Answers.{question}
 use Rattle.turns.specs.Turns.{issueTurn, sendTurn, takeTurn, electTurn, viewTurn, stays, turnOf, turnWords, turnSlots}
-use Rattle.rehearsal.specs.declared.aims.Aim.{Aim}
-use Rattle.rehearsal.specs.declared.aims.Aim.the-variants.{Everyone, At, Nothing}
-use Rattle.rehearsal.specs.declared.founding.Founding.{Founding}
-use Rattle.rehearsal.specs.World.{World, logOf}
-use Rattle.rehearsal.specs.Founding.{founded}
-use Rattle.rehearsal.specs.Lines.{atOffice, commandAim, aimOf, Answered, foundAnswer, turnAnswer, recordAt, aimed, answerLine, sayLine}
-
-at-there : (offices k′ : ℕ) (c′ : Command) (k : ℕ) (c : Command) → atOffice offices k′ c′ ≡ At k c → k < 8
-unfolding atOffice
-at-there offices k′ c′ k c =
-    pick-cases (λ (a : Aim). a ≡ At k c → k < 8) (ltb k′ offices) (pick (ltb k′ 8) (At k′ c′) Nothing) Nothing
-    (λ t. pick-cases (λ (a : Aim). a ≡ At k c → k < 8) (ltb k′ 8) (At k′ c′) Nothing
-    (λ u e. let z : k′ ≡ k = cc in omega (arith, ltb-true k′ 8 u))
-    (λ u e. let z : _≡_ {A = ℕ} 0 1 = cc in absurd (omega arith)))
-    (λ t e. let z : _≡_ {A = ℕ} 0 1 = cc in absurd (omega arith))
-
-command-there : (offices : ℕ) (c′ : Command) (k : ℕ) (c : Command) → commandAim offices c′ ≡ At k c → k < 8
-unfolding commandAim
-command-there offices (Found n) k c e = let z : _≡_ {A = ℕ} 0 1 = cc in absurd (omega arith)
-command-there offices (Issue k′ line code) k c e = at-there offices k′ (Issue k′ line code) k c e
-command-there offices (Send k′ m) k c e = at-there offices k′ (Send k′ m) k c e
-command-there offices (Take k′ m) k c e = at-there offices k′ (Take k′ m) k c e
-command-there offices (Elect k′) k c e = at-there offices k′ (Elect k′) k c e
-command-there offices (View k′ line) k c e = at-there offices k′ (View k′ line) k c e
-
-pub aim-there : (offices : ℕ) (p : Parsed) (k : ℕ) (c : Command) → aimOf offices p ≡ At k c → k < 8
-unfolding aimOf
-aim-there offices (Says c′) k c e = command-there offices c′ k c e
-aim-there offices Other k c e = let z : _≡_ {A = ℕ} 0 1 = cc in absurd (omega arith)
+use Rattle.stage.specs.declared.Stage.{Stage}
+use Rattle.stage.specs.declared.aims.Aim.{Aim}
+use Rattle.stage.specs.declared.aims.Aim.the-variants.{Everyone, At, Nobody}
+use Rattle.stage.specs.declared.founding.Founding.{Founding}
+use Rattle.stage.specs.Aims.{aimOf}
+use Rattle.stage.specs.World.{World, logOf}
+use Rattle.stage.specs.Founding.{founded}
+use Rattle.rehearsal.specs.Lines.{Answered, foundAnswer, turned, turnAnswer, recordAt, aimed, answerLine, sayLine}
 
 -- an answer has room for three numbers
 abbrev Three : Answer → Type 0
@@ -72,20 +50,20 @@ turn-three (Take k m) r lengths words slots =
 turn-three (Elect k) r lengths words slots = refl
 turn-three (View k line) r lengths words slots = refl
 
-found-three : (n : ℕ) (ws : List ℕ) (offices : ℕ) (records : List Record) (lengths logs : List ℕ) → Three (founded n ws offices records lengths logs .answer)
+found-three : (stage : Stage) (n : ℕ) (ws logs : List ℕ) → Three (founded stage n ws logs .answer)
 unfolding founded
-found-three n ws offices records lengths logs = pick-cases (λ (f : Founding). Three (f .answer)) _ _ _ (λ e. refl) (λ e. refl)
+found-three stage n ws logs = refl
 
 aimed-three : (w : World) (ws : List ℕ) (a : Aim) → Three (aimed w ws a .answer)
 unfolding aimed
-aimed-three w ws (Everyone n) = found-three n ws (w .offices) (w .records) (w .lengths) (w .logs)
-aimed-three w ws (At k c) = turn-three c (recordAt w k) (w .lengths) (logOf (w .logs) k) (w .slots)
-aimed-three w ws Nothing = refl
+aimed-three w ws (Everyone n) = found-three (w .stage) n ws (w .logs)
+aimed-three w ws (At k c) = turn-three c (recordAt (w .stage) k) (w .stage .lengths) (logOf (w .logs) k) (w .slots)
+aimed-three w ws Nobody = refl
 
 pub say-short : (w : World) (bytes : List ℕ) → length (sayLine w bytes .printed) ≤ 65
 unfolding sayLine answerLine
 say-short w bytes =
-    let a = aimOf (w .offices) (lineOf bytes .parsed) in
+    let a = aimOf (w .stage .offices) (lineOf bytes .parsed) in
     printed-short (aimed w (lineOf bytes .weights) a .answer) (aimed-three w (lineOf bytes .weights) a)
 
 -- an office's turn on `size` words of its log
@@ -93,9 +71,7 @@ abbrev pub lentAnswer : World → ℕ → ℕ → Turn → List ℕ → List ℕ
 lentAnswer w k size t words slots =
     record {
       world = record {
-        offices = w .offices;
-        records = set (w .records) k (t .record);
-        lengths = t .lengths;
+        stage = turned (w .stage) k t;
         logs = take (k * 1024) (w .logs) ++ (words ++ drop size (drop (k * 1024) (w .logs)));
         slots = slots;
       };
@@ -103,7 +79,7 @@ lentAnswer w k size t words slots =
     }
 
 -- what was read of a line, and its aim
-module _ (w : World) (bytes held : List ℕ) (line : Line) (a : Aim) (eh : held ≡ bytes) (el : line ≡ lineOf held) (ea : a ≡ aimOf (w .offices) (line .parsed)) where
+module _ (w : World) (bytes held : List ℕ) (line : Line) (a : Aim) (eh : held ≡ bytes) (el : line ≡ lineOf held) (ea : a ≡ aimOf (w .stage .offices) (line .parsed)) where
   abbrev pub SaysAs : Answered → Type 0
   SaysAs x = sayLine w bytes ≡ record { world = x .world; printed = printedOf (x .answer) }
 
@@ -111,18 +87,18 @@ module _ (w : World) (bytes held : List ℕ) (line : Line) (a : Aim) (eh : held 
   unfolding sayLine answerLine
   say-as x e = rw (e, ea, el, eh)
 
-  pub say-found : (n : ℕ) (f : Founding) → a ≡ Everyone n → f ≡ founded n (line .weights) (w .offices) (w .records) (w .lengths) (w .logs) → SaysAs (foundAnswer w f)
+  pub say-found : (n : ℕ) (f : Founding) → a ≡ Everyone n → f ≡ founded (w .stage) n (line .weights) (w .logs) → SaysAs (foundAnswer w f)
   unfolding aimed
   say-found n f e ef = say-as (foundAnswer w f) (rw (ef, e))
 
   -- the office's log is lent from k * 1024 on for `size` words
   pub say-turn : (k : ℕ) (c : Command) (size : ℕ) (t : Turn) (words slots : List ℕ) → a ≡ At k c → size ≡ 1024 →
-      t ≡ turnOf c (recordAt w k) (w .lengths) (take size (drop (k * 1024) (w .logs))) (w .slots) →
-      words ≡ turnWords c (recordAt w k) (w .lengths) (take size (drop (k * 1024) (w .logs))) (w .slots) →
-      slots ≡ turnSlots c (recordAt w k) (take size (drop (k * 1024) (w .logs))) (w .slots) → SaysAs (lentAnswer w k size t words slots)
+      t ≡ turnOf c (recordAt (w .stage) k) (w .stage .lengths) (take size (drop (k * 1024) (w .logs))) (w .slots) →
+      words ≡ turnWords c (recordAt (w .stage) k) (w .stage .lengths) (take size (drop (k * 1024) (w .logs))) (w .slots) →
+      slots ≡ turnSlots c (recordAt (w .stage) k) (take size (drop (k * 1024) (w .logs))) (w .slots) → SaysAs (lentAnswer w k size t words slots)
   unfolding aimed
   say-turn k c size t words slots e es et ew el = say-as (lentAnswer w k size t words slots) (rw (et, ew, el, es, e))
 
-  pub say-nothing : (x : Answer) → a ≡ Nothing → x ≡ question → SaysAs (record { world = w; answer = x })
+  pub say-nobody : (x : Answer) → a ≡ Nobody → x ≡ question → SaysAs (record { world = w; answer = x })
   unfolding aimed
-  say-nothing x e ex = say-as (record { world = w; answer = x }) (rw (ex, e))
+  say-nobody x e ex = say-as (record { world = w; answer = x }) (rw (ex, e))

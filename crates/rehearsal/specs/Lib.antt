@@ -1,5 +1,3 @@
 -- The rehearsal.
-pub mod World
-pub mod Founding
 pub mod Lines
 pub mod Feeding

@@ -8,17 +8,16 @@ ghost use Rattle.commands.specs.Command.{lineOf};
 ghost use Rattle.rehearsal.specs.Lines.{feedOf, finishOf};
 ghost use Rattle.rehearsal.specs.Feeding.{worldOf, atFirst};
 use crate::Rehearsal;
-use crate::aims::Aim;
-use crate::aims::aim_of;
-use crate::founding::found;
 use answers::print;
-use ballots::Ballot;
 use commands::Line;
 use commands::line_of;
-use frame::Record;
 use lines::Held;
 use lines::part_end;
 use lines::within;
+use stage::Aim;
+use stage::aim_of;
+use stage::found;
+use stage::nobody;
 use turns::ask;
 use turns::turn_at;
 
@@ -43,9 +42,7 @@ fn feed_all(r: Rehearsal, logs: &mut [u32], slots: &mut [u8], chunk: &[u8], out:
     ensures { λ f. ⌜ FedAs (feedOf (worldOf r (now (logs .entry)) (now (slots .entry))) (lineHeld (r .held)) (now (chunk .entry))) (now (out .entry)) (worldOf (f .rehearsal) (now (logs .exit)) (now (slots .exit))) (lineHeld (f .rehearsal .held)) (now (out .exit)) (f .printed) ⌝ }
     ensures { λ f. ⌜ f .printed ≤ 65 * length (now (chunk .entry)) ⌝ }
 {
-    let mut offices = r.offices;
-    let mut records = r.records;
-    let mut lengths = r.lengths;
+    let mut stage = r.stage;
     let mut held = r.held;
     let mut at: usize = 0;
     let mut printed: usize = 0;
@@ -53,46 +50,36 @@ fn feed_all(r: Rehearsal, logs: &mut [u32], slots: &mut [u8], chunk: &[u8], out:
         let end = part_end(chunk, at, b'\n');
         held = held.with(&chunk[at..end]);
         if end >= chunk.len() {
-            return Fed {
-                rehearsal: Rehearsal {
-                    offices,
-                    records,
-                    lengths,
-                    held,
-                },
-                printed,
-            };
+            let rehearsal = Rehearsal { stage, held };
+            return Fed { rehearsal, printed };
         }
         let line = line_held(held);
         held = Held::none();
         at = end + 1;
         let parsed = line.parsed;
-        let weights = line.weights;
-        let aim = aim_of(offices, parsed);
+        let aim = aim_of(stage.offices, parsed);
         match aim {
             Aim::Everyone(n) => {
-                let founded = found(n, weights, logs, offices, records, lengths);
-                offices = founded.offices;
-                records = founded.records;
-                lengths = founded.lengths;
-                let answer = founded.answer;
+                let weights = line.weights;
+                let founding = found(stage, n, weights, logs);
+                stage = founding.stage;
+                let answer = founding.answer;
                 printed = print(out, printed, answer);
             }
             Aim::At(k, command) => {
                 let from = k * 1024;
                 let to = from + 1024;
-                let record = records[k];
+                let record = stage.records[k];
+                let lengths = stage.lengths;
                 let turn = turn_at(record, lengths, &mut logs[from..to], slots, command);
                 let next = turn.record;
-                records[k] = next;
-                lengths = turn.lengths;
+                let left = turn.lengths;
+                stage.records[k] = next;
+                stage.lengths = left;
                 let answer = turn.answer;
                 printed = print(out, printed, answer);
             }
-            Aim::Nothing => {
-                let answer = ask();
-                printed = print(out, printed, answer);
-            }
+            Aim::Nobody => printed = print(out, printed, ask()),
         }
     }
 }
@@ -102,21 +89,9 @@ impl Rehearsal {
     pub fn new() -> Rehearsal
         ensures { λ r. ⌜ r ≡ atFirst ⌝ }
     {
-        let none = Ballot::none();
-        let zero = Record {
-            n: 0,
-            own: 0,
-            weights: [0; 8],
-            settled: 0,
-            ballots: [none; 8],
-        };
+        let stage = nobody();
         let held = Held::none();
-        Rehearsal {
-            offices: 0,
-            records: [zero; 8],
-            lengths: [0; 4],
-            held,
-        }
+        Rehearsal { stage, held }
     }
 
     // Feeds the first `used` bytes of the chunk: answers each line that ends there, and holds what is left of the last one.

@@ -1,17 +1,13 @@
 // The rehearsal: lines of input in, lines of output out, over up to eight offices and four message slots.
-use frame::Record;
 use lines::Held;
+use stage::Stage;
 
-mod aims;
 mod feeding;
-mod founding;
 
 pub use feeding::Fed;
 
-// How many offices there are, none before a done `f`; their records; the lengths of the messages in the slots; the line that is held.
+// The offices, and the line that is held until its newline comes.
 pub struct Rehearsal {
-    pub offices: usize,
-    pub records: [Record; 8],
-    pub lengths: [usize; 4],
+    pub stage: Stage,
     pub held: Held,
 }

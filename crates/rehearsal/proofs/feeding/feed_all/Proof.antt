@@ -1,84 +1,69 @@
 -- Each turn answers one line: the aim's arm promises what the line says, and the invariant is that what is left, fed from here on, gives what
 -- the whole chunk gives.
 use borrow.Author.Needs.{needs}
-use mathlib.Core.Path.{_≡_, refl, sym, ap, _∙_}
-use mathlib.Core.List.{List, [], _∷_, _++_}
-use native.Mathlib.Omega.{arith}
-use Prim.Native.Nat.{ℕ, _+_, _-_, _*_, _<_, _≤_}
-use lib.ListN.{length, take, drop, length-take}
-use Rattle.lines.specs.Held.{lineHeld, cut}
-use Rattle.lines.proofs.Parts.{part-within}
-use Rattle.lines.proofs.Feeding.{feed-begins, feed-ends}
 use borrow.Rule.Slice.PartMut.{same-len-mid}
-use Rattle.frame.specs.declared.Record.{Record}
-use Rattle.rehearsal.specs.World.{World}
-use Rattle.rehearsal.specs.Lines.{sayLine, foundAnswer, Answered}
-use Rattle.rehearsal.proofs.Says.{aim-there, say-found, say-turn, lentAnswer, say-nothing}
-use Rattle.rehearsal.proofs.Feeds.{FeedsRest, feeds-next}
--- Each turn answers one line: the aim's arm promises what the line says, and the invariant is that what is left, fed from here on, gives what
--- the whole chunk gives.
-use borrow.Author.Needs.{needs}
 use mathlib.Core.Path.{_≡_, refl, sym, ap, _∙_}
 use mathlib.Core.List.{List, [], _∷_, _++_}
 use native.Mathlib.Omega.{arith}
 use Prim.Native.Nat.{ℕ, _+_, _-_, _*_, _<_, _≤_}
-use lib.ListN.{length, take, drop, length-take}
+use lib.ListN.{length, take, drop, length-take, length-set}
+use Rattle.protocol.proofs.Tests.{length-mapped}
 use Rattle.lines.specs.Held.{lineHeld, cut}
 use Rattle.lines.proofs.Parts.{part-within}
 use Rattle.lines.proofs.Feeding.{feed-begins, feed-ends}
-use Rattle.frame.specs.declared.Record.{Record}
-use Rattle.rehearsal.specs.World.{World}
-use Rattle.rehearsal.specs.Lines.{sayLine}
-use Rattle.rehearsal.proofs.Says.{aim-there, say-found, say-turn, say-nothing}
+use Rattle.stage.specs.declared.Stage.{Stage}
+use Rattle.stage.specs.World.{World}
+use Rattle.stage.proofs.Aiming.{aim-there}
+use Rattle.rehearsal.specs.Lines.{sayLine, foundAnswer, Answered}
+use Rattle.rehearsal.proofs.Says.{say-found, say-turn, lentAnswer, say-nobody}
 use Rattle.rehearsal.proofs.Feeds.{FeedsRest, feeds-next}
 use Rattle.rehearsal.proofs.feeding.feed_all.Statement.{statement}
 use Rattle.rehearsal.proofs.feeding.feed_all.Tie as tie
 
 -- the world that the loop's variables make up
-abbrev worldAt : List ℕ → List ℕ → ℕ → List Record → List ℕ → World
-worldAt logs slots offices records lengths = record { offices = offices; records = records; lengths = lengths; logs = logs; slots = slots }
+abbrev worldAt : List ℕ → List ℕ → Stage → World
+worldAt logs slots stage = record { stage = stage; logs = logs; slots = slots }
 
 abbrev Inv-loop : tie.InvT-loop
-Inv-loop logs₀ slots₀ chunk out₀ offices₀ records₀ lengths₀ held₀ at₀ printed₀ logs slots out offices records lengths held at printed =
-    FeedsRest (worldAt logs₀ slots₀ offices₀ records₀ lengths₀) (lineHeld held₀) chunk out₀ (worldAt logs slots offices records lengths) (lineHeld held) out at printed
+Inv-loop logs₀ slots₀ chunk out₀ stage₀ held₀ at₀ printed₀ logs slots out stage held at printed =
+    FeedsRest (worldAt logs₀ slots₀ stage₀) (lineHeld held₀) chunk out₀ (worldAt logs slots stage) (lineHeld held) out at printed
 
 abbrev μ-loop : tie.MeasureT-loop
-μ-loop logs₀ slots₀ chunk out₀ offices₀ records₀ lengths₀ held₀ at₀ printed₀ logs slots out offices records lengths held at printed =
-    length chunk - at
+μ-loop logs₀ slots₀ chunk out₀ stage₀ held₀ at₀ printed₀ logs slots out stage held at printed = length chunk - at
 
 -- an office at which a line is aimed is one of the eight
 below : (c : tie.After-aim2 Inv-loop μ-loop) → c .aim2 .given .0 .0 < 8
-below c = aim-there (c .before .before .before .before .before .before .before .before .before .before .loop .offices) (c .before .before .before .before .before .line-held .result .parsed) (c .aim2 .given .0 .0) (c .aim2 .given .0 .1 .0) (sym (c .before .before .aim-of .ensures) ∙ c .aim2 .given .1)
+below c = aim-there (c .before .before .before .before .before .before .before .before .before .loop .stage .offices) (c .before .before .before .before .line-held .result .parsed) (c .aim2 .given .0 .0) (c .aim2 .given .0 .1 .0) (sym (c .before .before .aim-of .ensures) ∙ c .aim2 .given .1)
 
 -- each byte of the chunk has room for an answer
 room : (c : tie.Else1 Inv-loop μ-loop) → c .before .before .before .before .loop .printed + 65 ≤ length (c .before .before .before .before .loop .out)
-room c = let l = c .before .before .before .before .loop in omega (arith, l .inv .rest .room, l .inv .rest .long, c .before .before .before .before .before .before .before .before .before .before .before .before .pre .2, c .before .before .before .part-end .ensures, c .if1 .left)
+room c = let l = c .before .before .before .before .loop in omega (arith, l .inv .rest .room, l .inv .rest .long, c .before .before .before .before .before .before .before .before .before .before .before .pre .2, c .before .before .before .part-end .ensures, c .if1 .left)
 
 -- the next line begins further on
-less : (c : tie.Else1 Inv-loop μ-loop) → length (c .before .before .before .before .before .before .before .before .before .before .before .before .args .chunk .now) - (c .before .before .before .part-end .result + 1) < length (c .before .before .before .before .before .before .before .before .before .before .before .before .args .chunk .now) - c .before .before .before .before .loop .at
+less : (c : tie.Else1 Inv-loop μ-loop) → length (c .before .before .before .before .before .before .before .before .before .before .before .args .chunk .now) - (c .before .before .before .part-end .result + 1) < length (c .before .before .before .before .before .before .before .before .before .before .before .args .chunk .now) - c .before .before .before .before .loop .at
 less c = omega (arith, c .before .before .before .part-end .ensures, c .if1 .left)
 
 loop-holds : tie.Need-loop-holds Inv-loop μ-loop
 loop-holds c =
-    let a = c .before .before .before .before .before .before .before .args in
+    let a = c .before .before .before .before .before .before .args in
     let h : length (a .r .held .bytes) ≡ 129 = search needs in
     record {
       rest = feed-begins sayLine _ (lineHeld (a .r .held)) (a .chunk .now) (a .out .now) (rw length-take (omega arith));
-      logs = c .before .before .before .before .before .before .before .pre .0;
-      slots = c .before .before .before .before .before .before .before .pre .1;
+      logs = c .before .before .before .before .before .before .pre .0;
+      slots = c .before .before .before .before .before .before .pre .1;
     }
 
 sub-with : tie.Need-sub-with Inv-loop μ-loop
 sub-with c = omega (arith, c .part-end .ensures)
 
 part-with-end : tie.Need-part-with-end Inv-loop μ-loop
-part-with-end c = omega (arith, c .part-end .ensures, part-within 10 (c .before .before .before .before .before .before .before .before .before .args .chunk .now) (c .before .loop .at) (c .before .loop .inv .rest .within))
+part-with-end c = omega (arith, c .part-end .ensures, part-within 10 (c .before .before .before .before .before .before .before .before .args .chunk .now) (c .before .loop .at) (c .before .loop .inv .rest .within))
 
 same-length : tie.Need-same-length Inv-loop μ-loop
-same-length c = c .before .before .before .before .loop .inv .logs ∙ sym (c .before .before .before .before .before .before .before .before .before .before .before .before .pre .0)
+same-length c = c .before .before .before .before .loop .inv .logs ∙ sym (c .before .before .before .before .before .before .before .before .before .before .before .pre .0)
 
 same-length-2 : tie.Need-same-length-2 Inv-loop μ-loop
-same-length-2 c = c .before .before .before .before .loop .inv .slots ∙ sym (c .before .before .before .before .before .before .before .before .before .before .before .before .pre .1)
+same-length-2 c = c .before .before .before .before .loop .inv .slots ∙ sym (c .before .before .before .before .before .before .before .before .before .before .before .pre .1)
 
 same-length-3 : tie.Need-same-length-3 Inv-loop μ-loop
 same-length-3 c = c .before .before .before .before .loop .inv .rest .long
@@ -86,29 +71,29 @@ same-length-3 c = c .before .before .before .before .loop .inv .rest .long
 returns : tie.Need-returns Inv-loop μ-loop
 returns c =
     let l = c .before .before .before .before .loop in
-    let a = c .before .before .before .before .before .before .before .before .before .before .before .before .args in
+    let a = c .before .before .before .before .before .before .before .before .before .before .before .args in
     let end = c .before .before .before .part-end .result in
-    let x = feed-ends sayLine (worldAt (a .logs .now) (a .slots .now) (a .r .offices) (a .r .records) (a .r .lengths)) (lineHeld (a .r .held)) (a .chunk .now) (a .out .now) (worldAt (l .logs) (l .slots) (l .offices) (l .records) (l .lengths)) (lineHeld (l .held)) (l .out) (l .at) (l .printed) (l .inv .rest) end (c .before .before .before .part-end .ensures) (c .if1 .taken) (omega (arith, c .before .before .before .part-end .ensures, part-within 10 (a .chunk .now) (l .at) (l .inv .rest .within))) in
+    let x = feed-ends sayLine (worldAt (a .logs .now) (a .slots .now) (a .r .stage)) (lineHeld (a .r .held)) (a .chunk .now) (a .out .now) (worldAt (l .logs) (l .slots) (l .stage)) (lineHeld (l .held)) (l .out) (l .at) (l .printed) (l .inv .rest) end (c .before .before .before .part-end .ensures) (c .if1 .taken) (omega (arith, c .before .before .before .part-end .ensures, part-within 10 (a .chunk .now) (l .at) (l .inv .rest .within))) in
     (record { world = x .world; line = c .before .with .ensures ∙ x .line; printed = x .printed; output = x .output }, omega (arith, l .inv .rest .room, l .inv .rest .within))
 
 found-requires : tie.Need-found-requires Inv-loop μ-loop
 found-requires c κs = c .before .before .before .before .before .before .before .before .before .before .before .before .loop .inv .logs
 
 print-requires : tie.Need-print-requires Inv-loop μ-loop
-print-requires c κs = room (c .before .before .before .before .before .before .before .before .before .before .before .before .before)
+print-requires c κs = room (c .before .before .before .before .before .before .before .before .before .before .before .before)
 
 loop-less : tie.Need-loop-less Inv-loop μ-loop
-loop-less c = less (c .before .before .before .before .before .before .before .before .before .before .before .before .before .before .before .before)
+loop-less c = less (c .before .before .before .before .before .before .before .before .before .before .before .before .before .before .before)
 
 loop-again : tie.Need-loop-again Inv-loop μ-loop
 loop-again c =
-    let l = c .before .before .before .before .before .before .before .before .before .before .before .before .before .before .before .before .before .before .before .before .loop in
-    let a = c .before .before .before .before .before .before .before .before .before .before .before .before .before .before .before .before .before .before .before .before .before .before .before .before .before .before .before .before .args in
-    let w = worldAt (l .logs) (l .slots) (l .offices) (l .records) (l .lengths) in
-    let end = c .before .before .before .before .before .before .before .before .before .before .before .before .before .before .before .before .before .before .before .part-end .result in
+    let l = c .before .before .before .before .before .before .before .before .before .before .before .before .before .before .before .before .before .before .before .loop in
+    let a = c .before .before .before .before .before .before .before .before .before .before .before .before .before .before .before .before .before .before .before .before .before .before .before .before .before .before .args in
+    let w = worldAt (l .logs) (l .slots) (l .stage) in
+    let end = c .before .before .before .before .before .before .before .before .before .before .before .before .before .before .before .before .before .before .part-end .result in
     let bytes = cut (lineHeld (l .held) ++ take (end - l .at) (drop (l .at) (a .chunk .now))) in
-    feeds-next (worldAt (a .logs .now) (a .slots .now) (a .r .offices) (a .r .records) (a .r .lengths)) (lineHeld (a .r .held)) (a .chunk .now) (a .out .now) w (lineHeld (l .held)) (l .out) (l .at) (l .printed) (l .inv) end (c .before .before .before .before .before .before .before .before .before .before .before .before .before .before .before .before .before .before .before .part-end .ensures) (foundAnswer w (c .before .before .before .before .before .before .before .found .result)) (say-found w bytes (lineHeld (c .before .before .before .before .before .before .before .before .before .before .before .before .before .before .before .before .before .with .result)) (c .before .before .before .before .before .before .before .before .before .before .before .before .before .before .before .line-held .result) (c .before .before .before .before .before .before .before .before .before .before .before .before .aim-of .result) (c .before .before .before .before .before .before .before .before .before .before .before .before .before .before .before .before .before .with .ensures) (c .before .before .before .before .before .before .before .before .before .before .before .before .before .before .before .line-held .ensures) (c .before .before .before .before .before .before .before .before .before .before .before .before .aim-of .ensures) (c .before .before .before .before .before .before .before .before .before .before .aim .given .0 .0) (c .before .before .before .before .before .before .before .found .result) (c .before .before .before .before .before .before .before .before .before .before .aim .given .1) (c .before .before .before .before .before .before .before .found .ensures))
-    (lineHeld (c .before .before .before .before .before .before .before .before .before .before .before .before .before .before .none .result)) (c .before .before .print .last .0) (c .before .before .print .result) (ap lineHeld (c .before .before .before .before .before .before .before .before .before .before .before .before .before .before .none .ensures)) (c .before .before .before .before .before .before .before .before .before .before .before .before .before .before .before .before .if1 .left) (c .before .before .print .ensures .0) (c .before .before .print .ensures .1) (l .inv .logs) (l .inv .slots)
+    feeds-next (worldAt (a .logs .now) (a .slots .now) (a .r .stage)) (lineHeld (a .r .held)) (a .chunk .now) (a .out .now) w (lineHeld (l .held)) (l .out) (l .at) (l .printed) (l .inv) end (c .before .before .before .before .before .before .before .before .before .before .before .before .before .before .before .before .before .before .part-end .ensures) (foundAnswer w (c .before .before .before .before .before .before .found .result)) (say-found w bytes (lineHeld (c .before .before .before .before .before .before .before .before .before .before .before .before .before .before .before .before .with .result)) (c .before .before .before .before .before .before .before .before .before .before .before .before .before .before .line-held .result) (c .before .before .before .before .before .before .before .before .before .before .before .before .aim-of .result) (c .before .before .before .before .before .before .before .before .before .before .before .before .before .before .before .before .with .ensures) (c .before .before .before .before .before .before .before .before .before .before .before .before .before .before .line-held .ensures) (c .before .before .before .before .before .before .before .before .before .before .before .before .aim-of .ensures) (c .before .before .before .before .before .before .before .before .before .before .aim .given .0 .0) (c .before .before .before .before .before .before .found .result) (c .before .before .before .before .before .before .before .before .before .before .aim .given .1) (c .before .before .before .before .before .before .found .ensures))
+    (lineHeld (c .before .before .before .before .before .before .before .before .before .before .before .before .before .none .result)) (c .before .before .print .last .0) (c .before .before .print .result) (ap lineHeld (c .before .before .before .before .before .before .before .before .before .before .before .before .before .none .ensures)) (c .before .before .before .before .before .before .before .before .before .before .before .before .before .before .before .if1 .left) (c .before .before .print .ensures .0) (c .before .before .print .ensures .1) (l .inv .logs) (l .inv .slots)
 
 mul-from : tie.Need-mul-from Inv-loop μ-loop
 mul-from c = omega (arith, below (c .before))
@@ -119,23 +104,23 @@ add-to c = omega (arith, below (c .before))
 mul-record : tie.Need-mul-record Inv-loop μ-loop
 mul-record c = omega (arith, below (c .before))
 
-array-copy-out-record : tie.Need-array-copy-out-record Inv-loop μ-loop
-array-copy-out-record c = below (c .before)
+element-copy-out-record : tie.Need-element-copy-out-record Inv-loop μ-loop
+element-copy-out-record c = below (c .before)
 
 mul-turn-at : tie.Need-mul-turn-at Inv-loop μ-loop
-mul-turn-at c = omega (arith, below (c .before .before))
+mul-turn-at c = omega (arith, below (c .before .before .before))
 
 part-turn-at-end : tie.Need-part-turn-at-end Inv-loop μ-loop
-part-turn-at-end c = omega (arith, below (c .before .before), c .before .before .before .before .before .before .before .before .before .before .before .before .loop .inv .logs)
+part-turn-at-end c = omega (arith, below (c .before .before .before), c .before .before .before .before .before .before .before .before .before .before .before .before .loop .inv .logs)
 
 turn-at-requires : tie.Need-turn-at-requires Inv-loop μ-loop
 turn-at-requires c κs = c .before .before .before .before .before .before .before .before .before .before .before .before .before .before .loop .inv .slots
 
-mul-records : tie.Need-mul-records Inv-loop μ-loop
-mul-records c = omega (arith, below (c .before .before .before .before .before .before .before .before .before .before))
+mul-next : tie.Need-mul-next Inv-loop μ-loop
+mul-next c = omega (arith, below (c .before .before .before .before .before .before .before .before .before .before .before .before))
 
-array-set-from-records : tie.Need-array-set-from-records Inv-loop μ-loop
-array-set-from-records c = below (c .before .before .before .before .before .before .before .before .before .before)
+element-set-from-next : tie.Need-element-set-from-next Inv-loop μ-loop
+element-set-from-next c = below (c .before .before .before .before .before .before .before .before .before .before .before .before)
 
 print-requires-2 : tie.Need-print-requires-2 Inv-loop μ-loop
 print-requires-2 c κs = room (c .before .before .before .before .before .before .before .before .before .before .before .before .before .before .before .before .before .before .before)
@@ -146,35 +131,35 @@ loop-less-2 c = less (c .before .before .before .before .before .before .before 
 loop-again-2 : tie.Need-loop-again-2 Inv-loop μ-loop
 loop-again-2 c =
     let l = c .before .before .before .before .before .before .before .before .before .before .before .before .before .before .before .before .before .before .before .before .before .before .before .before .before .before .loop in
-    let a = c .before .before .before .before .before .before .before .before .before .before .before .before .before .before .before .before .before .before .before .before .before .before .before .before .before .before .before .before .before .before .before .before .before .before .args in
-    let w = worldAt (l .logs) (l .slots) (l .offices) (l .records) (l .lengths) in
+    let a = c .before .before .before .before .before .before .before .before .before .before .before .before .before .before .before .before .before .before .before .before .before .before .before .before .before .before .before .before .before .before .before .before .before .args in
+    let w = worldAt (l .logs) (l .slots) (l .stage) in
     let end = c .before .before .before .before .before .before .before .before .before .before .before .before .before .before .before .before .before .before .before .before .before .before .before .before .before .part-end .result in
     let bytes = cut (lineHeld (l .held) ++ take (end - l .at) (drop (l .at) (a .chunk .now))) in
-    let k = c .before .before .before .before .before .before .before .before .before .before .before .before .before .before .before .before .aim2 .given .0 .0 in
+    let k = c .before .before .before .before .before .before .before .before .before .before .before .before .before .before .before .before .before .aim2 .given .0 .0 in
     let size = k * 1024 + 1024 - k * 1024 in
     let whole : size ≡ 1024 = omega arith in
     let t = c .before .before .before .before .before .before .before .before .before .before .before .turn-at .result in
     let words = c .before .before .before .before .before .before .before .before .before .before .before .turn-at .last .1 .1 .0 in
     let slots = c .before .before .before .before .before .before .before .before .before .before .before .turn-at .last .1 .1 .1 .0 in
     let e = c .before .before .before .before .before .before .before .before .before .before .before .turn-at .ensures in
-    feeds-next (worldAt (a .logs .now) (a .slots .now) (a .r .offices) (a .r .records) (a .r .lengths)) (lineHeld (a .r .held)) (a .chunk .now) (a .out .now) w (lineHeld (l .held)) (l .out) (l .at) (l .printed) (l .inv) end (c .before .before .before .before .before .before .before .before .before .before .before .before .before .before .before .before .before .before .before .before .before .before .before .before .before .part-end .ensures) (lentAnswer w k size t words slots) (say-turn w bytes (lineHeld (c .before .before .before .before .before .before .before .before .before .before .before .before .before .before .before .before .before .before .before .before .before .before .before .with .result)) (c .before .before .before .before .before .before .before .before .before .before .before .before .before .before .before .before .before .before .before .before .before .line-held .result) (c .before .before .before .before .before .before .before .before .before .before .before .before .before .before .before .before .before .before .aim-of .result) (c .before .before .before .before .before .before .before .before .before .before .before .before .before .before .before .before .before .before .before .before .before .before .before .with .ensures) (c .before .before .before .before .before .before .before .before .before .before .before .before .before .before .before .before .before .before .before .before .before .line-held .ensures) (c .before .before .before .before .before .before .before .before .before .before .before .before .before .before .before .before .before .before .aim-of .ensures) k (c .before .before .before .before .before .before .before .before .before .before .before .before .before .before .before .before .aim2 .given .0 .1 .0) size t words slots (c .before .before .before .before .before .before .before .before .before .before .before .before .before .before .before .before .aim2 .given .1) whole (e .0) (e .1 .0) (e .1 .1))
+    feeds-next (worldAt (a .logs .now) (a .slots .now) (a .r .stage)) (lineHeld (a .r .held)) (a .chunk .now) (a .out .now) w (lineHeld (l .held)) (l .out) (l .at) (l .printed) (l .inv) end (c .before .before .before .before .before .before .before .before .before .before .before .before .before .before .before .before .before .before .before .before .before .before .before .before .before .part-end .ensures) (lentAnswer w k size t words slots) (say-turn w bytes (lineHeld (c .before .before .before .before .before .before .before .before .before .before .before .before .before .before .before .before .before .before .before .before .before .before .before .with .result)) (c .before .before .before .before .before .before .before .before .before .before .before .before .before .before .before .before .before .before .before .before .before .line-held .result) (c .before .before .before .before .before .before .before .before .before .before .before .before .before .before .before .before .before .before .before .aim-of .result) (c .before .before .before .before .before .before .before .before .before .before .before .before .before .before .before .before .before .before .before .before .before .before .before .with .ensures) (c .before .before .before .before .before .before .before .before .before .before .before .before .before .before .before .before .before .before .before .before .before .line-held .ensures) (c .before .before .before .before .before .before .before .before .before .before .before .before .before .before .before .before .before .before .before .aim-of .ensures) k (c .before .before .before .before .before .before .before .before .before .before .before .before .before .before .before .before .before .aim2 .given .0 .1 .0) size t words slots (c .before .before .before .before .before .before .before .before .before .before .before .before .before .before .before .before .before .aim2 .given .1) whole (e .0) (e .1 .0) (e .1 .1))
     (lineHeld (c .before .before .before .before .before .before .before .before .before .before .before .before .before .before .before .before .before .before .before .before .none .result)) (c .before .before .print2 .last .0) (c .before .before .print2 .result) (ap lineHeld (c .before .before .before .before .before .before .before .before .before .before .before .before .before .before .before .before .before .before .before .before .none .ensures)) (c .before .before .before .before .before .before .before .before .before .before .before .before .before .before .before .before .before .before .before .before .before .before .if1 .left) (c .before .before .print2 .ensures .0) (c .before .before .print2 .ensures .1) (same-len-mid (k * 1024) size (l .logs) words (c .before .before .before .before .before .before .before .before .before .before .before .turn-at .kept .1 .1 .0) ∙ l .inv .logs) (c .before .before .before .before .before .before .before .before .before .before .before .turn-at .kept .1 .1 .1 .0 ∙ l .inv .slots)
 
 print-requires-3 : tie.Need-print-requires-3 Inv-loop μ-loop
-print-requires-3 c κs = room (c .before .before .before .before .before .before .before .before)
+print-requires-3 c κs = room (c .before .before .before .before .before .before .before)
 
 loop-less-3 : tie.Need-loop-less-3 Inv-loop μ-loop
-loop-less-3 c = less (c .before .before .before .before .before .before .before .before .before .before .before)
+loop-less-3 c = less (c .before .before .before .before .before .before .before .before .before .before)
 
 loop-again-3 : tie.Need-loop-again-3 Inv-loop μ-loop
 loop-again-3 c =
-    let l = c .before .before .before .before .before .before .before .before .before .before .before .before .before .before .before .loop in
-    let a = c .before .before .before .before .before .before .before .before .before .before .before .before .before .before .before .before .before .before .before .before .before .before .before .args in
-    let w = worldAt (l .logs) (l .slots) (l .offices) (l .records) (l .lengths) in
-    let end = c .before .before .before .before .before .before .before .before .before .before .before .before .before .before .part-end .result in
+    let l = c .before .before .before .before .before .before .before .before .before .before .before .before .before .before .loop in
+    let a = c .before .before .before .before .before .before .before .before .before .before .before .before .before .before .before .before .before .before .before .before .before .args in
+    let w = worldAt (l .logs) (l .slots) (l .stage) in
+    let end = c .before .before .before .before .before .before .before .before .before .before .before .before .before .part-end .result in
     let bytes = cut (lineHeld (l .held) ++ take (end - l .at) (drop (l .at) (a .chunk .now))) in
-    feeds-next (worldAt (a .logs .now) (a .slots .now) (a .r .offices) (a .r .records) (a .r .lengths)) (lineHeld (a .r .held)) (a .chunk .now) (a .out .now) w (lineHeld (l .held)) (l .out) (l .at) (l .printed) (l .inv) end (c .before .before .before .before .before .before .before .before .before .before .before .before .before .before .part-end .ensures) (record { world = w; answer = c .before .before .before .before .ask .result }) (say-nothing w bytes (lineHeld (c .before .before .before .before .before .before .before .before .before .before .before .before .with .result)) (c .before .before .before .before .before .before .before .before .before .before .line-held .result) (c .before .before .before .before .before .before .before .aim-of .result) (c .before .before .before .before .before .before .before .before .before .before .before .before .with .ensures) (c .before .before .before .before .before .before .before .before .before .before .line-held .ensures) (c .before .before .before .before .before .before .before .aim-of .ensures) (c .before .before .before .before .ask .result) (c .before .before .before .before .before .enum-told .given .1) (c .before .before .before .before .ask .ensures))
-    (lineHeld (c .before .before .before .before .before .before .before .before .before .none .result)) (c .before .before .print3 .last .0) (c .before .before .print3 .result) (ap lineHeld (c .before .before .before .before .before .before .before .before .before .none .ensures)) (c .before .before .before .before .before .before .before .before .before .before .before .if1 .left) (c .before .before .print3 .ensures .0) (c .before .before .print3 .ensures .1) (l .inv .logs) (l .inv .slots)
+    feeds-next (worldAt (a .logs .now) (a .slots .now) (a .r .stage)) (lineHeld (a .r .held)) (a .chunk .now) (a .out .now) w (lineHeld (l .held)) (l .out) (l .at) (l .printed) (l .inv) end (c .before .before .before .before .before .before .before .before .before .before .before .before .before .part-end .ensures) (record { world = w; answer = c .before .before .before .ask .result }) (say-nobody w bytes (lineHeld (c .before .before .before .before .before .before .before .before .before .before .before .with .result)) (c .before .before .before .before .before .before .before .before .before .line-held .result) (c .before .before .before .before .before .before .before .aim-of .result) (c .before .before .before .before .before .before .before .before .before .before .before .with .ensures) (c .before .before .before .before .before .before .before .before .before .line-held .ensures) (c .before .before .before .before .before .before .before .aim-of .ensures) (c .before .before .before .ask .result) (c .before .before .before .before .before .enum-told .given .1) (c .before .before .before .ask .ensures))
+    (lineHeld (c .before .before .before .before .before .before .before .before .none .result)) (c .before .before .print3 .last .0) (c .before .before .print3 .result) (ap lineHeld (c .before .before .before .before .before .before .before .before .none .ensures)) (c .before .before .before .before .before .before .before .before .before .before .if1 .left) (c .before .before .print3 .ensures .0) (c .before .before .print3 .ensures .1) (l .inv .logs) (l .inv .slots)
 
 pub feed-all-spec : {M : Type 1} → statement M
 feed-all-spec =
@@ -205,14 +190,14 @@ feed-all-spec =
     mul-from
     add-to
     mul-record
-    array-copy-out-record
+    element-copy-out-record
     mul-turn-at
     (λ c. search needs)
     (λ c. search needs)
     part-turn-at-end
     turn-at-requires
-    mul-records
-    array-set-from-records
+    mul-next
+    element-set-from-next
     print-requires-2
     loop-less-2
     loop-again-2

@@ -1,9 +1,9 @@
 -- In each arm the command is what the pattern says.
 use mathlib.Core.Path.{refl, sym, ap, _∙_}
-use Rattle.rehearsal.specs.Lines.{atOffice, commandAim}
+use Rattle.stage.specs.Aims.{atOffice, commandAim}
 use borrow.Author.Needs.{needs}
-use Rattle.rehearsal.proofs.aims.command_aim.Statement.{statement}
-use Rattle.rehearsal.proofs.aims.command_aim.Tie as tie
+use Rattle.stage.proofs.aims.command_aim.Statement.{statement}
+use Rattle.stage.proofs.aims.command_aim.Tie as tie
 
 returns : tie.Need-returns
 unfolding commandAim

@@ -5,9 +5,9 @@ use native.Mathlib.Omega.{arith}
 use Prim.Native.Nat.{ℕ, _+_, _-_, _*_, _≤_}
 use lib.ListN.{length, set}
 use Rattle.protocol.proofs.Tests.{length-mapped}
-use Rattle.rehearsal.proofs.Fresh.{freshTo, fresh-next, fresh-ends}
-use Rattle.rehearsal.proofs.founding.fresh_all.Statement.{statement}
-use Rattle.rehearsal.proofs.founding.fresh_all.Tie as tie
+use Rattle.stage.proofs.Fresh.{freshTo, fresh-next, fresh-ends}
+use Rattle.stage.proofs.founding.fresh_all.Statement.{statement}
+use Rattle.stage.proofs.founding.fresh_all.Tie as tie
 
 abbrev Inv-loop : tie.InvT-loop
 Inv-loop n weights logs fresh₀ k₀ fresh k = (k ≤ 8) × (length fresh₀ ≡ 8) × (fresh ≡ freshTo n weights logs fresh₀ k)

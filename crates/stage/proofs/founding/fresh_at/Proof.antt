@@ -5,10 +5,10 @@ use Prim.Native.Nat.{ℕ, _+_, _-_, _*_}
 use lib.ListN.{take, drop}
 use Rattle.frame.specs.declared.founding.Founded.{Founded}
 use Rattle.frame.specs.Founding.{foundOf}
-use Rattle.rehearsal.specs.Founding.{freshAt}
+use Rattle.stage.specs.Founding.{freshAt}
 use borrow.Author.Needs.{needs}
-use Rattle.rehearsal.proofs.founding.fresh_at.Statement.{statement}
-use Rattle.rehearsal.proofs.founding.fresh_at.Tie as tie
+use Rattle.stage.proofs.founding.fresh_at.Statement.{statement}
+use Rattle.stage.proofs.founding.fresh_at.Tie as tie
 
 returns : tie.Need-returns
 unfolding freshAt

@@ -1,9 +1,9 @@
 -- The tests that led to each return are those by which the definition picks.
 use borrow.Author.Tests.{lt-ltb, le-ltb}
 use Rattle.protocol.specs.Tests.{pick}
-use Rattle.rehearsal.specs.Lines.{atOffice}
-use Rattle.rehearsal.proofs.aims.at_office.Statement.{statement}
-use Rattle.rehearsal.proofs.aims.at_office.Tie as tie
+use Rattle.stage.specs.Aims.{atOffice}
+use Rattle.stage.proofs.aims.at_office.Statement.{statement}
+use Rattle.stage.proofs.aims.at_office.Tie as tie
 
 returns : tie.Need-returns
 unfolding atOffice pick

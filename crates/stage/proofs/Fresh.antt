@@ -15,8 +15,9 @@ use Rattle.frame.specs.declared.Record.{Record}
 use Rattle.frame.specs.State.{zeroRecord}
 use Rattle.frame.specs.declared.founding.Founded.{Founded}
 use Rattle.frame.specs.Founding.{foundOf}
-use Rattle.rehearsal.specs.declared.founding.Founding.{Founding}
-use Rattle.rehearsal.specs.Founding.{freshAt, freshFrom, foundNumber, founded}
+use Rattle.stage.specs.declared.Stage.{Stage}
+use Rattle.stage.specs.declared.founding.Founding.{Founding}
+use Rattle.stage.specs.Founding.{freshAt, freshFrom, foundNumber, founded}
 
 module _ (n : ℕ) (ws logs : List ℕ) where
   fresh-length : (count k : ℕ) → length (freshFrom n ws logs count k) ≡ count
@@ -44,14 +45,14 @@ module _ (n : ℕ) (ws logs : List ℕ) where
     fresh-ends k h = fill-end zeroRecord (freshFrom n ws logs 8 0) records (fresh-length 8 0 ∙ sym eight) k (omega arith)
 
 -- a founding by what Found answered at office 0
-module _ (n : ℕ) (ws : List ℕ) (offices : ℕ) (records : List Record) (lengths logs : List ℕ) (f : Founded) (a : Answer) (ef : f ≡ foundOf n 0 ws (take 1024 logs)) (ea : a ≡ saysOne letterF (f .number)) where
+module _ (stage : Stage) (n : ℕ) (ws logs : List ℕ) (f : Founded) (a : Answer) (ef : f ≡ foundOf n 0 ws (take 1024 logs)) (ea : a ≡ saysOne letterF (f .number)) where
   number-is : f .number ≡ foundNumber n ws logs
   number-is = ap (λ (x : Founded). x .number) ef
 
-  pub found-refused : (f .number ≡ 0 → ⊥) → _≡_ {A = Founding} (record { offices = offices; records = records; lengths = lengths; answer = a }) (founded n ws offices records lengths logs)
+  pub found-refused : (f .number ≡ 0 → ⊥) → _≡_ {A = Founding} (record { stage = stage; answer = a }) (founded stage n ws logs)
   unfolding founded pick
   found-refused h = rw (ea, number-is, ne-eqb (foundNumber n ws logs) 0 (λ z. h (number-is ∙ z)))
 
-  pub found-done : (fresh : List Record) → f .number ≡ 0 → fresh ≡ freshFrom n ws logs 8 0 → _≡_ {A = Founding} (record { offices = n; records = fresh; lengths = 0 ∷ 0 ∷ 0 ∷ 0 ∷ []; answer = a }) (founded n ws offices records lengths logs)
+  pub found-done : (fresh : List Record) → f .number ≡ 0 → fresh ≡ freshFrom n ws logs 8 0 → _≡_ {A = Founding} (record { stage = record { offices = n; records = fresh; lengths = 0 ∷ 0 ∷ 0 ∷ 0 ∷ [] }; answer = a }) (founded stage n ws logs)
   unfolding founded pick
   found-done fresh h e = rw (ea, e, number-is, eq-eqb (foundNumber n ws logs) 0 (sym number-is ∙ h))

@@ -9,8 +9,9 @@ use Rattle.commands.specs.Command.{letterF}
 use Rattle.frame.specs.declared.Record.{Record}
 use Rattle.frame.specs.Founding.{foundOf}
 use Rattle.turns.specs.Answers.{saysOne}
-use Rattle.rehearsal.specs.World.{World, logOf}
-use Rattle.rehearsal.specs.declared.founding.Founding.{Founding}
+use Rattle.stage.specs.World.{logOf}
+use Rattle.stage.specs.declared.Stage.{Stage}
+use Rattle.stage.specs.declared.founding.Founding.{Founding}
 
 -- what Found gives at office k; all zero from office n on
 unfoldable pub freshAt : ℕ → List ℕ → List ℕ → ℕ → Record
@@ -25,8 +26,13 @@ freshFrom n ws logs (suc count) k = freshAt n ws logs k ∷ freshFrom n ws logs 
 abbrev pub foundNumber : ℕ → List ℕ → List ℕ → ℕ
 foundNumber n ws logs = foundOf n 0 ws (logOf logs 0) .number
 
-unfoldable pub founded : ℕ → List ℕ → ℕ → List Record → List ℕ → List ℕ → Founding
-founded n ws offices records lengths logs =
-    pick (eqb (foundNumber n ws logs) 0)
-    (record { offices = n; records = freshFrom n ws logs 8 0; lengths = replicate 4 0; answer = saysOne letterF (foundNumber n ws logs) })
-    (record { offices = offices; records = records; lengths = lengths; answer = saysOne letterF (foundNumber n ws logs) })
+-- a done founding makes the offices anew and empties the slots
+abbrev pub foundStage : ℕ → List ℕ → List ℕ → Stage
+foundStage n ws logs = record { offices = n; records = freshFrom n ws logs 8 0; lengths = replicate 4 0 }
+
+unfoldable pub founded : Stage → ℕ → List ℕ → List ℕ → Founding
+founded stage n ws logs =
+    record {
+      stage = pick (eqb (foundNumber n ws logs) 0) (foundStage n ws logs) stage;
+      answer = saysOne letterF (foundNumber n ws logs);
+    }

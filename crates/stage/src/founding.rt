@@ -2,16 +2,17 @@
 ghost use mathlib.Core.Path.{_≡_};
 ghost use Prim.Native.Nat.{_<_};
 ghost use lib.ListN.{length};
-ghost use Rattle.rehearsal.specs.Founding.{freshAt, freshFrom, founded};
+ghost use Rattle.stage.specs.Founding.{freshAt, freshFrom, founded};
+ghost use Rattle.stage.specs.World.{nobody};
+use crate::Stage;
 use answers::Answer;
+use ballots::Ballot;
 use frame::Record;
 use turns::says_one;
 
-// How many offices there are after it, their records and the slots' lengths, and the answer.
+// The stage after it, and the answer.
 pub struct Founding {
-    pub offices: usize,
-    pub records: [Record; 8],
-    pub lengths: [usize; 4],
+    pub stage: Stage,
     pub answer: Answer,
 }
 
@@ -39,33 +40,43 @@ fn fresh_all(n: usize, weights: [u16; 8], logs: &[u32], records: [Record; 8]) ->
     fresh
 }
 
-// A founding of n offices; where it is refused, all stays as it was.
-pub fn found(
-    n: usize,
-    weights: [u16; 8],
-    logs: &[u32],
-    offices: usize,
-    records: [Record; 8],
-    lengths: [usize; 4],
-) -> Founding
+// No office, and empty slots.
+pub fn nobody() -> Stage
+    ensures { λ r. ⌜ r ≡ nobody ⌝ }
+{
+    let none = Ballot::none();
+    let zero = Record {
+        n: 0,
+        own: 0,
+        weights: [0; 8],
+        settled: 0,
+        ballots: [none; 8],
+    };
+    Stage {
+        offices: 0,
+        records: [zero; 8],
+        lengths: [0; 4],
+    }
+}
+
+// A founding of n offices; where it is refused, all stays as it was. Public for the rehearsal, which lends the eight logs.
+pub fn found(stage: Stage, n: usize, weights: [u16; 8], logs: &[u32]) -> Founding
     requires { ⌜ length (now logs) ≡ 8192 ⌝ }
-    ensures { λ r. ⌜ r ≡ founded n weights offices records lengths (now (logs .entry)) ⌝ }
+    ensures { λ r. ⌜ r ≡ founded stage n weights (now (logs .entry)) ⌝ }
 {
     let first = Record::found(n, 0, weights, &logs[..1024]);
     let answer = says_one(b'f', first.number);
     if first.number != 0 {
-        return Founding {
-            offices,
-            records,
-            lengths,
-            answer,
-        };
+        return Founding { stage, answer };
     }
+    let records = stage.records;
     let fresh = fresh_all(n, weights, logs, records);
     Founding {
-        offices: n,
-        records: fresh,
-        lengths: [0; 4],
+        stage: Stage {
+            offices: n,
+            records: fresh,
+            lengths: [0; 4],
+        },
         answer,
     }
 }

@@ -1,9 +1,9 @@
 -- A command's aim, or none.
 use mathlib.Core.Path.{_∙_}
-use Rattle.rehearsal.specs.Lines.{aimOf}
+use Rattle.stage.specs.Aims.{aimOf}
 use borrow.Author.Needs.{needs}
-use Rattle.rehearsal.proofs.aims.aim_of.Statement.{statement}
-use Rattle.rehearsal.proofs.aims.aim_of.Tie as tie
+use Rattle.stage.proofs.aims.aim_of.Statement.{statement}
+use Rattle.stage.proofs.aims.aim_of.Tie as tie
 
 returns : tie.Need-returns
 unfolding aimOf

@@ -1,6 +1,6 @@
 // Whom a line is for.
 ghost use mathlib.Core.Path.{_≡_};
-ghost use Rattle.rehearsal.specs.Lines.{atOffice, commandAim, aimOf};
+ghost use Rattle.stage.specs.Aims.{atOffice, commandAim, aimOf};
 use commands::Command;
 use commands::Parsed;
 
@@ -9,7 +9,7 @@ pub enum Aim {
     Everyone(usize),
     // an office that is there, and its command
     At(usize, Command),
-    Nothing,
+    Nobody,
 }
 
 // The office, if it is there.
@@ -17,10 +17,10 @@ fn at_office(offices: usize, k: usize, command: Command) -> Aim
     ensures { λ r. ⌜ r ≡ atOffice offices k command ⌝ }
 {
     if k >= offices {
-        return Aim::Nothing;
+        return Aim::Nobody;
     }
     if k >= 8 {
-        return Aim::Nothing;
+        return Aim::Nobody;
     }
     Aim::At(k, command)
 }
@@ -43,7 +43,7 @@ pub fn aim_of(offices: usize, parsed: Parsed) -> Aim
     ensures { λ r. ⌜ r ≡ aimOf offices parsed ⌝ }
 {
     let Parsed::Says(command) = parsed else {
-        return Aim::Nothing;
+        return Aim::Nobody;
     };
     command_aim(offices, command)
 }
