@@ -1,8 +1,10 @@
 -- Each way out of an issue on a sound record, and what a done issue leaves.
 --     refused-line, refused-code, refused-full, refused-long, not-refused     the protocol's number
---     issue-refused, issue-held     the whole answer
+--     number-unsound, number-sound, refuse-line, refuse-code, refuse-full, refuse-long, refuse-not     the call's number, by the record's fields
+--     issue-held                    an entry more in the own ballot is an entry more in the own tail
 --     issue-sound, issue-state      a done issue leaves a sound record, with the state that has the entry issued
 --     issue-keeps                   a refused one leaves the record
+--     allowed, issue-refused, issue-done     what a number 0 allows, and the whole answer
 -- Assumes nothing.
 use mathlib.Core.Path.{_≡_, refl, sym, ap, ap₂, subst₂, _∙_}
 use mathlib.Core.Bool.{Bool, true, false}
@@ -54,29 +56,15 @@ module _ (k line code : ℕ) (o : Office) where
         unfolding refuseIssue
         not-refused h = simp (le-ltb 63 line l, le-ltb 9999 code c, ne-eqb (length (tail o k)) 32 short, ne-eqb (length (o .log) + length (tail o k)) 1024 h)
 
--- ── the whole answer ──
-pub issue-unsound : (r : Record) (words : List ℕ) (line code : ℕ) → soundB r words ≡ false → _≡_ {A = Issued} (record { number = 1; «record» = r }) (issueOf r words line code)
-unfolding issueOf issueNumber pick
-issue-unsound r words line code e = simp e
+-- ── the number, with the record's fields ──
+pub number-unsound : (r : Record) (words : List ℕ) (line code : ℕ) → soundB r words ≡ false → 1 ≡ issueNumber r words line code
+unfolding issueNumber
+number-unsound r words line code e = sym (pick-false (soundB r words) _ 1 e)
 
 module _ (r : Record) (words : List ℕ) (S : Sound r words) (line code : ℕ) where
-  number-is : (k : ℕ) → refuseIssue (r .own) line code (heldBy r words) ≡ k → issueNumber r words line code ≡ k
+  pub number-sound : (k : ℕ) → k ≡ refuseIssue (r .own) line code (heldBy r words) → k ≡ issueNumber r words line code
   unfolding issueNumber
-  number-is k q = pick-true (soundB r words) _ 1 (sound-true r words S) ∙ q
-
-  pub issue-refused : (k : ℕ) → refuseIssue (r .own) line code (heldBy r words) ≡ k → 0 < k → _≡_ {A = Issued} (record { number = k; «record» = r }) (issueOf r words line code)
-  unfolding issueOf
-  issue-refused k q h = λ i. record { number = sym (number-is k q) i; «record» = sym same i }
-    where
-      same : pick (eqb (issueNumber r words line code) 0) (issuedRecord r words line code) r ≡ r
-      same = pick-false (eqb (issueNumber r words line code) 0) _ r (ne-eqb (issueNumber r words line code) 0 (λ z. omega (arith, z, number-is k q)))
-
-  pub issue-does : refuseIssue (r .own) line code (heldBy r words) ≡ 0 → (r' : Record) → r' ≡ issuedRecord r words line code → _≡_ {A = Issued} (record { number = 0; «record» = r' }) (issueOf r words line code)
-  unfolding issueOf
-  issue-does q r' p = λ i. record { number = sym (number-is 0 q) i; «record» = (p ∙ sym same) i }
-    where
-      same : pick (eqb (issueNumber r words line code) 0) (issuedRecord r words line code) r ≡ issuedRecord r words line code
-      same = pick-true (eqb (issueNumber r words line code) 0) _ r (eq-eqb (issueNumber r words line code) 0 (number-is 0 q))
+  number-sound k q = q ∙ sym (pick-true (soundB r words) _ 1 (sound-true r words S))
 
   abbrev len : ℕ
   len = getD (r .ballots) (r .own) offEnd .len
@@ -110,27 +98,26 @@ module _ (r : Record) (words : List ℕ) (S : Sound r words) (line code : ℕ) w
   tail-is : length (tail (heldBy r words) (r .own)) ≡ len
   tail-is = tail-length r words S (r .own) (omega arith)
 
-  pub issue-line : 63 < line → _≡_ {A = Issued} (record { number = 3; «record» = r }) (issueOf r words line code)
-  issue-line h = issue-refused 3 (refused-line (r .own) line code (heldBy r words) h) (omega arith)
+  abbrev refused : ℕ
+  refused = refuseIssue (r .own) line code (heldBy r words)
+
+  pub refuse-line : 63 < line → 3 ≡ refused
+  refuse-line h = sym (refused-line (r .own) line code (heldBy r words) h)
 
   module _ (l : line ≤ 63) where
-    pub issue-code : 9999 < code → _≡_ {A = Issued} (record { number = 3; «record» = r }) (issueOf r words line code)
-    issue-code h = issue-refused 3 (refused-code (r .own) line code (heldBy r words) l h) (omega arith)
+    pub refuse-code : 9999 < code → 3 ≡ refused
+    refuse-code h = sym (refused-code (r .own) line code (heldBy r words) l h)
 
     module _ (c : code ≤ 9999) where
-      pub issue-full : len ≡ 32 → _≡_ {A = Issued} (record { number = 4; «record» = r }) (issueOf r words line code)
-      issue-full h = issue-refused 4 (refused-full (r .own) line code (heldBy r words) l c (tail-is ∙ h)) (omega arith)
+      pub refuse-full : len ≡ 32 → 4 ≡ refused
+      refuse-full h = sym (refused-full (r .own) line code (heldBy r words) l c (tail-is ∙ h))
 
       module _ (short : len ≡ 32 → ⊥) where
-        pub issue-long : r .settled + len ≡ 1024 → _≡_ {A = Issued} (record { number = 5; «record» = r }) (issueOf r words line code)
-        issue-long h = issue-refused 5 (refused-long (r .own) line code (heldBy r words) l c (λ q. short (sym tail-is ∙ q)) (omega (arith, tail-is, log-length r words S))) (omega arith)
+        pub refuse-long : r .settled + len ≡ 1024 → 5 ≡ refused
+        refuse-long h = sym (refused-long (r .own) line code (heldBy r words) l c (λ q. short (sym tail-is ∙ q)) (omega (arith, tail-is, log-length r words S)))
 
-        pub issue-done : (r .settled + len ≡ 1024 → ⊥) → (b : Ballot) → b ≡ pushed (getD (r .ballots) (r .own) offEnd) entry
-            → _≡_ {A = Issued} (record { number = 0; «record» = record { n = r .n; own = r .own; weights = r .weights; settled = r .settled; ballots = set (r .ballots) (r .own) b } }) (issueOf r words line code)
-        issue-done h b q =
-            let F = ballot r words S (r .own) (omega arith) in
-            issue-does (not-refused (r .own) line code (heldBy r words) l c (λ p. short (sym tail-is ∙ p)) (λ p. h (omega (arith, p, tail-is, log-length r words S)))) _
-            (issue-held b q (omega arith))
+        pub refuse-not : (r .settled + len ≡ 1024 → ⊥) → 0 ≡ refused
+        refuse-not h = sym (not-refused (r .own) line code (heldBy r words) l c (λ q. short (sym tail-is ∙ q)) (λ p. h (omega (arith, p, tail-is, log-length r words S))))
 
 issued-words : (r : Record) (words : List ℕ) (S : Sound r words) (line code : ℕ) → wordsWith (withIssue (r .own) (value (r .own) line code) (heldBy r words) .log) words ≡ words
 unfolding withIssue
@@ -175,3 +162,42 @@ module _ (r : Record) (words : List ℕ) (line code : ℕ) (q : issueOf r words 
 pub issue-keeps : (r : Record) (words : List ℕ) (line code : ℕ) → (issueOf r words line code .number ≡ 0 → ⊥) → issueOf r words line code .«record» ≡ r
 unfolding issueOf
 issue-keeps r words line code q = pick-false (eqb (issueNumber r words line code) 0) (issuedRecord r words line code) r (ne-eqb (issueNumber r words line code) 0 q)
+
+-- ── the whole answer ──
+pub issue-refused : (r : Record) (words : List ℕ) (line code k : ℕ) → k ≡ issueNumber r words line code → (k ≡ 0 → ⊥) → _≡_ {A = Issued} (record { number = k; «record» = r }) (issueOf r words line code)
+unfolding issueOf
+issue-refused r words line code k q h = λ i. record { number = q i; «record» = sym (issue-keeps r words line code (λ z. h (q ∙ z))) i }
+
+-- what an issue that is not refused may rely on
+pub record Allowed (r : Record) (words : List ℕ) (line code : ℕ) : Type 0 where
+  pub was : Sound r words
+  pub place : r .own < 8
+  pub line-ok : line ≤ 63
+  pub code-ok : code ≤ 9999
+  pub short : getD (r .ballots) (r .own) offEnd .len < 32
+
+pub allowed : (r : Record) (words : List ℕ) (line code : ℕ) → issueNumber r words line code ≡ 0 → Allowed r words line code
+unfolding issueOf
+allowed r words line code q =
+    let D = issue-made r words line code q in
+    let S = D .was in
+    let H = S .head in
+    let d = Limits.issue-done (r .own) line code (heldBy r words) (D .allowed) in
+    let F = ballot r words S (r .own) (omega arith) in
+    let short : getD (r .ballots) (r .own) offEnd .len ≡ 32 → ⊥ = λ e. d .short (tail-is r words S line code ∙ e) in
+    record {
+      was = S;
+      place = omega arith;
+      line-ok = d .line-ok;
+      code-ok = d .code-ok;
+      short = omega arith;
+    }
+
+pub issue-done : (r : Record) (words : List ℕ) (line code : ℕ) → issueNumber r words line code ≡ 0 → (b : Ballot) → b ≡ pushed (getD (r .ballots) (r .own) offEnd) (value (r .own) line code)
+    → _≡_ {A = Issued} (record { number = 0; «record» = record { n = r .n; own = r .own; weights = r .weights; settled = r .settled; ballots = set (r .ballots) (r .own) b } }) (issueOf r words line code)
+unfolding issueOf
+issue-done r words line code q b p =
+    let A = allowed r words line code q in
+    let made = issue-made r words line code q .made in
+    let held = issue-held r words (A .was) line code b p (A .short) in
+    λ i. record { number = sym q i; «record» = (held ∙ sym made) i }
