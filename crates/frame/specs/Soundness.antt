@@ -5,10 +5,11 @@ use mathlib.Core.Bool.{Bool, true}
 use mathlib.Core.List.{List}
 use lib.Dec.{ltb, leb, eqb}
 use lib.ListN.{length, take, drop}
-use Rattle.protocol.specs.Tests.{both, allB}
+use Rattle.protocol.specs.Tests.{both, pick, allB}
 use Rattle.protocol.specs.Entry.{isEntry}
 use Rattle.spelling.specs.Content.{isWeight}
 use Rattle.ballots.specs.Ballots.{ballotFine, isNoBallot, totalWeight}
+use Rattle.ballots.specs.declared.Ballot.{Ballot}
 use Rattle.frame.specs.declared.Record.{Record}
 
 -- "a lent buffer of at least 1024 words"
@@ -31,6 +32,10 @@ unfoldable pub ballotsFine : Record → Bool
 ballotsFine r =
     both (eqb (length (r .ballots)) 8)
     (both (allB (ballotFine (r .n) (r .settled)) (r .ballots)) (allB isNoBallot (drop (r .n) (r .ballots))))
+
+-- the same at one place: a ballot within its limits, and none from office n on
+unfoldable pub fineAt : ℕ → ℕ → ℕ → Ballot → Bool
+fineAt n settled place b = both (ballotFine n settled b) (pick (ltb place n) true (isNoBallot b))
 
 unfoldable pub soundB : Record → List ℕ → Bool
 soundB r words = both (roomy words) (both (headFine (r .n) (r .own) (r .weights)) (both (logFine r words) (ballotsFine r)))

@@ -1,10 +1,8 @@
 // When a record with its log is sound.
 ghost use mathlib.Core.Path.{_≡_};
-ghost use lib.ListN.{drop};
-ghost use Rattle.protocol.specs.Tests.{allB};
-ghost use Rattle.ballots.specs.Ballots.{ballotFine, isNoBallot};
-ghost use Rattle.frame.specs.Soundness.{headFine, soundB};
+ghost use Rattle.frame.specs.Soundness.{headFine, fineAt, soundB};
 use crate::Record;
+use ballots::Ballot;
 
 // Whether a record may have these offices and weights.
 pub fn head_fine(n: usize, own: usize, weights: [u16; 8]) -> bool
@@ -25,37 +23,21 @@ pub fn head_fine(n: usize, own: usize, weights: [u16; 8]) -> bool
     ballots::total_weight(weights) >= 1
 }
 
+// Whether the ballot may stand at this place: it is fine, and from place n on it is none.
+fn fine_at(b: Ballot, place: usize, n: usize, settled: usize) -> bool
+    ensures { λ r. ⌜ r ≡ fineAt n settled place b ⌝ }
+{
+    if !b.fine(n, settled) {
+        return false;
+    }
+    if place < n {
+        return true;
+    }
+    0 == b.len
+}
+
 impl Record {
-    // Whether every ballot is fine. The walk is over the record itself: no copy of the ballots is made.
-    fn all_fine(self) -> bool
-        ensures { λ r. ⌜ r ≡ allB (ballotFine (self .n) (self .settled)) (self .ballots) ⌝ }
-    {
-        let n = self.n;
-        let settled = self.settled;
-        for i in 0..8 {
-            let b = self.ballots[i];
-            if !b.fine(n, settled) {
-                return false;
-            }
-        }
-        true
-    }
-
-    // Whether the ballots from place n on are none.
-    fn none_from_n(self) -> bool
-        ensures { λ r. ⌜ r ≡ allB isNoBallot (drop (self .n) (self .ballots)) ⌝ }
-    {
-        let n = self.n;
-        for i in n..8 {
-            let b = self.ballots[i];
-            if b.len != 0 {
-                return false;
-            }
-        }
-        true
-    }
-
-    // Whether the record with its log is sound.
+    // Whether the record with its log is sound. The walk over the ballots stands here, since a call of it would copy them.
     pub fn sound(self, log: &[u32]) -> bool
         ensures { λ r. ⌜ r ≡ soundB self (now (log .entry)) ⌝ }
     {
@@ -74,9 +56,12 @@ impl Record {
         if !entries::all_entries(&log[..settled], n) {
             return false;
         }
-        if !self.all_fine() {
-            return false;
+        for i in 0..8 {
+            let b = self.ballots[i];
+            if !fine_at(b, i, n, settled) {
+                return false;
+            }
         }
-        self.none_from_n()
+        true
     }
 }
