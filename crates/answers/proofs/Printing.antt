@@ -5,15 +5,15 @@
 --     print-whole      a letter, the numbers, a newline
 -- Assumes nothing.
 use mathlib.Core.Path.{_≡_, refl, sym, ap, _∙_}
-use mathlib.Core.List.{List, [], _∷_, _++_, append-assoc}
-use Prim.Native.Nat.{ℕ, zero, suc, _+_, _-_, _*_, _/_, _%_, _<_, _≤_, zero-le}
+use mathlib.Core.List.{List, [], _∷_, _++_}
+use Prim.Native.Nat.{ℕ, _+_, _-_, _*_, _/_, _%_, _<_, _≤_, zero-le}
 use native.Mathlib.Omega.{arith}
 use native.Mathlib.Numerals.{add-one}
-use lib.ListN.{length, take, drop, getD, set, length-append, length-take, drop-of-length-le}
+use lib.ListN.{length, drop, getD, set, length-append, length-take, drop-of-length-le}
 use lib.Seq.{sets, drop-cons}
 use Rattle.spelling.proofs.Numbers.{sets-append}
 use Rattle.answers.specs.declared.Answer.{Answer}
-use Rattle.answers.specs.Decimal.{glyph, spaced, decimalIn, decimalOf}
+use Rattle.answers.specs.Decimal.{glyph, spaced, decimalIn}
 use Rattle.answers.specs.Answer.{spacedAll, numbersOf, printedOf}
 use Rattle.answers.proofs.Decimals.{decimal-short, digits-more}
 

@@ -4,24 +4,21 @@
 --     more-step, more-end      the numbers of the fields
 --     line-step     a line's first number
 -- Assumes nothing.
-use mathlib.Core.Path.{_≡_, refl, sym, ap, _∙_}
+use mathlib.Core.Path.{_≡_, refl, sym, ap}
 use mathlib.Core.Bool.{Bool, true, false}
-use mathlib.Core.List.{List, [], _∷_, _++_}
-use Prim.Native.Nat.{ℕ, zero, suc, _+_, _-_, _<_, _≤_}
+use mathlib.Core.List.{List, [], _∷_}
+use Prim.Native.Nat.{ℕ, suc, _+_, _-_, _<_, _≤_}
 use native.Mathlib.Numerals.{add-one}
 use native.Mathlib.Omega.{arith}
-use native.Mathlib.Nat.{add-zero}
-use lib.Dec.{ltb, leb, eqb, leb·suc-suc, leb·suc-zero}
+use lib.Dec.{ltb, leb, eqb, leb·suc-suc}
 use lib.ListN.{length, getD, take, drop, set, drop-of-length-le, length-drop}
 use lib.Seq.{drop-cons, drop-drop}
-use borrow.Author.Tests.{le-ltb, lt-ltb, le-leb, lt-leb, eq-eqb, ne-eqb, leb-true, leb-false}
+use borrow.Author.Tests.{lt-ltb, le-leb, lt-leb, leb-true, leb-false}
 use Rattle.protocol.specs.Tests.{pick}
-use Rattle.commands.specs.declared.number.Number.{Number}
 use Rattle.commands.specs.declared.number.Number.the-variants.{Value, Not}
 use Rattle.lines.specs.Parts.{partLength}
 use Rattle.commands.specs.Command.{lineFrom, lineBy, withMore, noLine}
 use Rattle.commands.specs.Number.{byNumber, digitOf, digitsOf, numberOf}
-use Rattle.commands.specs.declared.fields.More.{More}
 use Rattle.commands.specs.Fields.{fields, fieldsFrom, longer, moreAfter, moreOf, noMore}
 
 module _ (v : ℕ) (s : List ℕ) (i : ℕ) where

@@ -1,13 +1,11 @@
 -- What a line says: "`f n w…` founds n offices with the 0 to 8 weights given, the rest zero; `i k line code` issues at office k;
 -- `s k m` sends k's message into slot m; `t k m` takes; `e k` elects; `v k line` views. A line of any other form" is `Other`.
 -- The letters are ASCII codes. Assumes nothing.
-use Prim.Native.Nat.{ℕ, _+_}
-use mathlib.Core.Bool.{Bool}
+use Prim.Native.Nat.{ℕ}
 use mathlib.Core.List.{List, [], _∷_}
-use lib.Dec.{ltb, leb, eqb}
+use lib.Dec.{ltb, eqb}
 use lib.ListN.{length, getD, drop, replicate}
-use Rattle.protocol.specs.Tests.{both, pick}
-use Rattle.commands.specs.declared.Command.{Command}
+use Rattle.protocol.specs.Tests.{pick}
 use Rattle.commands.specs.declared.Command.the-variants.{Found, Issue, Send, Take, Elect, View}
 use Rattle.commands.specs.declared.Parsed.{Parsed}
 use Rattle.commands.specs.declared.Parsed.the-variants.{Says, Other}

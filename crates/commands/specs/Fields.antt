@@ -1,9 +1,9 @@
 -- "Single spaces": a line's fields are what stands between its spaces (32). Two spaces together, and one at an end, make an empty field,
 -- which is no number. Assumes nothing.
-use Prim.Native.Nat.{ℕ, zero, suc, _+_, _-_}
-use mathlib.Core.Bool.{Bool, true, false}
-use mathlib.Core.List.{List, [], _∷_, _++_}
-use lib.Dec.{ltb, leb, eqb}
+use Prim.Native.Nat.{ℕ, _+_}
+use mathlib.Core.Bool.{true, false}
+use mathlib.Core.List.{List, [], _∷_}
+use lib.Dec.{leb, eqb}
 use lib.ListN.{length, drop, replicate, set}
 use Rattle.protocol.specs.Tests.{pick}
 use Rattle.commands.specs.declared.fields.More.{More}

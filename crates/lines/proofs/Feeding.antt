@@ -8,18 +8,17 @@ use mathlib.Core.Path.{_≡_, refl, sym, ap, _∙_}
 use mathlib.Core.Bool.{Bool, true, false}
 use mathlib.Core.List.{List, [], _∷_, _++_, append-assoc, append-nil}
 use Prim.Native.Nat.{ℕ, zero, suc, _+_, _-_, _*_, _<_, _≤_, zero-le}
-use native.Mathlib.Nat.{le-refl, le-of-suc-le-suc, not-suc-le-zero}
+use native.Mathlib.Nat.{le-of-suc-le-suc, not-suc-le-zero}
 use native.Mathlib.Omega.{arith}
-use lib.Dec.{eqb, leb·suc-suc}
-use lib.ListN.{length, getD, take, drop, length-append, length-take, length-drop}
-use lib.Seq.{sets, length-sets, take-all, drop-drop, drop-cons, take-append-le}
+use lib.Dec.{eqb}
+use lib.ListN.{length, take, drop, length-append, length-take, length-drop}
+use lib.Seq.{sets, length-sets, take-all, drop-drop}
 use borrow.Author.Tests.{eq-eqb, ne-eqb}
 use Rattle.protocol.specs.Tests.{pick}
 use Rattle.spelling.proofs.Numbers.{sets-append}
 use Rattle.lines.specs.Parts.{partLength}
 use Rattle.lines.specs.Held.{cut}
 use Rattle.lines.specs.Feeding.{Said, Fed, saidThen, feedBy, finishBy, FedAs}
-use Rattle.lines.proofs.Parts.{part-short, part-within}
 
 take-append-cut : (n : ℕ) (x y : List ℕ) → take n (take n x ++ y) ≡ take n (x ++ y)
 take-append-cut zero x y = refl

@@ -2,8 +2,7 @@
 --     part-stop, part-next, part-none     at a mark, at another byte, at the end
 --     part-within     it ends within the bytes
 -- Assumes nothing.
-use mathlib.Core.Path.{_≡_, refl, sym, ap, _∙_}
-use mathlib.Core.Bool.{Bool, true, false}
+use mathlib.Core.Path.{_≡_}
 use mathlib.Core.List.{List, [], _∷_}
 use Prim.Native.Nat.{ℕ, suc, _+_, _<_, _≤_, zero-le, suc-le-suc}
 use native.Mathlib.Numerals.{add-one}

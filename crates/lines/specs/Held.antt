@@ -1,6 +1,6 @@
 -- A line of which a beginning has been read. "Lines of at most 128 bytes": of a longer one the first 129 are held. Assumes nothing.
 use Prim.Native.Nat.{ℕ}
-use mathlib.Core.List.{List, [], _∷_}
+use mathlib.Core.List.{List}
 use lib.ListN.{take, replicate}
 use Rattle.lines.specs.declared.Held.{Held}
 

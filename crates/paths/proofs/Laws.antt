@@ -7,7 +7,6 @@ use mathlib.Core.Bool.{Bool, true, false, cond}
 use mathlib.Core.Logic.{_⊎_, inl, inr}
 use mathlib.Core.List.{List, [], _∷_, _++_, map, append-assoc, append-nil}
 use Prim.Native.Nat.{ℕ}
-use lib.Dec.{eqb}
 use lib.ListN.{length, drop}
 use borrow.Author.Tests.{eq-eqb}
 use Rattle.protocol.specs.Tests.{pick}
@@ -16,7 +15,7 @@ use Rattle.protocol.specs.Office.{Office, Message}
 use Rattle.protocol.specs.Take.{rebased, rebase, catchUp, adopt, adopts, offers, withTake}
 use Rattle.protocol.proofs.Beginning.{⊏-⊑, ⊑-⊏-trans, ⊏-irrefl, ⊑-append, ⊑-rest, ⊏-cons, extends-true, extends-of, extends-false}
 use Rattle.ballots.specs.declared.Ballot.{Ballot}
-use Rattle.ballots.specs.Ballots.{tailOf, ballotOf}
+use Rattle.ballots.specs.Ballots.{ballotOf}
 use Rattle.ballots.proofs.Laws.{tail-of}
 use Rattle.paths.specs.Paths.{restPast, pastBallot, longerTail, longerBallot, adopted}
 

@@ -2,21 +2,14 @@
 --     say-short      an answer takes at most 65 bytes
 --     say-found, say-turn, say-nobody      a line by its aim
 -- Assumes nothing.
-use mathlib.Core.Path.{_≡_, refl, sym, ap, _∙_}
-use mathlib.Core.Bool.{Bool, true, false}
-use mathlib.Core.List.{List, [], _∷_, _++_}
-use Prim.Native.Nat.{ℕ, _+_, _-_, _*_, _<_, _≤_}
-use native.Mathlib.Omega.{arith}
-use lib.Dec.{ltb, eqb}
-use lib.ListN.{length, getD, set, take, drop}
-use borrow.Author.Tests.{ltb-true}
-use Rattle.protocol.specs.Tests.{pick}
+use mathlib.Core.Path.{_≡_, refl}
+use mathlib.Core.List.{List, _++_}
+use Prim.Native.Nat.{ℕ, _+_, _-_, _*_, _≤_}
+use lib.Dec.{ltb}
+use lib.ListN.{length, take, drop}
 use Rattle.protocol.proofs.Tests.{pick-cases}
-use Rattle.lines.specs.Feeding.{Said}
 use Rattle.commands.specs.declared.Command.{Command}
 use Rattle.commands.specs.declared.Command.the-variants.{Found, Issue, Send, Take, Elect, View}
-use Rattle.commands.specs.declared.Parsed.{Parsed}
-use Rattle.commands.specs.declared.Parsed.the-variants.{Says, Other}
 use Rattle.commands.specs.declared.Line.{Line}
 use Rattle.commands.specs.Command.{lineOf}
 use Rattle.answers.specs.declared.Answer.{Answer}
@@ -33,7 +26,7 @@ use Rattle.stage.specs.declared.founding.Founding.{Founding}
 use Rattle.stage.specs.Aims.{aimOf}
 use Rattle.stage.specs.World.{World, logOf}
 use Rattle.stage.specs.Founding.{founded}
-use Rattle.rehearsal.specs.Lines.{Answered, foundAnswer, turned, turnAnswer, recordAt, aimed, answerLine, sayLine}
+use Rattle.rehearsal.specs.Lines.{Answered, foundAnswer, turned, recordAt, aimed, answerLine, sayLine}
 
 -- an answer has room for three numbers
 abbrev Three : Answer → Type 0

@@ -1,6 +1,6 @@
 -- What a line does to the world, and what it prints. Assumes nothing.
 use Prim.Native.Nat.{ℕ}
-use mathlib.Core.List.{List, [], _∷_}
+use mathlib.Core.List.{List, []}
 use lib.ListN.{getD, set}
 use Rattle.lines.specs.Feeding.{Said, Fed, feedBy, finishBy}
 use Rattle.commands.specs.declared.Line.{Line}

@@ -1,5 +1,5 @@
 -- An aim at an office is at one of the eight. Assumes nothing.
-use mathlib.Core.Path.{_≡_, refl, sym, ap, _∙_}
+use mathlib.Core.Path.{_≡_}
 use Prim.Native.Nat.{ℕ, _<_}
 use native.Mathlib.Omega.{arith}
 use lib.Dec.{ltb}
@@ -11,7 +11,7 @@ use Rattle.commands.specs.declared.Command.the-variants.{Found, Issue, Send, Ta
 use Rattle.commands.specs.declared.Parsed.{Parsed}
 use Rattle.commands.specs.declared.Parsed.the-variants.{Says, Other}
 use Rattle.stage.specs.declared.aims.Aim.{Aim}
-use Rattle.stage.specs.declared.aims.Aim.the-variants.{Everyone, At, Nobody}
+use Rattle.stage.specs.declared.aims.Aim.the-variants.{At, Nobody}
 use Rattle.stage.specs.Aims.{atOffice, commandAim, aimOf}
 
 at-there : (offices k′ : ℕ) (c′ : Command) (k : ℕ) (c : Command) → atOffice offices k′ c′ ≡ At k c → k < 8

@@ -1,6 +1,6 @@
 -- What a call answered, put into a turn: each law takes the call's promise and the answer's. Assumes nothing.
-use mathlib.Core.Path.{_≡_, refl, sym, ap, _∙_}
-use mathlib.Core.List.{List, [], _∷_, _++_}
+use mathlib.Core.Path.{_≡_, sym, ap, _∙_}
+use mathlib.Core.List.{List, _++_}
 use Prim.Native.Nat.{ℕ, _+_, _-_, _*_, _<_, _≤_, min}
 use native.Mathlib.Nat.{min-le-right}
 use lib.Seq.{length-take-le, take-take}
@@ -21,7 +21,7 @@ use Rattle.frame.specs.Taking.{takeOf, takeWords}
 use Rattle.frame.specs.Electing.{electOf}
 use Rattle.frame.specs.Frames.{settledFrameOf, tentativeFrameOf}
 use Rattle.turns.specs.declared.Turn.{Turn}
-use Rattle.turns.specs.Pieces.{pieceOf, withPiece, slotOf, messageIn}
+use Rattle.turns.specs.Pieces.{slotOf, messageIn}
 use Rattle.turns.specs.Answers.{saysOne, saysTwo, saysThree}
 use Rattle.turns.specs.Turns.{issueTurn, sentLengths, sendTurn, sendSlots, takeTurn, takeTurnWords, electTurn, viewTurn}
 

@@ -1,7 +1,7 @@
 -- The answers: "each prints its letter and the number given, then for s the length, for e the count, for v the settled and tentative codes,
 -- refused or not". Assumes nothing.
 use Prim.Native.Nat.{ℕ}
-use mathlib.Core.List.{List, [], _∷_}
+use mathlib.Core.List.{[], _∷_}
 use Rattle.answers.specs.declared.Answer.{Answer}
 
 -- a letter with one, two or three numbers

@@ -1,6 +1,6 @@
 -- A command at an office that is there: what the call answers, and what it leaves. Assumes nothing.
 use Prim.Native.Nat.{ℕ}
-use mathlib.Core.List.{List, [], _∷_}
+use mathlib.Core.List.{List}
 use lib.Dec.{eqb, ltb}
 use lib.ListN.{set}
 use Rattle.protocol.specs.Tests.{pick}

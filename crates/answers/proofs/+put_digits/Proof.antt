@@ -1,11 +1,10 @@
 -- The measure is the places that are left. The digits before the last are written first, the last one behind them.
-use mathlib.Core.Path.{_≡_, refl, sym, ap, _∙_}
+use mathlib.Core.Path.{_≡_, _∙_}
 use native.Mathlib.Nat.{add-zero}
 use native.Mathlib.Omega.{arith}
-use Prim.Native.Nat.{_+_, _-_, _/_, _%_, _≤_}
-use lib.ListN.{length, set, length-set}
-use Rattle.answers.specs.Decimal.{glyph, decimalIn}
-use Rattle.answers.proofs.Decimals.{digits-none, digits-one, digits-more, decimal-short}
+use Prim.Native.Nat.{_+_, _-_, _/_}
+use lib.ListN.{length-set}
+use Rattle.answers.proofs.Decimals.{digits-none, digits-one, decimal-short}
 use Rattle.answers.proofs.Printing.{put-last}
 use Prim.Native.Nat.{ℕ, _<_}
 use borrow.Fn.Kinds.{In}

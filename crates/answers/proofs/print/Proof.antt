@@ -1,9 +1,9 @@
 -- The letter, the numbers and a newline, each behind the other.
 use native.Mathlib.Omega.{arith}
 use native.Mathlib.Nat.{min-le-right}
-use mathlib.Core.Path.{_≡_, refl, sym, ap, subst, _∙_}
+use mathlib.Core.Path.{_≡_, ap, _∙_}
 use mathlib.Core.List.{List}
-use Prim.Native.Nat.{ℕ, suc, _+_, _*_, _≤_, min}
+use Prim.Native.Nat.{ℕ, _+_}
 use lib.ListN.{length, take, set, length-set, length-take}
 use lib.Seq.{sets}
 use Rattle.lines.proofs.Holding.{take-within}

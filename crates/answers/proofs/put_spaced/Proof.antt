@@ -1,9 +1,9 @@
 -- A space, and the digits behind it.
 use native.Mathlib.Omega.{arith}
 use native.Mathlib.Numerals.{add-one}
-use mathlib.Core.Path.{_≡_, refl, sym, ap, _∙_}
-use Prim.Native.Nat.{ℕ, suc, _+_}
-use lib.ListN.{length, set, length-set}
+use mathlib.Core.Path.{ap, _∙_}
+use Prim.Native.Nat.{ℕ}
+use lib.ListN.{set, length-set}
 use lib.Seq.{sets}
 use Rattle.answers.specs.Decimal.{decimalIn}
 use borrow.Author.Needs.{needs}

@@ -1,6 +1,6 @@
 -- The first field's number, then those of the fields behind it.
 use native.Mathlib.Omega.{arith}
-use mathlib.Core.Path.{_≡_, refl, sym, _∙_}
+use mathlib.Core.Path.{sym, _∙_}
 use Rattle.commands.specs.Number.{byNumber}
 use Rattle.lines.proofs.Parts.{part-within}
 use Rattle.commands.proofs.Walks.{line-step}

@@ -1,7 +1,7 @@
 -- The tests that led to each return are those by which the definition picks.
 use borrow.Author.Tests.{lt-ltb, le-ltb, eq-eqb, ne-eqb}
 use native.Mathlib.Omega.{arith}
-use mathlib.Core.Path.{_≡_, refl, sym, _∙_}
+use mathlib.Core.Path.{_∙_}
 use lib.ListN.{length, getD}
 use Rattle.protocol.specs.Tests.{pick}
 use Rattle.commands.specs.Command.{lineOf}

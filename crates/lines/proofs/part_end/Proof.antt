@@ -2,7 +2,7 @@
 use borrow.Author.Needs.{needs}
 use native.Mathlib.Omega.{arith}
 use mathlib.Core.Path.{_≡_, refl}
-use Prim.Native.Nat.{ℕ, suc, _+_, _-_, _≤_}
+use Prim.Native.Nat.{suc, _+_, _-_}
 use lib.ListN.{length, drop}
 use Rattle.lines.specs.Parts.{partLength}
 use Rattle.lines.proofs.Parts.{part-stop, part-next, part-none}

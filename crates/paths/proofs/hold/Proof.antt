@@ -3,7 +3,7 @@ use native.Mathlib.Omega.{arith}
 use mathlib.Core.Path.{_≡_, refl, ap, ap₂, _∙_}
 use mathlib.Core.List.{List, _++_}
 use Prim.Native.Nat.{ℕ, _-_, _≤_}
-use lib.ListN.{length, getD, drop, set, replicate}
+use lib.ListN.{length, getD, set, replicate}
 use lib.Seq.{take-all}
 use Rattle.paths.proofs.Walks.{zeros-behind}
 use Rattle.entries.proofs.Fill.{filled, front-step}

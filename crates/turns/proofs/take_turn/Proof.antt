@@ -1,7 +1,7 @@
 -- The call's promise and the answer's; the bytes that are lent are the slot's message.
 use native.Mathlib.Omega.{arith}
-use mathlib.Core.Path.{_≡_, ap, _∙_}
-use Prim.Native.Nat.{ℕ, _+_, _-_, _*_}
+use mathlib.Core.Path.{_≡_, _∙_}
+use Prim.Native.Nat.{_+_, _-_, _*_}
 use lib.ListN.{take, drop}
 use Rattle.turns.specs.Pieces.{messageIn}
 use Rattle.turns.proofs.Turning.{taken-turn, taken-words, message-lent}

@@ -1,7 +1,6 @@
 -- In each arm the command is what the pattern says, and the arm's call promises what the definition says there.
 use borrow.Author.Tests.{le-ltb, lt-ltb}
-use mathlib.Core.Path.{refl, _∙_}
-use native.Mathlib.Omega.{arith}
+use mathlib.Core.Path.{refl}
 use Rattle.protocol.specs.Tests.{pick}
 use Rattle.turns.specs.Turns.{turnOf, turnWords, turnSlots}
 use borrow.Author.Needs.{needs}

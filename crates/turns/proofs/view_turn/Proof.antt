@@ -1,5 +1,4 @@
 -- The call's promise and the answer's.
-use native.Mathlib.Omega.{arith}
 use Rattle.turns.proofs.Turning.{viewed-turn}
 use borrow.Author.Needs.{needs}
 use Rattle.turns.proofs.view_turn.Statement.{statement}

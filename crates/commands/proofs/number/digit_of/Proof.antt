@@ -2,8 +2,8 @@
 use borrow.Author.Needs.{needs}
 use borrow.Author.Tests.{le-leb, lt-leb}
 use native.Mathlib.Omega.{arith}
-use mathlib.Core.Path.{_≡_, sym, ap, _∙_}
-use Prim.Native.Nat.{ℕ, _+_, _-_, _*_}
+use mathlib.Core.Path.{ap}
+use Prim.Native.Nat.{_-_}
 use Rattle.protocol.specs.Tests.{both, pick}
 use Rattle.commands.specs.declared.number.Number.the-variants.{Value}
 use Rattle.commands.specs.Number.{isDigit, appended, digitOf}

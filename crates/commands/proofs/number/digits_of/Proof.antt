@@ -2,9 +2,9 @@
 use borrow.Author.Needs.{needs}
 use native.Mathlib.Omega.{arith}
 use mathlib.Core.Path.{_≡_, refl, sym, _∙_}
-use Prim.Native.Nat.{ℕ, _+_, _-_, _≤_}
-use lib.ListN.{length, drop, getD}
-use Rattle.commands.specs.Number.{byNumber, digitOf, digitsOf}
+use Prim.Native.Nat.{_-_, _≤_}
+use lib.ListN.{length, drop}
+use Rattle.commands.specs.Number.{byNumber, digitsOf}
 use Rattle.commands.proofs.Walks.{digits-step, digits-end}
 use Rattle.commands.proofs.number.digits_of.Statement.{statement}
 use Rattle.commands.proofs.number.digits_of.Tie as tie

@@ -1,12 +1,12 @@
 -- The invariant: the bytes so far and those that are left make the line that is to be held.
 use borrow.Author.Needs.{needs}
 use native.Mathlib.Omega.{arith}
-use mathlib.Core.Path.{_≡_, refl, sym, ap, _∙_}
+use mathlib.Core.Path.{_≡_, refl, ap, _∙_}
 use mathlib.Core.List.{List, _++_}
-use Prim.Native.Nat.{ℕ, suc, _+_, _-_, _≤_, min}
+use Prim.Native.Nat.{ℕ, _+_, _-_, _≤_}
 use native.Mathlib.Nat.{min-le-right}
-use lib.ListN.{length, take, drop, getD, length-set}
-use Rattle.lines.specs.Held.{cut, lineHeld}
+use lib.ListN.{length, take, length-set}
+use Rattle.lines.specs.Held.{cut}
 use Rattle.lines.proofs.Holding.{HeldRest, held-next, held-full, held-ends, take-within}
 use Rattle.lines.proofs.Held.with.Statement.{statement}
 use Rattle.lines.proofs.Held.with.Tie as tie

@@ -1,9 +1,8 @@
 -- A newline is fed where a line is held.
 use borrow.Author.Needs.{needs}
-use mathlib.Core.Path.{_≡_, refl, sym, ap, _∙_}
-use mathlib.Core.List.{List, [], _∷_}
+use mathlib.Core.Path.{_≡_, ap}
 use native.Mathlib.Omega.{arith}
-use Prim.Native.Nat.{ℕ, _*_, _≤_}
+use Prim.Native.Nat.{ℕ}
 use lib.ListN.{length, take, length-take}
 use Rattle.lines.specs.Held.{lineHeld}
 use Rattle.lines.proofs.Feeding.{finish-none, finish-line}

@@ -2,19 +2,18 @@
 -- the whole chunk gives.
 use borrow.Author.Needs.{needs}
 use borrow.Rule.Slice.PartMut.{same-len-mid}
-use mathlib.Core.Path.{_≡_, refl, sym, ap, _∙_}
-use mathlib.Core.List.{List, [], _∷_, _++_}
+use mathlib.Core.Path.{_≡_, sym, ap, _∙_}
+use mathlib.Core.List.{List, _++_}
 use native.Mathlib.Omega.{arith}
 use Prim.Native.Nat.{ℕ, _+_, _-_, _*_, _<_, _≤_}
-use lib.ListN.{length, take, drop, length-take, length-set}
-use Rattle.protocol.proofs.Tests.{length-mapped}
+use lib.ListN.{length, take, drop, length-take}
 use Rattle.lines.specs.Held.{lineHeld, cut}
 use Rattle.lines.proofs.Parts.{part-within}
 use Rattle.lines.proofs.Feeding.{feed-begins, feed-ends}
 use Rattle.stage.specs.declared.Stage.{Stage}
 use Rattle.stage.specs.World.{World}
 use Rattle.stage.proofs.Aiming.{aim-there}
-use Rattle.rehearsal.specs.Lines.{sayLine, foundAnswer, Answered}
+use Rattle.rehearsal.specs.Lines.{sayLine, foundAnswer}
 use Rattle.rehearsal.proofs.Says.{say-found, say-turn, lentAnswer, say-nobody}
 use Rattle.rehearsal.proofs.Feeds.{FeedsRest, feeds-next}
 use Rattle.rehearsal.proofs.feeding.feed_all.Statement.{statement}

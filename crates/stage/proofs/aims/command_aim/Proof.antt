@@ -1,6 +1,6 @@
 -- In each arm the command is what the pattern says.
-use mathlib.Core.Path.{refl, sym, ap, _∙_}
-use Rattle.stage.specs.Aims.{atOffice, commandAim}
+use mathlib.Core.Path.{_∙_}
+use Rattle.stage.specs.Aims.{commandAim}
 use borrow.Author.Needs.{needs}
 use Rattle.stage.proofs.aims.command_aim.Statement.{statement}
 use Rattle.stage.proofs.aims.command_aim.Tie as tie

@@ -1,8 +1,8 @@
 -- The invariant: the first k records are fresh.
 use borrow.Author.Needs.{needs}
-use mathlib.Core.Path.{_≡_, refl, sym, ap, _∙_}
+use mathlib.Core.Path.{_≡_, refl, ap, _∙_}
 use native.Mathlib.Omega.{arith}
-use Prim.Native.Nat.{ℕ, _+_, _-_, _*_, _≤_}
+use Prim.Native.Nat.{_-_, _≤_}
 use lib.ListN.{length, set}
 use Rattle.protocol.proofs.Tests.{length-mapped}
 use Rattle.stage.proofs.Fresh.{freshTo, fresh-next, fresh-ends}
