@@ -1,1 +1,2 @@
+-- Laws of the walks over a line.
 pub mod Walks

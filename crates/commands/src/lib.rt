@@ -1,7 +1,7 @@
 // The rehearsal's commands: what one line of input asks for.
 ghost use mathlib.Core.Path.{_≡_};
 ghost use Prim.Native.Nat.{_<_};
-ghost use lib.ListN.{length, getD, drop};
+ghost use lib.ListN.{length, drop};
 ghost use Rattle.commands.specs.Command.{noLine, withOne, withTwo, withThree, commandBy, withMore, lineFrom, lineOf};
 
 mod fields;

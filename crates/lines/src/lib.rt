@@ -1,6 +1,6 @@
 // Cutting bytes: where a part ends, and the line that is held until its newline comes.
 ghost use mathlib.Core.Path.{_≡_};
-ghost use mathlib.Core.List.{[], _++_};
+ghost use mathlib.Core.List.{_++_};
 ghost use Prim.Native.Nat.{_+_, min};
 ghost use lib.ListN.{drop};
 ghost use Rattle.lines.specs.Parts.{partLength};

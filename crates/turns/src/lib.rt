@@ -1,11 +1,8 @@
 // One office's turn: its answer to a command, with what that leaves of its record, its log and the message slots.
 ghost use mathlib.Core.Path.{_≡_};
-ghost use mathlib.Core.List.{[], _∷_};
 ghost use Prim.Native.Nat.{_<_};
-ghost use lib.Dec.{eqb};
 ghost use Rattle.frame.specs.Electing.{electWords};
-ghost use lib.ListN.{length, set};
-ghost use Rattle.protocol.specs.Tests.{pick};
+ghost use lib.ListN.{length};
 ghost use Rattle.turns.specs.Answers.{saysOne, saysTwo, saysThree, question};
 ghost use Rattle.turns.specs.Turns.{stays, issueTurn, sentLengths, sendTurn, sendSlots, takeTurn, takeTurnWords, electTurn, viewTurn, turnOf, turnWords, turnSlots};
 use answers::Answer;
