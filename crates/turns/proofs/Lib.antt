@@ -1,2 +1,3 @@
 -- Laws of an office's turn.
 pub mod Turning
+pub mod Printed
