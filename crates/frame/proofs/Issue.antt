@@ -1,6 +1,5 @@
 -- Each way out of an issue on a sound record, and what a done issue leaves.
---     refused-line, refused-code, refused-full, refused-long, not-refused     the protocol's number
---     number-unsound, number-sound, refuse-line, refuse-code, refuse-full, refuse-long, refuse-not     the call's number, by the record's fields
+--     number-unsound, number-sound, number-at     the call's number, by the record's fields
 --     issue-held                    an entry more in the own ballot is an entry more in the own tail
 --     issue-sound, issue-state      a done issue leaves a sound record, with the state that has the entry issued
 --     issue-keeps                   a refused one leaves the record
@@ -25,36 +24,11 @@ use Rattle.ballots.specs.declared.Ballot.{Ballot}
 use Rattle.ballots.proofs.Laws as B
 use Rattle.frame.specs.State.{heldBy, wordsWith}
 use Rattle.frame.specs.Soundness.{soundB, Sound}
-use Rattle.frame.specs.Issuing.{issueNumber, issuedRecord, issueOf}
+use Rattle.frame.specs.Issuing.{refusalAt, issueNumber, issuedRecord, issueOf}
 use Rattle.frame.specs.declared.Record.{Record}
 use Rattle.frame.specs.declared.issuing.Issued.{Issued}
 use Rattle.frame.proofs.Sound.{sound, sound-true}
 use Rattle.frame.proofs.State.{log-length, held-by, words-kept, ballot, tail-at, tail-length, held-fine, sound-of}
-
--- ── the protocol's number ──
-module _ (k line code : ℕ) (o : Office) where
-  pub refused-line : 63 < line → refuseIssue k line code o ≡ 3
-  unfolding refuseIssue
-  refused-line h = simp (lt-ltb 63 line h)
-
-  module _ (l : line ≤ 63) where
-    pub refused-code : 9999 < code → refuseIssue k line code o ≡ 3
-    unfolding refuseIssue
-    refused-code h = simp (le-ltb 63 line l, lt-ltb 9999 code h)
-
-    module _ (c : code ≤ 9999) where
-      pub refused-full : length (tail o k) ≡ 32 → refuseIssue k line code o ≡ 4
-      unfolding refuseIssue
-      refused-full h = simp (le-ltb 63 line l, le-ltb 9999 code c, eq-eqb (length (tail o k)) 32 h)
-
-      module _ (short : length (tail o k) ≡ 32 → ⊥) where
-        pub refused-long : length (o .log) + length (tail o k) ≡ 1024 → refuseIssue k line code o ≡ 5
-        unfolding refuseIssue
-        refused-long h = simp (le-ltb 63 line l, le-ltb 9999 code c, ne-eqb (length (tail o k)) 32 short, eq-eqb (length (o .log) + length (tail o k)) 1024 h)
-
-        pub not-refused : (length (o .log) + length (tail o k) ≡ 1024 → ⊥) → refuseIssue k line code o ≡ 0
-        unfolding refuseIssue
-        not-refused h = simp (le-ltb 63 line l, le-ltb 9999 code c, ne-eqb (length (tail o k)) 32 short, ne-eqb (length (o .log) + length (tail o k)) 1024 h)
 
 -- ── the number, with the record's fields ──
 pub number-unsound : (r : Record) (words : List ℕ) (line code : ℕ) → soundB r words ≡ false → 1 ≡ issueNumber r words line code
@@ -98,26 +72,10 @@ module _ (r : Record) (words : List ℕ) (S : Sound r words) (line code : ℕ) w
   tail-is : length (tail (heldBy r words) (r .own)) ≡ len
   tail-is = tail-length r words S (r .own) (omega arith)
 
-  abbrev refused : ℕ
-  refused = refuseIssue (r .own) line code (heldBy r words)
-
-  pub refuse-line : 63 < line → 3 ≡ refused
-  refuse-line h = sym (refused-line (r .own) line code (heldBy r words) h)
-
-  module _ (l : line ≤ 63) where
-    pub refuse-code : 9999 < code → 3 ≡ refused
-    refuse-code h = sym (refused-code (r .own) line code (heldBy r words) l h)
-
-    module _ (c : code ≤ 9999) where
-      pub refuse-full : len ≡ 32 → 4 ≡ refused
-      refuse-full h = sym (refused-full (r .own) line code (heldBy r words) l c (tail-is ∙ h))
-
-      module _ (short : len ≡ 32 → ⊥) where
-        pub refuse-long : r .settled + len ≡ 1024 → 5 ≡ refused
-        refuse-long h = sym (refused-long (r .own) line code (heldBy r words) l c (λ q. short (sym tail-is ∙ q)) (omega (arith, tail-is, log-length r words S)))
-
-        pub refuse-not : (r .settled + len ≡ 1024 → ⊥) → 0 ≡ refused
-        refuse-not h = sym (not-refused (r .own) line code (heldBy r words) l c (λ q. short (sym tail-is ∙ q)) (λ p. h (omega (arith, p, tail-is, log-length r words S))))
+  -- the number by the record's own lengths
+  pub number-at : (k : ℕ) → k ≡ refusalAt line code (r .settled) len → k ≡ issueNumber r words line code
+  unfolding refusalAt refuseIssue
+  number-at k q = number-sound k (q ∙ sym (ap₂ (λ (s l : ℕ). refusalAt line code s l) (log-length r words S) tail-is))
 
 issued-words : (r : Record) (words : List ℕ) (S : Sound r words) (line code : ℕ) → wordsWith (withIssue (r .own) (value (r .own) line code) (heldBy r words) .log) words ≡ words
 unfolding withIssue
