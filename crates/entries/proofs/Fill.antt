@@ -1,7 +1,6 @@
 -- A loop that overwrites the list xs by the list ys, of the same length, from the front: after i turns the first i elements are those of ys.
 --     filled         the list after i turns
 --     fill-step      a store of the next element of ys
---     fill-rest      what has not been overwritten is as it was
 --     fill-end       after the last turn
 -- Assumes nothing.
 use mathlib.Core.Path.{_≡_, sym, ap, _∙_}
@@ -9,8 +8,8 @@ use mathlib.Core.List.{List, [], _∷_, _++_, append-assoc, append-nil}
 use Prim.Native.Nat.{ℕ, _+_, _<_, _≤_}
 use native.Mathlib.Numerals.{add-one}
 use native.Mathlib.Omega.{arith}
-use lib.ListN.{length, getD, take, drop, set, drop-of-length-le, length-append, length-drop}
-use lib.Seq.{length-take-le, take-suc, getD-drop, getD-append-add, set-at, take-all}
+use lib.ListN.{length, getD, take, drop, set, drop-of-length-le}
+use lib.Seq.{length-take-le, take-suc, set-at, take-all}
 use Rattle.entries.proofs.Walk.{rest-step}
 
 abbrev pub filled : {A : Type 0} → List A → List A → ℕ → List A
@@ -24,17 +23,9 @@ module _ {A : Type 0} (d : A) (ys xs : List A) where
       set-at (take i ys) (getD xs i d) (drop (i + 1) xs) (getD ys i d) i (length-take-le i ys (omega arith)) ∙
       sym (ap (λ (l : List A). l ++ drop (i + 1) xs) (ap (λ (k : ℕ). take k ys) (add-one i) ∙ take-suc ys i d l) ∙ append-assoc (take i ys) (getD ys i d ∷ []) (drop (i + 1) xs))
 
-  pub front-length : (i : ℕ) → i ≤ length ys → i ≤ length xs → length (filled ys xs i) ≡ length xs
-  front-length i l h = rw (length-append, length-take-le i ys l, length-drop) (omega arith)
-
 module _ {A : Type 0} (d : A) (ys xs : List A) (same : length ys ≡ length xs) where
   pub fill-step : (i : ℕ) → i < length xs → set (filled ys xs i) i (getD ys i d) ≡ filled ys xs (i + 1)
   fill-step i h = front-step d ys xs i (omega arith) h
-
-  pub fill-rest : (i k : ℕ) → i ≤ length xs → getD (filled ys xs i) (i + k) d ≡ getD xs (i + k) d
-  fill-rest i k h =
-      let e : length (take i ys) ≡ i = length-take-le i ys (omega arith) in
-      ap (λ (j : ℕ). getD (filled ys xs i) (j + k) d) (sym e) ∙ getD-append-add (take i ys) (drop i xs) k d ∙ getD-drop i xs k d
 
   pub fill-end : (i : ℕ) → length xs ≤ i → filled ys xs i ≡ ys
   fill-end i h = rw (take-all i ys (omega arith), drop-of-length-le xs h, append-nil)

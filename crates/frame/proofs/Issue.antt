@@ -12,10 +12,9 @@ use Prim.Native.Nat.{ℕ, _+_, _<_, _≤_}
 use native.Mathlib.Omega.{arith}
 use lib.Dec.{eqb}
 use lib.ListN.{length, getD, set}
-use borrow.Author.Tests.{eq-eqb, ne-eqb, le-ltb, lt-ltb}
-use Rattle.protocol.specs.Tests.{pick}
+use borrow.Author.Tests.{eq-eqb, ne-eqb}
 use Rattle.protocol.specs.Entry.{value}
-use Rattle.protocol.specs.Office.{Office, tail}
+use Rattle.protocol.specs.Office.{tail}
 use Rattle.protocol.specs.Issue.{withIssue, refuseIssue}
 use Rattle.protocol.proofs.Tests.{pick-true, pick-false, map-set}
 use Rattle.protocol.proofs.Limits as Limits

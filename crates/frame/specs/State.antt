@@ -1,6 +1,6 @@
 -- A record with its log and the office's state that they hold, both ways. Assumes nothing.
 use Prim.Native.Nat.{ℕ}
-use mathlib.Core.List.{List, [], _∷_, _++_, map}
+use mathlib.Core.List.{List, _++_, map}
 use lib.ListN.{length, take, drop, replicate}
 use Rattle.protocol.specs.Office.{Office}
 use Rattle.ballots.specs.Ballots.{tailOf, ballotOf, noBallot}

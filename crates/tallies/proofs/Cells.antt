@@ -1,6 +1,6 @@
 -- The cells of one ballot: its first entry, and what is left without it.
 --     no-cell, first-cell    the tail of a ballot with no entries, and of one with some
---     left-none, left-full, left-some    how many entries are left after the first
+--     left-full, left-some   how many entries are left after the first
 --     lost-one               what a ballot that supports an entry keeps when it is settled, and what any other does
 -- Assumes nothing.
 use mathlib.Core.Path.{_≡_, refl, sym, ap, ap₂, _∙_}
@@ -45,9 +45,6 @@ won-first ws v (suc k) (x ∷ xs) h = refl
 
 -- how many entries of 32 cells are left after the first of k
 module _ (k : ℕ) (xs : List ℕ) (h : length xs ≡ 32) where
-  pub left-none : k ≡ 0 → 0 ≡ length (drop 1 (take k xs))
-  left-none e = rw e
-
   pub left-full : 32 < k → 31 ≡ length (drop 1 (take k xs))
   left-full l = rw (take-all k xs (omega arith), length-drop) (omega arith)
 

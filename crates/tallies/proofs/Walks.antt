@@ -12,7 +12,7 @@ use Prim.Native.Nat.{ℕ, _+_, _<_, _≤_}
 use native.Mathlib.Omega.{arith}
 use lib.Dec.{ltb, eqb}
 use lib.ListN.{length, getD, drop, length-map, drop-of-length-le}
-use Rattle.protocol.specs.Vote.{Votes, isFor, isNone, tally, unheard, and-also, supported, beats, beatsAll, firstWinner, winner}
+use Rattle.protocol.specs.Vote.{Votes, isFor, isNone, tally, unheard, and-also, supported, beats, beatsAll, firstWinner}
 use Rattle.protocol.specs.Office.{first, votesOf}
 use Rattle.entries.proofs.Walk.{rest-step}
 use Rattle.ballots.specs.Ballots.{tailOf, offEnd}

@@ -5,7 +5,7 @@ use mathlib.Core.List.{List, [], map}
 use mathlib.Core.Option.{Option, none, some}
 use lib.Dec.{ltb, eqb}
 use Rattle.protocol.specs.Vote.{Votes, and-also, beatsAll, wins}
-use Rattle.protocol.specs.Office.{votesOf, first}
+use Rattle.protocol.specs.Office.{votesOf}
 use Rattle.protocol.specs.Elect.{lose}
 use Rattle.ballots.specs.Ballots.{tailOf, ballotOf}
 use Rattle.ballots.specs.declared.Ballot.{Ballot}

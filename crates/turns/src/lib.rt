@@ -80,7 +80,7 @@ fn stay(record: Record, lengths: [usize; 4]) -> Turn
 }
 
 // `i k line code` issues at the office.
-pub fn issue_turn(record: Record, lengths: [usize; 4], log: &[u32], line: u32, code: u32) -> Turn
+fn issue_turn(record: Record, lengths: [usize; 4], log: &[u32], line: u32, code: u32) -> Turn
     ensures { λ r. ⌜ r ≡ issueTurn «record» lengths (now (log .entry)) line code ⌝ }
 {
     let issued = record.issue(log, line, code);
@@ -107,13 +107,7 @@ fn sent_lengths(lengths: [usize; 4], m: usize, number: u32, size: usize) -> [usi
 }
 
 // `s k m` sends the office's message into a slot that is there.
-pub fn send_turn(
-    record: Record,
-    lengths: [usize; 4],
-    log: &[u32],
-    slots: &mut [u8],
-    m: usize,
-) -> Turn
+fn send_turn(record: Record, lengths: [usize; 4], log: &[u32], slots: &mut [u8], m: usize) -> Turn
     requires { ⌜ (m < 4) × (length (now slots) ≡ 28128) ⌝ }
     ensures { λ r. ⌜ (r ≡ sendTurn «record» lengths (now (log .entry)) (now (slots .entry)) m) × (now (slots .exit) ≡ sendSlots «record» (now (log .entry)) (now (slots .entry)) m) ⌝ }
 {
@@ -130,13 +124,7 @@ pub fn send_turn(
 }
 
 // `t k m` takes the message of a slot that is there.
-pub fn take_turn(
-    record: Record,
-    lengths: [usize; 4],
-    log: &mut [u32],
-    slots: &[u8],
-    m: usize,
-) -> Turn
+fn take_turn(record: Record, lengths: [usize; 4], log: &mut [u32], slots: &[u8], m: usize) -> Turn
     requires { ⌜ (m < 4) × (length (now slots) ≡ 28128) ⌝ }
     ensures { λ r. ⌜ (r ≡ takeTurn «record» lengths (now (log .entry)) (now (slots .entry)) m) × (now (log .exit) ≡ takeTurnWords «record» lengths (now (log .entry)) (now (slots .entry)) m) ⌝ }
 {
@@ -154,7 +142,7 @@ pub fn take_turn(
 }
 
 // `e k` elects at the office.
-pub fn elect_turn(record: Record, lengths: [usize; 4], log: &mut [u32]) -> Turn
+fn elect_turn(record: Record, lengths: [usize; 4], log: &mut [u32]) -> Turn
     ensures { λ r. ⌜ (r ≡ electTurn «record» lengths (now (log .entry))) × (now (log .exit) ≡ electWords «record» (now (log .entry))) ⌝ }
 {
     let elected = record.elect(log);
@@ -168,7 +156,7 @@ pub fn elect_turn(record: Record, lengths: [usize; 4], log: &mut [u32]) -> Turn
 }
 
 // `v k line` views both frames.
-pub fn view_turn(record: Record, lengths: [usize; 4], log: &[u32], line: u32) -> Turn
+fn view_turn(record: Record, lengths: [usize; 4], log: &[u32], line: u32) -> Turn
     ensures { λ r. ⌜ r ≡ viewTurn «record» lengths (now (log .entry)) line ⌝ }
 {
     let settled = record.settled_frame(log, line);
@@ -181,7 +169,7 @@ pub fn view_turn(record: Record, lengths: [usize; 4], log: &[u32], line: u32) ->
     }
 }
 
-// The office's turn by the command; a slot that isn't there is a question mark.
+// The office's turn by the command; a slot that isn't there is a question mark. Public for the rehearsal, which lends the four slots.
 pub fn turn_at(
     record: Record,
     lengths: [usize; 4],

@@ -2,8 +2,7 @@
 use native.Mathlib.Omega.{arith}
 use borrow.Author.Tests.{le-ltb, lt-ltb}
 use borrow.Author.Needs.{needs}
-use Rattle.protocol.specs.Vote.{tally, unheard, supported, wins}
-use Rattle.protocol.specs.Office.{first}
+use Rattle.protocol.specs.Vote.{tally, unheard, wins}
 use Rattle.tallies.specs.Tallies.{votesIn}
 use Rattle.tallies.proofs.entry_wins.Statement.{statement}
 use Rattle.tallies.proofs.entry_wins.Tie as tie

@@ -3,7 +3,6 @@ use native.Mathlib.Omega.{arith}
 use mathlib.Core.Path.{_≡_}
 use lib.ListN.{length}
 use borrow.Author.Needs.{needs}
-use Rattle.protocol.specs.Vote.{wins}
 use Rattle.tallies.proofs.Cells.{first-cell, no-cell}
 use Rattle.tallies.proofs.first_wins.Statement.{statement}
 use Rattle.tallies.proofs.first_wins.Tie as tie

@@ -3,7 +3,6 @@ use native.Mathlib.Omega.{arith}
 use mathlib.Core.Path.{_≡_}
 use lib.ListN.{length}
 use borrow.Author.Needs.{needs}
-use Rattle.protocol.specs.Office.{first}
 use Rattle.tallies.proofs.Cells.{first-cell, no-cell}
 use Rattle.tallies.proofs.is_for.Statement.{statement}
 use Rattle.tallies.proofs.is_for.Tie as tie

@@ -3,7 +3,6 @@ use native.Mathlib.Omega.{arith}
 use mathlib.Core.Path.{_≡_}
 use lib.ListN.{length}
 use borrow.Author.Needs.{needs}
-use Rattle.protocol.specs.Office.{first}
 use Rattle.tallies.proofs.Cells.{none-cells}
 use Rattle.tallies.proofs.is_none.Statement.{statement}
 use Rattle.tallies.proofs.is_none.Tie as tie

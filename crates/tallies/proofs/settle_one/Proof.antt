@@ -2,7 +2,6 @@
 use mathlib.Core.Path.{sym, _∙_}
 use mathlib.Core.Option.{none}
 use borrow.Author.Needs.{needs}
-use Rattle.protocol.specs.Office.{first}
 use Rattle.tallies.proofs.Cells.{settled-for, settled-other}
 use Rattle.tallies.proofs.settle_one.Statement.{statement}
 use Rattle.tallies.proofs.settle_one.Tie as tie

@@ -4,7 +4,6 @@ use mathlib.Core.Path.{_≡_, refl}
 use Prim.Native.Nat.{_-_, _≤_}
 use lib.ListN.{length, replicate}
 use borrow.Author.Needs.{needs}
-use Rattle.protocol.specs.Office.{first}
 use Rattle.entries.proofs.Fill.{filled}
 use Rattle.tallies.proofs.Cells.{moved, moved-step, moved-end, without-first-is}
 use Rattle.tallies.proofs.without_first.Statement.{statement}

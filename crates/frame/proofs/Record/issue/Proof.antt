@@ -1,7 +1,7 @@
 -- A sound record's own lengths give the number. Where it is 0, the own ballot has room for the entry, and the answer holds the record
 -- with it; else the record as it was.
 use native.Mathlib.Omega.{arith}
-use mathlib.Core.Path.{_≡_, sym, ap, _∙_}
+use mathlib.Core.Path.{sym, ap, _∙_}
 use lib.ListN.{getD}
 use borrow.Author.Tests.{not-true, not-false}
 use borrow.Author.Needs.{needs}

@@ -1,6 +1,6 @@
 -- Soundness is tested once; the rest is the call on a sound record.
 use borrow.Author.Needs.{needs}
-use mathlib.Core.Path.{_≡_, sym, _∙_}
+use mathlib.Core.Path.{sym, _∙_}
 use borrow.Author.Tests.{not-true, not-false}
 use Rattle.frame.proofs.Sound.{sound}
 use Rattle.frame.proofs.Send.{send-unsound}

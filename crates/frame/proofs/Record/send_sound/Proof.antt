@@ -1,7 +1,7 @@
 -- Each way out is a law of the call; what the writer requires is in every sound record.
 use borrow.Author.Needs.{needs}
 use native.Mathlib.Omega.{arith}
-use mathlib.Core.Path.{_≡_, ap, _∙_}
+use mathlib.Core.Path.{ap, _∙_}
 use Prim.Native.Nat.{ℕ}
 use Rattle.frame.proofs.Send.{shapes, writable, send-short, send-done}
 use Rattle.frame.proofs.Record.send_sound.Statement.{statement}

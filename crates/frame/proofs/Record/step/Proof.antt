@@ -2,7 +2,6 @@
 use native.Mathlib.Omega.{arith}
 use mathlib.Core.Path.{sym, _∙_}
 use borrow.Author.Needs.{needs}
-use Rattle.frame.proofs.Sound.{sound}
 use Rattle.frame.specs.Electing.{winnerOf}
 use Rattle.tallies.proofs.Walks.{winner-some, winner-none}
 use Rattle.frame.proofs.Elect.{winning, step-won, step-nobody}

@@ -8,7 +8,6 @@ use lib.Seq.{length-take-le}
 use borrow.Author.Tests.{le-leb, lt-leb, not-true, not-false}
 use borrow.Author.Needs.{needs}
 use Rattle.protocol.specs.Tests.{pick}
-use Rattle.protocol.specs.Office.{tail}
 use Rattle.protocol.specs.Frames.{lastCode}
 use Rattle.ballots.specs.Ballots.{offEnd, tailOf}
 use Rattle.frame.proofs.Sound.{sound}
