@@ -14,7 +14,7 @@ fn wide(x: u8) -> u32
 }
 
 // The number so far with one more digit behind it, where the byte is a digit and the number stays within 65535.
-pub fn digit_of(so_far: u16, byte: u8) -> Number
+fn digit_of(so_far: u16, byte: u8) -> Number
     ensures { λ r. ⌜ r ≡ digitOf «so_far» byte ⌝ }
 {
     if byte < b'0' {

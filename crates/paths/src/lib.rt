@@ -49,7 +49,7 @@ fn hold(words: &[u32]) -> Ballot
 }
 
 // What the ballot is beside a log that is longer by the words: its tail past them, or none where its tail does not extend them.
-pub fn past(b: Ballot, words: &[u32]) -> Ballot
+fn past(b: Ballot, words: &[u32]) -> Ballot
     ensures { λ r. ⌜ r ≡ pastBallot (now (words .entry)) b ⌝ }
 {
     let len = tail_len(b);
@@ -62,7 +62,7 @@ pub fn past(b: Ballot, words: &[u32]) -> Ballot
 }
 
 // The offered ballot where its tail extends the ballot's own, else the ballot.
-pub fn longer(b: Ballot, offer: Ballot) -> Ballot
+fn longer(b: Ballot, offer: Ballot) -> Ballot
     ensures { λ r. ⌜ r ≡ longerBallot b offer ⌝ }
 {
     let own_len = tail_len(b);

@@ -93,9 +93,9 @@ fn ballots_at(rest: &[u8], from: usize, n: usize, k: usize) -> Records
     }
 }
 
-// The records after the head: k log records, the ballots of n offices, the end. Public only for the crate above, which has no
-// message whose head names more than eight offices or 1024 entries.
-pub fn records_at(rest: &[u8], n: usize, k: usize) -> Records
+// The records after the head: k log records, the ballots of n offices, the end. A head that passed its test names no more than eight
+// offices and 1024 entries.
+fn records_at(rest: &[u8], n: usize, k: usize) -> Records
     requires { ⌜ (k ≤ 1024) × (n ≤ 8) ⌝ }
     ensures { λ r. ⌜ r ≡ recordsAt n k (now (rest .entry)) ⌝ }
 {
