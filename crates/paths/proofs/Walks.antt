@@ -8,21 +8,24 @@
 -- Assumes nothing.
 use mathlib.Core.Path.{_≡_, refl, sym, ap, _∙_}
 use mathlib.Core.Bool.{Bool, true, false}
-use mathlib.Core.List.{List, [], _∷_}
+use mathlib.Core.List.{List, [], _∷_, _++_, map, append-assoc}
 use Prim.Native.Nat.{ℕ, zero, suc, _+_, _-_, _<_, _≤_}
 use native.Mathlib.Nat.{not-suc-le-zero, le-of-suc-le-suc}
-use native.Mathlib.Numerals.{unary-clauses}
+use native.Mathlib.Numerals.{add-one, unary-clauses}
 use native.Mathlib.Omega.{arith}
 use lib.Dec.{eqb}
-use lib.ListN.{length, getD, take, drop, replicate, drop-of-length-le, length-drop}
+use lib.ListN.{length, getD, take, drop, replicate, drop-of-length-le, length-drop, length-take}
+use lib.Seq.{take-suc}
 use borrow.Author.Tests.{eq-eqb, ne-eqb}
 use Rattle.protocol.specs.Tests.{pick}
 use Rattle.protocol.specs.Beginning.{extends}
 use Rattle.protocol.proofs.Beginning.{⊏-length, extends-true}
-use Rattle.protocol.proofs.Tests.{zeros, all-zeros, all-drop}
+use Rattle.protocol.proofs.Tests.{pick-cases, zeros, all-zeros, all-drop}
 use Rattle.entries.proofs.Walk.{rest-step}
+use Rattle.entries.proofs.Fill.{filled}
 use Rattle.ballots.specs.declared.Ballot.{Ballot}
 use Rattle.ballots.specs.Ballots.{tailOf, ballotOf, noBallot, offEnd}
+use Rattle.ballots.proofs.Laws.{tail-of}
 use Rattle.paths.specs.Paths.{restPast, pastBallot, longerBallot, adopted}
 
 -- a list that is not longer extends nothing
@@ -100,6 +103,35 @@ module _ (b q : Ballot) (k m : ℕ) (own : k ≡ length (tailOf b)) (offered : m
   pub longer-no : extends (take m (q .cells)) (take k (b .cells)) ≡ false → b ≡ longerBallot b q
   unfolding longerBallot pick
   longer-no e = rw (← part-tail b k own, ← part-tail q m offered, e)
+
+pub tail-most : (b : Ballot) → length (tailOf b) ≤ b .len
+tail-most b = simp length-take (omega arith)
+
+-- a tail that is not longer than the words leaves nothing past them
+pub past-short : (ws : List ℕ) (b : Ballot) → b .len ≤ length ws → noBallot ≡ pastBallot ws b
+unfolding pastBallot restPast pick
+past-short ws b h = rw (not-longer (tailOf b) ws (omega (arith, tail-most b)))
+
+-- an offer that is not longer than the words and the ballot's own tail leaves the ballot
+pub offer-short : (ws : List ℕ) (b q : Ballot) → length (tailOf q) ≤ length ws + length (tailOf b) → b ≡ longerBallot b (pastBallot ws q)
+unfolding longerBallot pastBallot restPast pick
+offer-short ws b q h = rw (tail-of (restPast ws (tailOf q)), not-longer (restPast ws (tailOf q)) (tailOf b) short)
+  where
+    short : length (restPast ws (tailOf q)) ≤ length (tailOf b)
+    short = pick-cases (λ (l : List ℕ). length l ≤ length (tailOf b)) (extends (tailOf q) ws) (drop (length ws) (tailOf q)) []
+        (λ t. simp length-drop (omega arith)) (λ t. omega arith)
+
+-- a walk that overwrites the list xs by the list ys passes a place where they are the same
+pub fill-skip : (ys xs : List Ballot) → length ys ≡ length xs → (i : ℕ) → i < length xs → getD xs i offEnd ≡ getD ys i offEnd → filled ys xs i ≡ filled ys xs (i + 1)
+fill-skip ys xs same i h e =
+    rw (rest-step offEnd xs i h, e, add-one)
+    (sym (ap (λ (l : List Ballot). l ++ drop (suc i) xs) (take-suc ys i offEnd (omega arith)) ∙ append-assoc (take i ys) (getD ys i offEnd ∷ []) (drop (suc i) xs)))
+
+-- one of the ballots past the words
+pub past-at : (ws : List ℕ) (bs : List Ballot) (i : ℕ) → i < length bs → getD (map (pastBallot ws) bs) i offEnd ≡ pastBallot ws (getD bs i offEnd)
+past-at ws [] i h = absurd (not-suc-le-zero h)
+past-at ws (b ∷ bs) zero h = refl
+past-at ws (b ∷ bs) (suc i) h = past-at ws bs i (le-of-suc-le-suc h)
 
 pub adopted-length : (ws : List ℕ) (bs qs : List Ballot) → length (adopted ws bs qs) ≡ length bs
 unfolding adopted

@@ -75,27 +75,51 @@ fn longer(b: Ballot, offer: Ballot) -> Ballot
     b
 }
 
-// Every ballot beside a log that is longer by the words.
+// The ballot after its offer, which stands beside a log that is shorter by the words. An offer of no more entries than the words and the
+// ballot's own tail leaves the ballot.
+fn offered(b: Ballot, offer: Ballot, words: &[u32]) -> Ballot
+    ensures { λ r. ⌜ r ≡ longerBallot b (pastBallot (now (words .entry)) offer) ⌝ }
+{
+    let own = b.len;
+    let len = offer.len;
+    if len <= words.len() {
+        return b;
+    }
+    if len - words.len() <= own {
+        return b;
+    }
+    longer(b, past(offer, words))
+}
+
+// Every ballot beside a log that is longer by the words. A tail that is not longer than the words cannot extend them.
 pub fn rebase(ballots: [Ballot; 8], words: &[u32]) -> [Ballot; 8]
     ensures { λ r. ⌜ r ≡ map (pastBallot (now (words .entry))) ballots ⌝ }
 {
-    let mut next = ballots;
+    let none = Ballot::none();
+    let mut next = [none; 8];
     for i in 0..8 {
-        let b = ballots[i];
-        next[i] = past(b, words);
+        let len = ballots[i].len;
+        if len > words.len() {
+            let b = ballots[i];
+            next[i] = past(b, words);
+        }
     }
     next
 }
 
-// Every ballot after its offer, which stands beside a log that is shorter by the words.
+// Every ballot after its offer, which stands beside a log that is shorter by the words. An offer that is not longer than
+// the words leaves the ballot.
 pub fn adopt(ballots: [Ballot; 8], offers: [Ballot; 8], words: &[u32]) -> [Ballot; 8]
     ensures { λ r. ⌜ r ≡ adopted (now (words .entry)) ballots offers ⌝ }
 {
     let mut next = ballots;
     for i in 0..8 {
-        let b = ballots[i];
-        let offer = offers[i];
-        next[i] = longer(b, past(offer, words));
+        let len = offers[i].len;
+        if len > words.len() {
+            let b = ballots[i];
+            let offer = offers[i];
+            next[i] = offered(b, offer, words);
+        }
     }
     next
 }

@@ -2,6 +2,7 @@
 use borrow.Author.Needs.{needs}
 use native.Mathlib.Omega.{arith}
 use mathlib.Core.Path.{_≡_, refl, sym, ap, ap₂, _∙_}
+use mathlib.Core.Logic.{⊎-elim}
 use mathlib.Core.List.{List}
 use Prim.Native.Nat.{_-_, _≤_}
 use lib.ListN.{length, getD, set}
@@ -9,7 +10,7 @@ use Rattle.entries.proofs.Fill.{filled, fill-step, fill-end}
 use Rattle.ballots.specs.declared.Ballot.{Ballot}
 use Rattle.ballots.specs.Ballots.{offEnd}
 use Rattle.paths.specs.Paths.{longerBallot, adopted}
-use Rattle.paths.proofs.Walks.{adopted-at, adopted-length}
+use Rattle.paths.proofs.Walks.{adopted-at, adopted-length, tail-most, offer-short, fill-skip}
 use Rattle.paths.proofs.adopt.Statement.{statement}
 use Rattle.paths.proofs.adopt.Tie as tie
 
@@ -23,7 +24,22 @@ loop-holds : tie.Need-loop-holds Inv-loop μ-loop
 loop-holds c = (search needs, refl)
 
 loop-again : tie.Need-loop-again Inv-loop μ-loop
-loop-again c = let l = c .before .before .before .before .before .loop in let a = c .before .before .before .before .before .before .before .args in let ws = a .words .now in let ys = adopted ws (a .t1) (a .t2) in let hb : length (a .t1) ≡ 8 = search needs in let hq : length (a .t2) ≡ 8 = search needs in (search needs, ap₂ (λ (bs : List Ballot) (b : Ballot). set bs (l .i) b) (l .inv .1) (c .longer .ensures ∙ ap (longerBallot (getD (a .t1) (l .i) offEnd)) (c .before .past .ensures) ∙ sym (adopted-at ws (a .t1) (a .t2) (l .i) (omega arith) (omega arith))) ∙ fill-step offEnd ys (a .t1) (adopted-length ws (a .t1) (a .t2)) (l .i) (omega arith))
+loop-again c =
+    let l = c .before .before .loop in
+    let a = c .before .before .before .before .args in
+    let ws = a .words .now in
+    let ys = adopted ws (a .t1) (a .t2) in
+    let hb : length (a .t1) ≡ 8 = search needs in
+    let hq : length (a .t2) ≡ 8 = search needs in
+    let here = adopted-at ws (a .t1) (a .t2) (l .i) (omega arith) (omega arith) in
+    let step = fill-step offEnd ys (a .t1) (adopted-length ws (a .t1) (a .t2)) (l .i) (omega arith) in
+    let skip = fill-skip ys (a .t1) (adopted-length ws (a .t1) (a .t2)) (l .i) (omega arith) in (
+      search needs,
+      ⊎-elim
+          (λ w. w .4 ∙ ap₂ (λ (bs : List Ballot) (b : Ballot). set bs (l .i) b) (l .inv .1) (w .3 .ensures ∙ sym here) ∙ step)
+          (λ w. w .1 ∙ l .inv .1 ∙ skip (offer-short ws (getD (a .t1) (l .i) offEnd) (getD (a .t2) (l .i) offEnd) (omega (arith, tail-most (getD (a .t2) (l .i) offEnd))) ∙ sym here))
+          (c .if1 .came),
+    )
 
 returns : tie.Need-returns Inv-loop μ-loop
 returns c = let l = c .before .loop in let a = c .before .before .before .args in let ws = a .words .now in let ys = adopted ws (a .t1) (a .t2) in let hb : length (a .t1) ≡ 8 = search needs in l .inv .1 ∙ fill-end offEnd ys (a .t1) (adopted-length ws (a .t1) (a .t2)) (l .i) (omega arith)
@@ -39,7 +55,8 @@ adopt-spec =
     (λ c. search needs)
     (λ c. search needs)
     (λ c. search needs)
-    (λ c κs. search needs)
+    (λ c. search needs)
+    (λ c. search needs)
     (λ c κs. search needs)
     (λ c. search needs)
     (λ c. search needs)
