@@ -4,6 +4,8 @@
 --     part-tail, part-past     the parts of a ballot's cells that are lent: its tail, and its tail past k entries
 --     past-none, past-some, past-room, longer-yes, longer-no     a ballot past the words, and the longer of two, by the tests on those parts
 --     zeros-behind        the cells behind k filled ones
+--     tail-most, past-short, offer-short     what a tail leaves past words that are as long, and an offer that is too short to count
+--     fill-skip, past-at     a walk over the ballots that leaves one as it is, and one ballot of those past the words
 --     adopted-at, adopted-length     one ballot of those that were offered another
 -- Assumes nothing.
 use mathlib.Core.Path.{_≡_, refl, sym, ap, _∙_}

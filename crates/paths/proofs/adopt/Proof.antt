@@ -1,7 +1,7 @@
 -- A walk from the front: the first i ballots have had their offers, the others are as they were.
 use borrow.Author.Needs.{needs}
 use native.Mathlib.Omega.{arith}
-use mathlib.Core.Path.{_≡_, refl, sym, ap, ap₂, _∙_}
+use mathlib.Core.Path.{_≡_, refl, sym, ap₂, _∙_}
 use mathlib.Core.Logic.{⊎-elim}
 use mathlib.Core.List.{List}
 use Prim.Native.Nat.{_-_, _≤_}
@@ -9,7 +9,7 @@ use lib.ListN.{length, getD, set}
 use Rattle.entries.proofs.Fill.{filled, fill-step, fill-end}
 use Rattle.ballots.specs.declared.Ballot.{Ballot}
 use Rattle.ballots.specs.Ballots.{offEnd}
-use Rattle.paths.specs.Paths.{longerBallot, adopted}
+use Rattle.paths.specs.Paths.{adopted}
 use Rattle.paths.proofs.Walks.{adopted-at, adopted-length, tail-most, offer-short, fill-skip}
 use Rattle.paths.proofs.adopt.Statement.{statement}
 use Rattle.paths.proofs.adopt.Tie as tie

@@ -2,9 +2,7 @@
 use borrow.Author.Needs.{needs}
 use native.Mathlib.Omega.{arith}
 use mathlib.Core.Path.{_≡_, ap, _∙_}
-use Prim.Native.Nat.{_+_, _≤_}
 use lib.ListN.{length, length-take}
-use Rattle.ballots.specs.Ballots.{tailOf}
 use Rattle.paths.specs.Paths.{longerBallot}
 use Rattle.paths.proofs.Walks.{tail-most, offer-short}
 use Rattle.paths.proofs.offered.Statement.{statement}
