@@ -1,6 +1,7 @@
 //! Times of the engine's calls and of the second implementation's, in one run.
 
 use std::hint::black_box;
+use std::io::{stdout, Result, Write};
 use std::time::Instant;
 
 use joukerpan_sys as engine;
@@ -232,20 +233,22 @@ fn cases() -> Vec<Case> {
 }
 
 /// Prints a table of the times and their ratios, and one of how each call grows with the log.
-pub fn print() {
+pub fn print() -> Result<()> {
+    let mut output = stdout().lock();
     let mut rows: Vec<(Case, Time)> = vec![];
-    println!("| Call | Settled | Ballots | Engine, ns | Second, ns | Ratio |");
-    println!("|---|---:|---|---:|---:|---:|");
+    writeln!(output, "| Call | Settled | Ballots | Engine, ns | Second, ns | Ratio |")?;
+    writeln!(output, "|---|---:|---|---:|---:|---:|")?;
     for mut case in cases() {
         let time = case.time();
-        println!(
+        writeln!(
+            output,
             "| {} | {} | {} | {:.0} | {:.0} | {:.2} |",
             case.call, case.settled, case.ballots, time.engine, time.second, time.ratio
-        );
+        )?;
         rows.push((case, time));
     }
-    println!("\n| Call | Ballots | Engine, ns a settled entry | Second, ns a settled entry | Ratio |");
-    println!("|---|---|---:|---:|---:|");
+    writeln!(output, "\n| Call | Ballots | Engine, ns a settled entry | Second, ns a settled entry | Ratio |")?;
+    writeln!(output, "|---|---|---:|---:|---:|")?;
     for (long, most) in rows.iter().filter(|(case, _)| case.settled >= LOG - TAIL) {
         let short = rows
             .iter()
@@ -253,7 +256,14 @@ pub fn print() {
         if let Some((short, least)) = short {
             let entries = (long.settled - short.settled) as f64;
             let (engine, second) = ((most.engine - least.engine) / entries, (most.second - least.second) / entries);
-            println!("| {} | {} | {engine:.2} | {second:.2} | {:.2} |", long.call, long.ballots, engine / second);
+            writeln!(
+                output,
+                "| {} | {} | {engine:.2} | {second:.2} | {:.2} |",
+                long.call,
+                long.ballots,
+                engine / second
+            )?;
         }
     }
+    Ok(())
 }

@@ -1,6 +1,7 @@
 //! Every call on random input: the whole answer, the record, the log and the output of both, compared.
 
 use std::fmt::Debug;
+use std::io::{self, stdout, Write};
 
 use second::calls as plain;
 use second::message::LONGEST;
@@ -256,7 +257,8 @@ fn sample(random: &mut Random, tally: &mut Tally, family: &Family) -> Sample {
 }
 
 /// Runs rounds of calls and prints what was seen; says whether all answers were alike.
-pub fn compare(seed: u64, rounds: u64) -> bool {
+pub fn compare(seed: u64, rounds: u64) -> io::Result<bool> {
+    let mut output = stdout().lock();
     let mut random = Random::new(seed);
     let mut tally = Tally::default();
     for round in 0..rounds {
@@ -267,34 +269,39 @@ pub fn compare(seed: u64, rounds: u64) -> bool {
         for call in 0..CALLS_A_ROUND {
             let before = trial.record;
             if let Err(difference) = trial.call(&family) {
-                println!("seed {seed}, round {round}, call {call}: {difference}");
-                println!("record: {before:?}\nlog length: {}", trial.log.part().len());
-                println!("settled: {:?}", &trial.log.part().get(..before.settled));
-                return false;
+                writeln!(output, "seed {seed}, round {round}, call {call}: {difference}")?;
+                writeln!(output, "record: {before:?}\nlog length: {}", trial.log.part().len())?;
+                writeln!(output, "settled: {:?}", &trial.log.part().get(..before.settled))?;
+                return Ok(false);
             }
         }
     }
-    tally.print(seed);
-    true
+    tally.print(seed, &mut output)?;
+    Ok(true)
 }
 
 impl Tally {
-    fn print(&self, seed: u64) {
+    fn print(&self, seed: u64, output: &mut impl Write) -> io::Result<()> {
         let calls: u64 = self.numbers.iter().flatten().sum();
-        println!("seed {seed}: {calls} calls, all alike");
-        println!("\n| Call | {} |", (0..NUMBERS).map(|number| number.to_string()).collect::<Vec<_>>().join(" | "));
-        println!("|---|{}", "---:|".repeat(NUMBERS));
+        writeln!(output, "seed {seed}: {calls} calls, all alike")?;
+        writeln!(
+            output,
+            "\n| Call | {} |",
+            (0..NUMBERS).map(|number| number.to_string()).collect::<Vec<_>>().join(" | ")
+        )?;
+        writeln!(output, "|---|{}", "---:|".repeat(NUMBERS))?;
         for (call, numbers) in CALLS.iter().zip(&self.numbers) {
             let cells: Vec<String> =
                 numbers.iter().map(|&count| if count == 0 { String::new() } else { count.to_string() }).collect();
-            println!("| {call} | {} |", cells.join(" | "));
+            writeln!(output, "| {call} | {} |", cells.join(" | "))?;
         }
-        println!("\nelections of one entry {}, of more {}", self.elected_one, self.elected_more);
-        println!("takes that grew the log {}, that changed a ballot {}", self.grown, self.adopted);
-        println!("logs above {LOG} words {}", self.long_logs);
-        println!("records refused with {UNSOUND} for one broken clause:");
+        writeln!(output, "\nelections of one entry {}, of more {}", self.elected_one, self.elected_more)?;
+        writeln!(output, "takes that grew the log {}, that changed a ballot {}", self.grown, self.adopted)?;
+        writeln!(output, "logs above {LOG} words {}", self.long_logs)?;
+        writeln!(output, "records refused with {UNSOUND} for one broken clause:")?;
         for (clause, count) in CLAUSES.iter().zip(&self.clauses) {
-            println!("  {clause}: {count}");
+            writeln!(output, "  {clause}: {count}")?;
         }
+        Ok(())
     }
 }

@@ -1,5 +1,6 @@
 //! The proved engine beside the second implementation, call by call.
 
+use std::io::{Error, ErrorKind, Result};
 use std::process::ExitCode;
 
 mod benchmark;
@@ -14,17 +15,23 @@ const USAGE: &str = "usage:
   compare benchmark             times of both, as a Markdown table
   compare stack                 deepest stack of each of the engine's calls";
 
+/// An error about the arguments.
+fn wrong(what: &str) -> Error {
+    Error::new(ErrorKind::InvalidInput, format!("{what}\n{USAGE}"))
+}
+
+/// The number that an argument spells.
+fn number(word: &str) -> Result<u64> {
+    word.parse().map_err(|_| wrong(&format!("{word} is not a number")))
+}
+
 /// Runs a command; says whether it was all as it should be.
-fn run(words: &[&str]) -> Result<bool, String> {
-    let number = |word: &str| word.parse::<u64>().map_err(|_| format!("{word} is not a number\n{USAGE}"));
+fn run(words: &[&str]) -> Result<bool> {
     match *words {
-        ["calls", seed, rounds] => Ok(calls::compare(number(seed)?, number(rounds)?)),
-        ["benchmark"] => {
-            benchmark::print();
-            Ok(true)
-        }
-        ["stack"] => Ok(stack::print()),
-        _ => Err(USAGE.into()),
+        ["calls", seed, rounds] => calls::compare(number(seed)?, number(rounds)?),
+        ["benchmark"] => benchmark::print().map(|()| true),
+        ["stack"] => stack::print(),
+        _ => Err(wrong("no such command")),
     }
 }
 
@@ -34,6 +41,8 @@ fn main() -> ExitCode {
     match run(&words) {
         Ok(true) => ExitCode::SUCCESS,
         Ok(false) => ExitCode::FAILURE,
+        // Whoever read the output has gone: nothing is left to say.
+        Err(error) if error.kind() == ErrorKind::BrokenPipe => ExitCode::FAILURE,
         Err(error) => {
             eprintln!("compare: {error}");
             ExitCode::from(2)

@@ -2,6 +2,7 @@
 
 use std::arch::asm;
 use std::hint::black_box;
+use std::io::{stdout, Result, Write};
 use std::mem::transmute;
 
 use joukerpan_sys as engine;
@@ -201,12 +202,13 @@ fn inputs() -> Vec<Input> {
 }
 
 /// Prints the deepest stack of each call; says whether all are within the painted stack.
-pub fn print() -> bool {
+pub fn print() -> Result<bool> {
+    let mut output = stdout().lock();
     let mut paint = vec![PAINT; WORDS];
     let mut inputs = inputs();
     let (engine, empty) = (Calls::of_the_engine(), Calls::empty());
-    println!("| Call | Stack of the engine, bytes | With arguments and answer, bytes |");
-    println!("|---|---:|---:|");
+    writeln!(output, "| Call | Stack of the engine, bytes | With arguments and answer, bytes |")?;
+    writeln!(output, "|---|---:|---:|")?;
     let mut deepest = 0;
     for (name, call) in CALLS {
         let mut whole = 0;
@@ -218,8 +220,8 @@ pub fn print() -> bool {
             own = own.max(all - base);
         }
         deepest = deepest.max(whole);
-        println!("| {name} | {own} | {whole} |");
+        writeln!(output, "| {name} | {own} | {whole} |")?;
     }
-    println!("\ndeepest: {deepest} bytes");
-    deepest < 8 * WORDS
+    writeln!(output, "\ndeepest: {deepest} bytes")?;
+    Ok(deepest < 8 * WORDS)
 }
