@@ -22,7 +22,7 @@ fields (b ∷ bs) = pick (eqb b 32) ([] ∷ fields bs) (longer b (fields bs))
 unfoldable pub fieldsFrom : List ℕ → ℕ → List (List ℕ)
 fieldsFrom bytes at = pick (leb at (length bytes)) (fields (drop at bytes)) []
 
--- no numbers, and not even a line's: a field is none, or there are too many
+-- no numbers: a field is none, or there are more than eight
 abbrev pub noMore : More
 noMore = record { proper = false; count = 0; cells = replicate 8 0 }
 

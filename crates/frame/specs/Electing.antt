@@ -21,6 +21,7 @@ ruleOf r = byWeights (r .weights)
 abbrev pub electedOf : Record → List ℕ → Office
 electedOf r words = withElect (ruleOf r) (heldBy r words)
 
+-- 1: "record unsound, or log below 1024 words", with "count .. 0" and the record as it was
 unfoldable pub electOf : Record → List ℕ → Elected
 electOf r words =
     pick (soundB r words)

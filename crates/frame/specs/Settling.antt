@@ -6,6 +6,7 @@ use Rattle.frame.specs.State.{heldBy}
 use Rattle.frame.specs.Soundness.{soundB}
 use Rattle.frame.specs.declared.Record.{Record}
 
+-- "empty part" where it is refused
 unfoldable pub settledOf : Record → List ℕ → List ℕ
 settledOf r words = pick (soundB r words) (heldBy r words .log) []
 

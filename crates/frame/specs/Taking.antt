@@ -37,6 +37,7 @@ takeNumber r words s = pick (soundB r words) (onReading (reading s) 7 (refuseCon
 unfoldable pub takenOffice : Record → List ℕ → List ℕ → Office
 takenOffice r words s = onReading (reading s) (heldBy r words) (λ c. withTake (r .own) (asMessage c) (heldBy r words))
 
+-- the record as it was where it is refused
 unfoldable pub takeOf : Record → List ℕ → List ℕ → Taken
 takeOf r words s = record {
   number = takeNumber r words s;

@@ -4,11 +4,14 @@ use mathlib.Core.List.{List}
 use lib.ListN.{take, replicate}
 use Rattle.lines.specs.declared.Held.{Held}
 
+-- the bytes that are held
 abbrev pub lineHeld : Held → List ℕ
 lineHeld h = take (h .length) (h .bytes)
 
+-- as much of a line as is held
 abbrev pub cut : List ℕ → List ℕ
 cut line = take 129 line
 
+-- no byte is held
 abbrev pub nothing : Held
 nothing = record { length = 0; bytes = replicate 129 0 }

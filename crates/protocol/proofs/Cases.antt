@@ -134,7 +134,7 @@ cases = (
   (refl, refl),
 )
 
--- "Mistakes that suggest themselves", where each would show
+-- "Mistakes that suggest themselves", where each would show, and two more that no lettered case shows
 pub mistakes :
     -- "comparing paths by per-office counts": 1:ab has as many entries of each office as 0:bad, or fewer, and does not become it
     Takes 1 (from 0 (state [] (b ∷ a ∷ d ∷ []) [] [])) (state [] [] (a ∷ b ∷ []) []) (state [] (b ∷ a ∷ d ∷ []) (a ∷ b ∷ []) []) ×
@@ -143,9 +143,13 @@ pub mistakes :
     -- "breaking a tie before U is added": T(a) = T(b) = 40, U 20
     (Tally (three 40 40 20) inC a 40 × Tally (three 40 40 20) inC b 40 × Unheard (three 40 40 20) inC 20 × Elects (three 40 40 20) inC inC 0) ×
     -- "adopting a ballot that merely has more entries": 1:b does not become 0:ad
-    Takes 1 messageJ (state [] [] (b ∷ []) []) (state [] (a ∷ d ∷ []) (b ∷ []) [])
+    Takes 1 messageJ (state [] [] (b ∷ []) []) (state [] (a ∷ d ∷ []) (b ∷ []) []) ×
+    -- using "the message's ballot for the receiver itself": 1:b does not become the message's 1:bd
+    Takes 1 (from 0 (state [] [] (b ∷ d ∷ []) [])) (state [] [] (b ∷ []) []) (state [] [] (b ∷ []) []) ×
+    -- resetting all ballots when the log grows, or none: with log a, 0:ad keeps its path, 1:b and 2:a become none
+    Takes 1 (from 2 settledA) (state [] (a ∷ d ∷ []) (b ∷ []) (a ∷ [])) (state (a ∷ []) (d ∷ []) [] [])
 unfolding begins extends tally unheard supported wins winner rebase catchUp withTake refuseTake settle electing withElect
-mistakes = ((refl, refl), refl, refl, (refl, refl, refl, (refl, refl)), (refl, refl))
+mistakes = ((refl, refl), refl, refl, (refl, refl, refl, (refl, refl)), (refl, refl), (refl, refl), (refl, refl))
 
 -- "Tails of 31 and 32, lengths of 1023 and 1024, line 63 and 64, code 9999 and 10000": the number of an issue at office 0
 abbrev full : ℕ → ℕ → Office

@@ -16,7 +16,7 @@ use lib.ListN.{length, getD, length-append}
 use Rattle.protocol.specs.Vote.{Rule, byWeights}
 use Rattle.protocol.specs.Winning.{Wins}
 use Rattle.protocol.specs.Office.{Office, first, votes}
-use Rattle.protocol.specs.Elect.{lose, settle, total, next, electing, withElect, electCount}
+use Rattle.protocol.specs.Elect.{lose, settle, tailEntries, next, electing, withElect, electCount}
 use Rattle.protocol.proofs.Vote.{NamesVoted, byWeights-voted, winner-none}
 use Rattle.protocol.proofs.Office.{next-cases}
 
@@ -35,16 +35,16 @@ lose-shorter e x t = go (eqb x e)
     go true = omega arith
     go false = omega arith
 
-total-short : (e : ℕ) (ts : List (List ℕ)) → total (map (lose e) ts) ≤ total ts
-total-short e [] = omega arith
-total-short e (t ∷ ts) = omega (arith, lose-short e t, total-short e ts)
+entries-short : (e : ℕ) (ts : List (List ℕ)) → tailEntries (map (lose e) ts) ≤ tailEntries ts
+entries-short e [] = omega arith
+entries-short e (t ∷ ts) = omega (arith, lose-short e t, entries-short e ts)
 
 -- a vote is a tail that gets shorter
-total-shorter : (e x : ℕ) (ts : List (List ℕ)) (k : ℕ) → first (getD ts k []) ≡ some x → total (map (lose e) ts) < total ts
-total-shorter e x [] k h = absurd (Option·none-ne-some x h)
-total-shorter e x ([] ∷ ts) zero h = absurd (Option·none-ne-some x h)
-total-shorter e x ((y ∷ t) ∷ ts) zero h = omega (arith, lose-shorter e y t, total-short e ts)
-total-shorter e x (t ∷ ts) (suc k) h = omega (arith, lose-short e t, total-shorter e x ts k h)
+entries-shorter : (e x : ℕ) (ts : List (List ℕ)) (k : ℕ) → first (getD ts k []) ≡ some x → tailEntries (map (lose e) ts) < tailEntries ts
+entries-shorter e x [] k h = absurd (Option·none-ne-some x h)
+entries-shorter e x ([] ∷ ts) zero h = absurd (Option·none-ne-some x h)
+entries-shorter e x ((y ∷ t) ∷ ts) zero h = omega (arith, lose-shorter e y t, entries-short e ts)
+entries-shorter e x (t ∷ ts) (suc k) h = omega (arith, lose-short e t, entries-shorter e x ts k h)
 
 -- ── any rule ──
 -- the log grows by at most one entry a step
@@ -66,35 +66,32 @@ electing-log rule (suc fuel) o =
 pub elect-log : (rule : Rule) (o : Office) → (settled : List ℕ) × (withElect rule o .log ≡ o .log ++ settled) × (length settled ≡ electCount rule o)
 unfolding withElect
 elect-log rule o =
-    let g = electing-log rule (total (o .tails)) o in
+    let g = electing-log rule (tailEntries (o .tails)) o in
     (g .settled, g .log, omega (arith, ap length (g .log), length-append (o .log) (g .settled)))
 
 -- it needs no more steps than the tails have entries
-pub elect-most : (rule : Rule) (o : Office) → electCount rule o ≤ total (o .tails)
+pub elect-most : (rule : Rule) (o : Office) → electCount rule o ≤ tailEntries (o .tails)
 unfolding withElect
 elect-most rule o =
-    let g = electing-log rule (total (o .tails)) o in
+    let g = electing-log rule (tailEntries (o .tails)) o in
     omega (arith, ap length (g .log), length-append (o .log) (g .settled), g .most)
 
 -- no entry wins: nothing is settled
 pub elect-none : (rule : Rule) (o : Office) → rule (o .log) (votes o) ≡ none → withElect rule o ≡ o
 unfolding withElect electing
-elect-none rule o h = go (total (o .tails))
+elect-none rule o h = go (tailEntries (o .tails))
   where
     go : (fuel : ℕ) → electing rule fuel o ≡ o
     go zero = refl
     go (suc fuel) = ap (λ (r : Option ℕ). next r o (λ e. electing rule fuel (settle e o))) h
 
-pub count-none : (rule : Rule) (o : Office) → rule (o .log) (votes o) ≡ none → electCount rule o ≡ 0
-count-none rule o h = omega (arith, ap (λ (r : Office). length (r .log)) (elect-none rule o h))
-
 -- ── a rule whose winner has a vote ──
 module _ (rule : Rule) (law : NamesVoted rule) where
-  settle-shorter : (o : Office) (e : ℕ) → rule (o .log) (votes o) ≡ some e → total (settle e o .tails) < total (o .tails)
+  settle-shorter : (o : Office) (e : ℕ) → rule (o .log) (votes o) ≡ some e → tailEntries (settle e o .tails) < tailEntries (o .tails)
   unfolding settle
-  settle-shorter o e q = let k = law (o .log) (votes o) e q in total-shorter e e (o .tails) (k .0) (k .1)
+  settle-shorter o e q = let k = law (o .log) (votes o) e q in entries-shorter e e (o .tails) (k .0) (k .1)
 
-  stops : (fuel : ℕ) (o : Office) → total (o .tails) ≤ fuel → rule (electing rule fuel o .log) (votes (electing rule fuel o)) ≡ none
+  stops : (fuel : ℕ) (o : Office) → tailEntries (o .tails) ≤ fuel → rule (electing rule fuel o .log) (votes (electing rule fuel o)) ≡ none
   unfolding electing
   stops zero o h = go (rule (o .log) (votes o)) refl
     where
@@ -106,17 +103,17 @@ module _ (rule : Rule) (law : NamesVoted rule) where
       Stops : Office → Type 0
       Stops r = rule (r .log) (votes r) ≡ none
 
-      go : ((e : ℕ) → total (settle e o .tails) ≤ fuel → Stops (electing rule fuel (settle e o))) → (r : Option ℕ) → rule (o .log) (votes o) ≡ r → Stops (next r o (λ e. electing rule fuel (settle e o)))
+      go : ((e : ℕ) → tailEntries (settle e o .tails) ≤ fuel → Stops (electing rule fuel (settle e o))) → (r : Option ℕ) → rule (o .log) (votes o) ≡ r → Stops (next r o (λ e. electing rule fuel (settle e o)))
       go ih none q = q
       go ih (some e) q = ih e (omega (arith, settle-shorter o e q))
 
   -- "until no entry wins"
   pub elect-stops : (o : Office) → rule (withElect rule o .log) (votes (withElect rule o)) ≡ none
   unfolding withElect
-  elect-stops o = stops (total (o .tails)) o (le-refl (total (o .tails)))
+  elect-stops o = stops (tailEntries (o .tails)) o (le-refl (tailEntries (o .tails)))
 
   -- two allowances that are enough
-  same : (f g : ℕ) (o : Office) → total (o .tails) ≤ f → total (o .tails) ≤ g → electing rule f o ≡ electing rule g o
+  same : (f g : ℕ) (o : Office) → tailEntries (o .tails) ≤ f → tailEntries (o .tails) ≤ g → electing rule f o ≡ electing rule g o
   unfolding electing
   same zero zero o a b = refl
   same zero (suc g) o a b = go (rule (o .log) (votes o)) refl
@@ -131,23 +128,23 @@ module _ (rule : Rule) (law : NamesVoted rule) where
       go (some e) q = absurd (omega (arith, settle-shorter o e q))
   same (suc f) (suc g) o a b = go (λ e x y. same f g (settle e o) x y) (rule (o .log) (votes o)) refl
     where
-      go : ((e : ℕ) → total (settle e o .tails) ≤ f → total (settle e o .tails) ≤ g → electing rule f (settle e o) ≡ electing rule g (settle e o))
+      go : ((e : ℕ) → tailEntries (settle e o .tails) ≤ f → tailEntries (settle e o .tails) ≤ g → electing rule f (settle e o) ≡ electing rule g (settle e o))
           → (r : Option ℕ) → rule (o .log) (votes o) ≡ r → next r o (λ e. electing rule f (settle e o)) ≡ next r o (λ e. electing rule g (settle e o))
       go ih none q = refl
       go ih (some e) q = let s = settle-shorter o e q in ih e (omega arith) (omega arith)
 
   -- any allowance that the tails' entries do not exceed
-  pub electing-enough : (fuel : ℕ) (o : Office) → total (o .tails) ≤ fuel → electing rule fuel o ≡ withElect rule o
+  pub electing-enough : (fuel : ℕ) (o : Office) → tailEntries (o .tails) ≤ fuel → electing rule fuel o ≡ withElect rule o
   unfolding withElect
-  electing-enough fuel o h = same fuel (total (o .tails)) o h (le-refl (total (o .tails)))
+  electing-enough fuel o h = same fuel (tailEntries (o .tails)) o h (le-refl (tailEntries (o .tails)))
 
   -- e wins: elect settles it and goes on from there
   pub elect-some : (o : Office) (e : ℕ) → rule (o .log) (votes o) ≡ some e → withElect rule o ≡ withElect rule (settle e o)
   unfolding electing
   elect-some o e q =
-      sym (electing-enough (suc (total (o .tails))) o (omega arith))
-      ∙ ap (λ (r : Option ℕ). next r o (λ e. electing rule (total (o .tails)) (settle e o))) q
-      ∙ electing-enough (total (o .tails)) (settle e o) (omega (arith, settle-shorter o e q))
+      sym (electing-enough (suc (tailEntries (o .tails))) o (omega arith))
+      ∙ ap (λ (r : Option ℕ). next r o (λ e. electing rule (tailEntries (o .tails)) (settle e o))) q
+      ∙ electing-enough (tailEntries (o .tails)) (settle e o) (omega (arith, settle-shorter o e q))
 
   pub count-some : (o : Office) (e : ℕ) → rule (o .log) (votes o) ≡ some e → electCount rule o ≡ 1 + electCount rule (settle e o)
   unfolding settle

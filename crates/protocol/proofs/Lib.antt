@@ -8,7 +8,6 @@ pub mod Vote
 pub mod Office
 pub mod Elect
 pub mod Limits
-pub mod WorldLimits
 -- demand 3: what is asked of the rule, the four invariants, each call, the theorem
 pub mod Lawful
 pub mod History

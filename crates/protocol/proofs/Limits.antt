@@ -9,11 +9,10 @@ use mathlib.Core.List.{List, [], _∷_, _++_, append-nil}
 use mathlib.Core.Option.{none, some, Option·none-ne-some, Option·some-injective}
 use mathlib.Core.Logic.{_⊎_, inl, inr}
 use Prim.Native.Nat.{ℕ, zero, suc, _+_, _-_, _<_, _≤_}
-use native.Mathlib.Nat.{not-suc-le-zero, le-of-suc-le-suc}
 use native.Mathlib.Decide.{decLt}
 use native.Mathlib.Omega.{arith}
 use lib.Dec.{eqb, ltb}
-use lib.ListN.{length, getD, drop, replicate, length-append, length-map, length-set, length-drop}
+use lib.ListN.{length, drop, replicate, length-append, length-map, length-set, length-drop}
 use lib.Seq.{drop-set-lt}
 use borrow.Author.Tests.{eqb-true, eqb-false, leb-true, ltb-false, eq-eqb, le-leb, lt-ltb}
 use Rattle.protocol.specs.Tests.{allB}
@@ -84,17 +83,6 @@ pub empty-nil : (t : List ℕ) → isEmpty t ≡ true → t ≡ []
 unfolding isEmpty
 empty-nil [] e = refl
 empty-nil (x ∷ t) e = absurd (true≢false (sym e))
-
--- "ballots from office n on are none"
-pub none-from : (n : ℕ) (o : Office) → Fine n o → (k : ℕ) → n ≤ k → tail o k ≡ []
-unfolding isEmpty
-none-from n o f k h = go n (o .tails) k h (f .rest)
-  where
-    go : (n : ℕ) (ts : List (List ℕ)) (k : ℕ) → n ≤ k → allB isEmpty (drop n ts) ≡ true → getD ts k [] ≡ []
-    go zero ts k h e = empty-nil (getD ts k []) (all-getD isEmpty [] ts k e refl)
-    go (suc n) [] k h e = refl
-    go (suc n) (t ∷ ts) zero h e = absurd (not-suc-le-zero h)
-    go (suc n) (t ∷ ts) (suc k) h e = go n ts k (le-of-suc-le-suc h) e
 
 -- ── a fresh office ──
 pub fresh-fine : (n : ℕ) → Fine n fresh

@@ -164,14 +164,3 @@ electing-moves rule (suc fuel) o j =
 pub elect-moves : (rule : Rule) (o : Office) (j : ℕ) → OfficeMoves j o (withElect rule o)
 unfolding withElect
 elect-moves rule o j = electing-moves rule _ o j
-
--- ── the settled log only grows ──
-pub issue-log : (k e : ℕ) (o : Office) → withIssue k e o .log ≡ o .log
-unfolding withIssue
-issue-log k e o = refl
-
-pub take-grows : (k : ℕ) (m : Message) (o : Office) → o .log ⊑ withTake k m o .log
-take-grows k m o = take-moves k m o 0 .0
-
-pub elect-grows : (rule : Rule) (o : Office) → o .log ⊑ withElect rule o .log
-elect-grows rule o = elect-moves rule o 0 .0

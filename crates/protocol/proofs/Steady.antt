@@ -49,10 +49,6 @@ step-moves rule w c j =
     if-cases (λ x. OfficeMoves j (at w j) (at x j)) (names w c && eqb (refusal w c) 0) (done rule w c) w
     (λ _. done-moves rule w c j) (λ _. moves-refl (at w j .log) (path (at w j) j))
 
--- the settled log only grows
-pub step-grows : (rule : Rule) (w : World) (c : Call) (j : ℕ) → at w j .log ⊑ at (step rule w c) j .log
-step-grows rule w c j = step-moves rule w c j .0
-
 -- ── all calls ──
 module _ (rule : Rule) (n : ℕ) where
   call-moves : (c : Call) (cs : List Call) (k : ℕ) → Moves (logAt rule n k cs) (ownAt rule n k cs) (logAt rule n k (c ∷ cs)) (ownAt rule n k (c ∷ cs))

@@ -18,9 +18,9 @@ unfoldable pub settle : ℕ → Office → Office
 settle e o = record { log = o .log ++ (e ∷ []); tails = map (lose e) (o .tails) }
 
 -- how many entries the tails have
-abbrev pub total : List (List ℕ) → ℕ
-total [] = 0
-total (t ∷ ts) = length t + total ts
+abbrev pub tailEntries : List (List ℕ) → ℕ
+tailEntries [] = 0
+tailEntries (t ∷ ts) = length t + tailEntries ts
 
 -- what follows a step: `a` where no entry wins, `go e` where e does
 abbrev pub next : {A : Type 0} → Option ℕ → A → (ℕ → A) → A
@@ -34,7 +34,7 @@ electing rule (suc fuel) o = next (rule (o .log) (votes o)) o (λ e. electing ru
 
 -- each step shortens the tails, so as many steps as they have entries are enough (law `elect-stops`)
 unfoldable pub withElect : Rule → Office → Office
-withElect rule o = electing rule (total (o .tails)) o
+withElect rule o = electing rule (tailEntries (o .tails)) o
 
 -- how many entries it settled
 abbrev pub electCount : Rule → Office → ℕ

@@ -8,6 +8,7 @@ use Rattle.protocol.specs.Tests.{both, allB}
 use Rattle.protocol.specs.Entry.{isEntry}
 use Rattle.protocol.specs.Office.{Office}
 
+-- no ballot: "length 0 means none"
 unfoldable pub isEmpty : List ℕ → Bool
 isEmpty [] = true
 isEmpty (x ∷ t) = false

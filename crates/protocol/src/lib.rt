@@ -1,8 +1,8 @@
 // Document 01 on lists: definitions in specs/, their laws and the one-order theorem in proofs/. A crate has at least one function.
 ghost use mathlib.Core.Path.{_≡_};
 
-// The number itself.
-pub fn same(x: usize) -> usize
+// The number itself; nothing calls it.
+fn same(x: usize) -> usize
     ensures { λ r. ⌜ r ≡ x ⌝ }
 {
     x

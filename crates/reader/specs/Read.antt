@@ -20,6 +20,7 @@ ballotsOf n ts = map ballotOf (eightTails n ts)
 unfoldable pub eightWeights : ℕ → List ℕ → List ℕ
 eightWeights n ws = ws ++ replicate (8 - n) 0
 
+-- the records are not of the layout
 unfoldable pub badRecords : Records
 badRecords = record { ok = false; ballots = replicate 8 noBallot }
 
@@ -31,6 +32,7 @@ ballotsAt n k at s = pick (ballotsOk n k 0 n (drop at s)) (record { ok = true; b
 unfoldable pub recordsAt : ℕ → ℕ → List ℕ → Records
 recordsAt n k s = pick (recordsOk n k s) (record { ok = true; ballots = ballotsOf n (tailsAt 0 n (drop (6 * k) s)) }) badRecords
 
+-- the bytes are no message
 unfoldable pub badReading : Reading
 badReading =
     record { ok = false; sender = 0; n = 0; weights = replicate 8 0; settled = 0; head = 0; ballots = replicate 8 noBallot }

@@ -11,6 +11,7 @@ use Rattle.records.specs.declared.BallotStep.{BallotStep}
 use Rattle.records.specs.declared.EndStep.{EndStep}
 use Rattle.records.specs.declared.LogStep.{LogStep}
 
+-- no log record stands there
 unfoldable pub badLog : LogStep
 badLog = record { ok = false; value = 0; next = 0 }
 
@@ -22,6 +23,7 @@ logAt n at s = pick (recordHere n (drop at s)) (record { ok = true; value = reco
 unfoldable pub entryAt : ℕ → List ℕ → LogStep
 entryAt at s = pick (leb 6 (length (drop at s))) (record { ok = true; value = recordAt (drop at s); next = at + 6 }) badLog
 
+-- a ballot stands there that is outside the limits
 unfoldable pub badBallot : BallotStep
 badBallot = record { ok = false; next = 0; ballot = noBallot }
 

@@ -47,7 +47,8 @@ fn serve(
     }
 }
 
-// A proved loop has to end, and nothing says that an input does: the loop counts its turns down, from a number that no run uses up.
+// Answers a rehearsal from standard input, to its end. A proved loop has to end, and nothing says that an input does: the loop counts its
+// turns down, from a number that no run uses up.
 pub fn rehearse() {
     let mut logs = [0u32; 8192];
     let mut slots = [0u8; 28128];

@@ -10,7 +10,7 @@ use Rattle.commands.specs.declared.Parsed.the-variants.{Says, Other}
 use Rattle.stage.specs.declared.aims.Aim.{Aim}
 use Rattle.stage.specs.declared.aims.Aim.the-variants.{Everyone, At, Nobody}
 
--- the office, if it is there; before a done `f` none is
+-- the office, if it is there; before a done `f` none is. There are records for eight
 unfoldable pub atOffice : ℕ → ℕ → Command → Aim
 atOffice offices k c = pick (ltb k offices) (pick (ltb k 8) (At k c) Nobody) Nobody
 

@@ -12,7 +12,7 @@ pub enum Aim {
     Nobody,
 }
 
-// The office, if it is there.
+// The office, if it is there. There are records for eight.
 fn at_office(offices: usize, k: usize, command: Command) -> Aim
     ensures { λ r. ⌜ r ≡ atOffice offices k command ⌝ }
 {
@@ -25,6 +25,7 @@ fn at_office(offices: usize, k: usize, command: Command) -> Aim
     Aim::At(k, command)
 }
 
+// A founding is everyone's, any other command its office's.
 fn command_aim(offices: usize, command: Command) -> Aim
     ensures { λ r. ⌜ r ≡ commandAim offices command ⌝ }
 {

@@ -17,6 +17,7 @@ pub struct Turn {
     pub answer: Answer,
 }
 
+// A number as an answer holds it.
 fn wide(x: u32) -> usize
     ensures { λ r. ⌜ r ≡ x ⌝ }
 {

@@ -181,7 +181,7 @@ fn unsound_records(trials: &mut Trials) {
     trials.all_calls();
 }
 
-/// Every clause on the log broken singly; every call refuses.
+/// A word that is no entry, settled or past the settled ones, and logs around their least length.
 fn unsound_logs(trials: &mut Trials) {
     for word in [entry(3, 0, 0), entry(0, 64, 0), entry(0, 0, 10_000), u32::MAX] {
         for at in [0, 1, 2] {
