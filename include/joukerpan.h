@@ -4,8 +4,8 @@
  * The engine holds no state, takes no memory and opens no file. One office's state is a record, passed
  * and answered by value, and a log, an array of at least 1,024 words that the caller lends. A call gives
  * a defined answer to every record, log, message and number. It answers 0 when it is done; any other
- * number is a refusal (below), and then the record in the answer is the one that was handed in, and log
- * and output keep their contents.
+ * number is a refusal (below), and then the record in the answer is the one that was handed in (of a
+ * refused founding: all zero), and log and output keep their contents.
  *
  * What is asked of a caller is what C asks of every call: a pointer with its count names that many
  * elements (count elements, not bytes), is aligned and is not null, even where the count is 0; a log
