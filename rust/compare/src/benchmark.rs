@@ -121,7 +121,7 @@ macro_rules! call {
     };
 }
 
-/// The calls that only read, or change the record alone.
+/// The calls that only read.
 fn reading_cases(settled: usize, ballots: Ballots, cases: &mut Vec<Case>) {
     let Sample { record, log } = state(settled, ballots, 0);
     let proved = to_engine(&record);
@@ -149,12 +149,21 @@ fn reading_cases(settled: usize, ballots: Ballots, cases: &mut Vec<Case>) {
             call!(plain::settled_frame(black_box(&record), &b, black_box(line))),
         );
     }
-    let (a, b) = (log.clone(), log.clone());
+    let (a, b) = (log.clone(), log);
     case(
         "tentative frame, no entry",
         call!(unsafe { engine::joukerpan_tentative_frame(*black_box(&proved), a.as_ptr(), LOG, black_box(63)) }),
         call!(plain::tentative_frame(black_box(&record), &b, black_box(63))),
     );
+}
+
+/// Issue, which changes the record alone, and send.
+fn writing_cases(settled: usize, ballots: Ballots, cases: &mut Vec<Case>) {
+    let Sample { record, log } = state(settled, ballots, 0);
+    let proved = to_engine(&record);
+    let mut case = |call: &str, engine: Box<dyn FnMut()>, second: Box<dyn FnMut()>| {
+        cases.push(Case { call: call.into(), settled, ballots: ballots.name(), engine, second });
+    };
     let (a, b) = (log.clone(), log.clone());
     case(
         "issue",
@@ -218,6 +227,7 @@ fn cases() -> Vec<Case> {
         let most = if ballots == Ballots::Empty { LOG } else { LOG - TAIL };
         for settled in [0, 256, most] {
             reading_cases(settled, ballots, &mut cases);
+            writing_cases(settled, ballots, &mut cases);
             elect_case(settled, ballots, &mut cases);
             let name = ballots.name();
             let (receiver, sender) = (state(settled, ballots, 0), state(settled, ballots, 1));
