@@ -11,6 +11,7 @@ use crate::Rehearsal;
 use answers::print;
 use commands::Line;
 use commands::line_of;
+use frame::Record;
 use lines::Held;
 use lines::part_end;
 use lines::within;
@@ -67,8 +68,8 @@ fn feed_all(r: Rehearsal, logs: &mut [u32], slots: &mut [u8], chunk: &[u8], out:
                 printed = print(out, printed, answer);
             }
             Aim::At(k, command) => {
-                let from = k * 1024;
-                let to = from + 1024;
+                let from = k * Record::LOG;
+                let to = from + Record::LOG;
                 let record = stage.records[k];
                 let lengths = stage.lengths;
                 let turn = turn_at(record, lengths, &mut logs[from..to], slots, command);

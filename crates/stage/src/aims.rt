@@ -3,6 +3,7 @@ ghost use mathlib.Core.Path.{_≡_};
 ghost use Rattle.stage.specs.Aims.{atOffice, commandAim, aimOf};
 use commands::Command;
 use commands::Parsed;
+use frame::Record;
 
 pub enum Aim {
     // a founding of so many offices
@@ -19,7 +20,7 @@ fn at_office(offices: usize, k: usize, command: Command) -> Aim
     if k >= offices {
         return Aim::Nobody;
     }
-    if k >= 8 {
+    if k >= Record::OFFICES {
         return Aim::Nobody;
     }
     Aim::At(k, command)

@@ -21,8 +21,8 @@ fn fresh_at(n: usize, weights: [u16; 8], logs: &[u32], k: usize) -> Record
     requires { ⌜ (k < 8) × (length (now logs) ≡ 8192) ⌝ }
     ensures { λ r. ⌜ r ≡ freshAt n weights (now (logs .entry)) k ⌝ }
 {
-    let from = k * 1024;
-    let to = from + 1024;
+    let from = k * Record::LOG;
+    let to = from + Record::LOG;
     let found = Record::found(n, k, weights, &logs[from..to]);
     found.record
 }
@@ -64,7 +64,7 @@ pub fn found(stage: Stage, n: usize, weights: [u16; 8], logs: &[u32]) -> Foundin
     requires { ⌜ length (now logs) ≡ 8192 ⌝ }
     ensures { λ r. ⌜ r ≡ founded stage n weights (now (logs .entry)) ⌝ }
 {
-    let first = Record::found(n, 0, weights, &logs[..1024]);
+    let first = Record::found(n, 0, weights, &logs[..Record::LOG]);
     let answer = says_one(b'f', first.number);
     if first.number != 0 {
         return Founding { stage, answer };

@@ -10,6 +10,11 @@ use commands::Command;
 use frame::Record;
 use lines::within;
 
+// The message slots, and the bytes of one: those of the longest message.
+const SLOTS: usize = 4;
+
+const SLOT: usize = 7032;
+
 // The record and the lengths of the slots' messages after the turn, and the answer.
 pub struct Turn {
     pub record: Record,
@@ -112,8 +117,8 @@ fn send_turn(record: Record, lengths: [usize; 4], log: &[u32], slots: &mut [u8],
     requires { ⌜ (m < 4) × (length (now slots) ≡ 28128) ⌝ }
     ensures { λ r. ⌜ (r ≡ sendTurn «record» lengths (now (log .entry)) (now (slots .entry)) m) × (now (slots .exit) ≡ sendSlots «record» (now (log .entry)) (now (slots .entry)) m) ⌝ }
 {
-    let from = m * 7032;
-    let to = from + 7032;
+    let from = m * SLOT;
+    let to = from + SLOT;
     let sent = record.send(log, &mut slots[from..to]);
     let next = sent_lengths(lengths, m, sent.number, sent.length);
     let answer = says_two(b's', sent.number, sent.length);
@@ -129,8 +134,8 @@ fn take_turn(record: Record, lengths: [usize; 4], log: &mut [u32], slots: &[u8],
     requires { ⌜ (m < 4) × (length (now slots) ≡ 28128) ⌝ }
     ensures { λ r. ⌜ (r ≡ takeTurn «record» lengths (now (log .entry)) (now (slots .entry)) m) × (now (log .exit) ≡ takeTurnWords «record» lengths (now (log .entry)) (now (slots .entry)) m) ⌝ }
 {
-    let from = m * 7032;
-    let size = within(lengths[m], 7032);
+    let from = m * SLOT;
+    let size = within(lengths[m], SLOT);
     let to = from + size;
     let taken = record.take(log, &slots[from..to]);
     let next = taken.record;
@@ -187,13 +192,13 @@ pub fn turn_at(
         Command::Found(_) => stay(record, lengths),
         Command::Issue(_, line, code) => issue_turn(record, lengths, log, line, code),
         Command::Send(_, m) => {
-            if m >= 4 {
+            if m >= SLOTS {
                 return stay(record, lengths);
             }
             send_turn(record, lengths, log, slots, m)
         }
         Command::Take(_, m) => {
-            if m >= 4 {
+            if m >= SLOTS {
                 return stay(record, lengths);
             }
             take_turn(record, lengths, log, slots, m)
