@@ -20,7 +20,7 @@ use Rattle.protocol.specs.World as P
 use Rattle.protocol.specs.World.{names, refusal, done, step as stepP}
 use Rattle.protocol.proofs.Tests.{pick-cases}
 use Rattle.frame.specs.Sending.{sendOf}
-use Rattle.agreement.specs.World.{Desk, World, Call, issue, send, take, elect, deskAt, messageAt, onSome, number, put, post, posted, step}
+use Rattle.agreement.specs.World.{Desk, World, Call, issue, send, take, elect, deskAt, messageAt, onSome, put, post, posted, step}
 use Rattle.agreement.specs.Demand.{Founded, says}
 use Rattle.agreement.proofs.Places.{nothing, there, not-there, map-there}
 use Rattle.agreement.proofs.View.{view, means, sendDone, callOf, Manned, Faithful, put-faithful, post-faithful, view-there, view-at, view-none, put-view}

@@ -11,7 +11,7 @@ use native.Mathlib.Omega.{arith}
 use native.Mathlib.Numerals.{add-one}
 use lib.ListN.{length, drop, getD, set, length-append, length-take, drop-of-length-le}
 use lib.Seq.{sets, drop-cons}
-use Rattle.spelling.proofs.Numbers.{sets-append}
+use Rattle.protocol.proofs.Stores.{sets-append}
 use Rattle.answers.specs.declared.Answer.{Answer}
 use Rattle.answers.specs.Decimal.{glyph, spaced, decimalIn}
 use Rattle.answers.specs.Answer.{spacedAll, numbersOf, printedOf}

@@ -15,7 +15,7 @@ use lib.ListN.{length, take, drop, length-append, length-take, length-drop}
 use lib.Seq.{sets, length-sets, take-all, drop-drop}
 use borrow.Author.Tests.{eq-eqb, ne-eqb}
 use Rattle.protocol.specs.Tests.{pick}
-use Rattle.spelling.proofs.Numbers.{sets-append}
+use Rattle.protocol.proofs.Stores.{sets-append}
 use Rattle.lines.specs.Parts.{partLength}
 use Rattle.lines.specs.Held.{cut}
 use Rattle.lines.specs.Feeding.{Said, Fed, saidThen, feedBy, finishBy, FedAs}

@@ -1,8 +1,9 @@
 -- The laws of document 01's definitions, and demand 3 on lists.
 -- the lettered cases
 pub mod Cases
--- tests, beginnings, the winning rule, the calls at one office
+-- tests, runs of stores, beginnings, the winning rule, the calls at one office
 pub mod Tests
+pub mod Stores
 pub mod Beginning
 pub mod Vote
 pub mod Office

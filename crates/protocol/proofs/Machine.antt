@@ -7,7 +7,7 @@ use lib.ListN as L
 use lib.ListN.{getD}
 use Rattle.protocol.specs.Vote.{Rule}
 use Rattle.protocol.specs.Office.{path}
-use Rattle.protocol.specs.World.{World, Call, issue, at, founded, refusal, step, run}
+use Rattle.protocol.specs.World.{World, Call, issue, at, refusal, run}
 use Rattle.protocol.specs.OneOrder.{longest, settledLogs, world, IssuedIn, OneOrder}
 use Rattle.protocol.specs.Machine.{Machine, runs, Follows, reached, IssuedBy, OneOrderOf}
 use Rattle.protocol.proofs.Lawful.{Lawful}
@@ -99,19 +99,3 @@ module _ (m : Machine) (rule : Rule) (n : ℕ) (f : Follows m rule n) where
             its-code = i .its-code;
             view = subst (λ (w : World). path (at w (i .k)) (i .k) ≡ p) same (i .view);
           }
-
--- document 01's world on lists is such a machine
-pub self : Rule → ℕ → Machine
-self rule n = record { W = World; C = Call; start = founded n; move = step rule; number = refusal; view = λ w. w; call = λ w c. c }
-
-pub self-follows : (rule : Rule) (n : ℕ) → Follows (self rule n) rule n
-unfolding self
-self-follows rule n = record {
-  Sound = λ w. Unit {0};
-  sound-start = tt;
-  sound-move = λ w c s. tt;
-  starts = refl;
-  moves = λ w c s. refl;
-  tens = λ w c s h. h;
-  issues = λ w c k line code s e h. ap (refusal w) e ∙ h;
-}

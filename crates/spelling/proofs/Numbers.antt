@@ -2,9 +2,9 @@
 use Prim.Native.Nat.{ℕ, suc, _+_, _*_, _/_, _%_, _<_, _-_, _≤_, zero}
 use mathlib.Core.List.{List, [], _∷_, _++_}
 use mathlib.Core.Path.{_≡_, sym, ap, _∙_, refl}
-use native.Mathlib.Nat.{add-zero, add-suc, suc-add, div-div-eq-div-mul, mod-eq-of-lt, sub-zero, zero-add}
+use native.Mathlib.Nat.{div-div-eq-div-mul, mod-eq-of-lt, sub-zero, zero-add}
 use native.Mathlib.Omega.{arith}
-use lib.ListN.{length, set, drop, length-replicate, replicate}
+use lib.ListN.{length, drop, length-replicate, replicate}
 use lib.Seq.{sets, sets-eq}
 use Rattle.spelling.specs.Numbers.{bytes32, be16, bytes16, be32}
 
@@ -44,10 +44,6 @@ bytes32-be32 a b c d r ha hb hc hd =
     cc
 
 -- ---- a run of stores
-
-pub sets-append : (l : List ℕ) (i : ℕ) (xs ys : List ℕ) → sets l i (xs ++ ys) ≡ sets (sets l i xs) (i + length xs) ys
-sets-append l i [] ys = rw add-zero
-sets-append l i (x ∷ xs) ys = sets-append (set l i x) (suc i) xs ys ∙ simp (add-suc, suc-add)
 
 -- cells that are all alike, the first of them stored
 drop-alike : {A : Type 0} (m k : ℕ) (x : A) → drop k (replicate m x) ≡ replicate (m - k) x

@@ -11,10 +11,10 @@ use lib.ListN.{length, getD, take, drop, set, length-drop, length-take, drop-of-
 use lib.Seq.{sets, drop-drop, drop-cons, getD-take, length-take-le}
 use borrow.Author.Tests.{leb-true}
 use Rattle.protocol.specs.Tests.{both}
+use Rattle.protocol.proofs.Stores.{sets-append}
 use Rattle.protocol.proofs.Tests.{both-0, both-1}
 use Rattle.spelling.specs.Numbers.{runAt, run, runOk}
 use Rattle.spelling.specs.Reading.{recordHere, valueHere}
-use Rattle.spelling.proofs.Numbers.{sets-append}
 
 -- reading: what is left to test at turn i, of k, at position at
 pub test-step : (w : ℕ) (p : List ℕ → Bool) (k i at : ℕ) (s : List ℕ) → i < k → p (drop at s) ≡ true → runOk w p (k - i) (drop at s) ≡ runOk w p (k - (i + 1)) (drop (at + w) s)

@@ -1,7 +1,7 @@
 -- What a call answered, put into a turn: each law takes the call's promise and the answer's. Assumes nothing.
 use mathlib.Core.Path.{_≡_, sym, ap, _∙_}
 use mathlib.Core.List.{List, _++_}
-use Prim.Native.Nat.{ℕ, _+_, _-_, _*_, _<_, _≤_, min}
+use Prim.Native.Nat.{ℕ, _*_, _<_, _≤_, min}
 use native.Mathlib.Nat.{min-le-right}
 use lib.Seq.{length-take-le, take-take}
 use Rattle.lines.proofs.Holding.{take-within}

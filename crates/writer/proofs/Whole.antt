@@ -14,7 +14,7 @@ use Rattle.spelling.specs.Numbers.{be16, bytes16, run}
 use Rattle.spelling.specs.Reading.{recordAt, recordHere, weightHere}
 use Rattle.spelling.specs.Spelling.{ballotsBytes, endBytes, headBytes, logRecord, spelling}
 use Rattle.spelling.proofs.Items.{recordItem, weightItem}
-use Rattle.spelling.proofs.Numbers.{sets-append}
+use Rattle.protocol.proofs.Stores.{sets-append}
 use Rattle.spelling.proofs.Runs.{run-length}
 use Rattle.writer.specs.Written.{contentOf, size, tailsOf}
 
@@ -62,36 +62,33 @@ module _ (sender n : ℕ) (ws log : List ℕ) (settled : ℕ) (of : List Ballot)
       sym (ap length spelled
       ∙ omega (arith, heads-length, logs-length, length-append heads (logs ++ (ballots ++ endBytes)), length-append logs (ballots ++ endBytes), length-append ballots endBytes))
 
-  pub whole-stores : (l l1 l2 l3 : List ℕ) (h b e : ℕ)
-      → h ≡ 6 + 2 * n
-      → l1 ≡ sets l 0 (headBytes sender n (take n ws) settled)
-      → b ≡ h + 6 * settled
-      → l2 ≡ sets l1 h (run logRecord (take settled log))
-      → e ≡ b + length (ballotsBytes 0 (tailsOf n of))
-      → l3 ≡ sets l2 b (ballotsBytes 0 (tailsOf n of))
-      → set (set l3 e 0x45) (e + 1) 0x4E ≡ sets l 0 (spelling (contentOf sender n ws log settled of))
-  unfolding all heads logs ballots endBytes
-  whole-stores l l1 l2 l3 h b e eh e1 eb e2 ee e3 =
-      let q : sets l 0 all ≡ sets (sets (sets (sets l 0 heads) h logs) b ballots) e endBytes =
-      ap (λ (x : List ℕ). sets l 0 x) spelled
-      ∙ sets-append l 0 heads (logs ++ (ballots ++ endBytes))
-      ∙ ap (λ (x : ℕ). sets (sets l 0 heads) x (logs ++ (ballots ++ endBytes))) (omega (arith, heads-length))
-      ∙ sets-append (sets l 0 heads) h logs (ballots ++ endBytes)
-      ∙ ap (λ (x : ℕ). sets (sets (sets l 0 heads) h logs) x (ballots ++ endBytes)) (omega (arith, logs-length))
-      ∙ sets-append (sets (sets l 0 heads) h logs) b ballots endBytes
-      ∙ ap (λ (x : ℕ). sets (sets (sets (sets l 0 heads) h logs) b ballots) x endBytes) (sym ee) in
-      rw (q, e3, e2, e1, add-one e)
+  -- the stores, one after the other: the head, the log records, the ballots, the end
+  module _
+      (l l1 l2 l3 : List ℕ)
+      (h b e : ℕ)
+      (eh : h ≡ 6 + 2 * n)
+      (e1 : l1 ≡ sets l 0 (headBytes sender n (take n ws) settled))
+      (eb : b ≡ h + 6 * settled)
+      (e2 : l2 ≡ sets l1 h (run logRecord (take settled log)))
+      (ee : e ≡ b + length (ballotsBytes 0 (tailsOf n of)))
+      (e3 : l3 ≡ sets l2 b (ballotsBytes 0 (tailsOf n of)))
+    where
+      whole-stores : set (set l3 e 0x45) (e + 1) 0x4E ≡ sets l 0 (spelling (contentOf sender n ws log settled of))
+      unfolding all heads logs ballots endBytes
+      whole-stores =
+          let q : sets l 0 all ≡ sets (sets (sets (sets l 0 heads) h logs) b ballots) e endBytes =
+          ap (λ (x : List ℕ). sets l 0 x) spelled
+          ∙ sets-append l 0 heads (logs ++ (ballots ++ endBytes))
+          ∙ ap (λ (x : ℕ). sets (sets l 0 heads) x (logs ++ (ballots ++ endBytes))) (omega (arith, heads-length))
+          ∙ sets-append (sets l 0 heads) h logs (ballots ++ endBytes)
+          ∙ ap (λ (x : ℕ). sets (sets (sets l 0 heads) h logs) x (ballots ++ endBytes)) (omega (arith, logs-length))
+          ∙ sets-append (sets (sets l 0 heads) h logs) b ballots endBytes
+          ∙ ap (λ (x : ℕ). sets (sets (sets (sets l 0 heads) h logs) b ballots) x endBytes) (sym ee) in
+          rw (q, e3, e2, e1, add-one e)
 
-  -- stores from the start of a buffer that has room leave its later bytes
-  pub whole-written : (l l1 l2 l3 : List ℕ) (h b e : ℕ)
-      → size n settled of ≤ length l
-      → h ≡ 6 + 2 * n
-      → l1 ≡ sets l 0 (headBytes sender n (take n ws) settled)
-      → b ≡ h + 6 * settled
-      → l2 ≡ sets l1 h (run logRecord (take settled log))
-      → e ≡ b + length (ballotsBytes 0 (tailsOf n of))
-      → l3 ≡ sets l2 b (ballotsBytes 0 (tailsOf n of))
-      → set (set l3 e 0x45) (e + 1) 0x4E ≡ spelling (contentOf sender n ws log settled of) ++ drop (length (spelling (contentOf sender n ws log settled of))) l
-  whole-written l l1 l2 l3 h b e room eh e1 eb e2 ee e3 =
-      whole-stores l l1 l2 l3 h b e eh e1 eb e2 ee e3
-      ∙ sets-eq (spelling (contentOf sender n ws log settled of)) l 0 (rw zero-add (omega (arith, size-is))) ∙ rw zero-add
+      -- stores from the start of a buffer that has room leave its later bytes
+      pub whole-written : size n settled of ≤ length l
+          → set (set l3 e 0x45) (e + 1) 0x4E ≡ spelling (contentOf sender n ws log settled of) ++ drop (length (spelling (contentOf sender n ws log settled of))) l
+      whole-written room =
+          whole-stores
+          ∙ sets-eq (spelling (contentOf sender n ws log settled of)) l 0 (rw zero-add (omega (arith, size-is))) ∙ rw zero-add

@@ -10,11 +10,8 @@ use Rattle.writer.proofs.ballot_size.Tie as tie
 full : (c : tie.Start) → length (c .args .b .cells) ≡ 32
 full c = search needs
 
-returns : tie.Need-returns
-returns c = rw (bytes-none (c .before .args .o) (c .before .args .b) (c .if1 .taken)) (omega arith)
-
-returns-2 : tie.Need-returns-2
-returns-2 c = omega (arith, size-some (c .before .args .o) (c .before .args .b) (full (c .before)) (c .before .pre) (c .if1 .left))
-
 pub ballot-size-spec : {M : Type 1} → statement M
-ballot-size-spec = tie.close (tie.spec returns (λ c. search needs) (λ c. search needs) returns-2)
+ballot-size-spec =
+    tie.close
+    (tie.spec (λ c. rw (bytes-none (c .before .args .o) (c .before .args .b) (c .if1 .taken)) (omega arith)) (λ c. search needs) (λ c. search needs)
+    (λ c. omega (arith, size-some (c .before .args .o) (c .before .args .b) (full (c .before)) (c .before .pre) (c .if1 .left))))

@@ -18,30 +18,13 @@ abbrev μ-loop : tie.MeasureT-loop
 full : (c : tie.Start Inv-loop μ-loop) → length (c .args .t2) ≡ 8
 full c = search needs
 
-loop-holds : tie.Need-loop-holds Inv-loop μ-loop
-loop-holds c = (omega arith, (rw rest-all (omega arith), omega arith))
-
-ballot-size-requires : tie.Need-ballot-size-requires Inv-loop μ-loop
-ballot-size-requires c κs = len-at (c .before .before .before .args .t2) _ _ (c .before .before .before .pre .1) (omega (arith, full (c .before .before .before)))
-
 loop-again : tie.Need-loop-again Inv-loop μ-loop
 loop-again c = count-again _ _ _ _ (record { len = 0; cells = [] }) _ (c .before .before .before .loop .inv) (c .before .before .loop-test .taken) (omega (arith, full (c .before .before .before .before))) (c .ballot-size .ensures .0) (c .ballot-size .ensures .1)
-
-returns : tie.Need-returns Inv-loop μ-loop
-returns c = (omega (arith, ap length (rest-none (c .before .before .args .n) (c .before .before .args .t2) (c .before .loop .o) (c .loop-test .left))), omega arith)
 
 pub ballots-size-spec : {M : Type 1} → statement M
 ballots-size-spec =
     tie.close
-    (tie.spec
-    Inv-loop
-    μ-loop
-    loop-holds
-    (λ c. omega arith)
-    (λ c. omega arith)
-    ballot-size-requires
-    (λ c. omega arith)
-    (λ c. omega arith)
-    (λ c. omega arith)
-    loop-again
-    returns)
+    (tie.spec Inv-loop μ-loop (λ c. (omega arith, (rw rest-all (omega arith), omega arith))) (λ c. omega arith) (λ c. omega arith)
+    (λ c κs. len-at (c .before .before .before .args .t2) _ _ (c .before .before .before .pre .1) (omega (arith, full (c .before .before .before))))
+    (λ c. omega arith) (λ c. omega arith) (λ c. omega arith) loop-again
+    (λ c. (omega (arith, ap length (rest-none (c .before .before .args .n) (c .before .before .args .t2) (c .before .loop .o) (c .loop-test .left))), omega arith)))

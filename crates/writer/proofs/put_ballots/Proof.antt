@@ -1,10 +1,11 @@
 -- The invariant `ToPut`: what is left to write, from the position on, gives all that is to be written and ends where all of it does.
-use Prim.Native.Nat.{_-_}
+use Prim.Native.Nat.{_-_, _≤_}
 use mathlib.Core.List.{[]}
 use mathlib.Core.Path.{_≡_}
 use native.Mathlib.Omega.{arith}
 use lib.ListN.{length}
 use borrow.Author.Needs.{needs}
+use Rattle.ballots.specs.declared.Ballot.{Ballot}
 use Rattle.writer.proofs.Ballots.{ToPut, len-at, put-again, put-begins, put-ends, put-room}
 use Rattle.writer.proofs.put_ballots.Statement.{statement}
 use Rattle.writer.proofs.put_ballots.Tie as tie
@@ -18,33 +19,23 @@ abbrev μ-loop : tie.MeasureT-loop
 full : (c : tie.Start Inv-loop μ-loop) → length (c .args .t4) ≡ 8
 full c = search needs
 
-loop-holds : tie.Need-loop-holds Inv-loop μ-loop
-loop-holds c = put-begins _ _ _ _
+abbrev none : Ballot
+none = record { len = 0; cells = [] }
 
 put-ballot-requires : tie.Need-put-ballot-requires Inv-loop μ-loop
-put-ballot-requires c κs = (len-at (c .before .before .before .before .before .args .t4) _ _ (c .before .before .before .before .before .pre .1 .0) (omega (arith, full (c .before .before .before .before .before))), (omega arith, put-room (c .before .before .before .before .before .args .out .now) (c .before .before .before .before .before .args .at) (c .before .before .before .before .before .args .n) (c .before .before .before .before .before .args .t4) (c .before .before .before .loop .out) (c .before .before .before .loop .p) (c .before .before .before .loop .o) (c .before .before .before .loop .inv) (record { len = 0; cells = [] }) (c .before .before .loop-test .taken) (omega (arith, full (c .before .before .before .before .before))) (c .before .before .before .before .before .pre .1 .1)))
+put-ballot-requires c κs =
+    let s = c .before .before .before .before .before in
+    let long : s .args .n ≤ length (s .args .t4) = omega (arith, full s) in
+    (len-at (s .args .t4) _ _ (s .pre .1 .0) (omega arith), (omega arith, put-room (c .before .before .before .loop .inv) none (c .before .before .loop-test .taken) long (s .pre .1 .1)))
 
 loop-again : tie.Need-loop-again Inv-loop μ-loop
-loop-again c = put-again (c .before .before .before .before .before .before .before .before .args .out .now) (c .before .before .before .before .before .before .before .before .args .at) (c .before .before .before .before .before .before .before .before .args .n) (c .before .before .before .before .before .before .before .before .args .t4) (c .before .before .before .before .before .before .loop .out) (c .before .before .before .before .before .before .loop .p) (c .before .before .before .before .before .before .loop .o) (c .before .before .before .before .before .before .loop .inv) (record { len = 0; cells = [] }) (c .before .before .put-ballot .last .0) (c .before .before .put-ballot .result) (c .before .before .before .before .before .loop-test .taken) (omega (arith, full (c .before .before .before .before .before .before .before .before))) (c .before .before .put-ballot .kept .0) (c .before .before .put-ballot .ensures .0) (c .before .before .put-ballot .ensures .1)
-
-same-length : tie.Need-same-length Inv-loop μ-loop
-same-length c = c .before .loop .inv .1 .0
-
-returns : tie.Need-returns Inv-loop μ-loop
-returns c = put-ends (c .before .before .before .args .out .now) (c .before .before .before .args .at) (c .before .before .before .args .n) (c .before .before .before .args .t4) (c .before .loop .out) (c .before .loop .p) (c .before .loop .o) (c .before .loop .inv) (c .loop-test .left)
+loop-again c =
+    let put = c .before .before .put-ballot in
+    put-again (c .before .before .before .before .before .before .loop .inv) none (put .last .0) (put .result) (c .before .before .before .before .before .loop-test .taken)
+    (omega (arith, full (c .before .before .before .before .before .before .before .before))) (put .kept .0) (put .ensures .0) (put .ensures .1)
 
 pub put-ballots-spec : {M : Type 1} → statement M
 put-ballots-spec =
     tie.close
-    (tie.spec
-    Inv-loop
-    μ-loop
-    loop-holds
-    (λ c. omega arith)
-    (λ c. omega arith)
-    put-ballot-requires
-    (λ c. omega arith)
-    (λ c. omega arith)
-    loop-again
-    same-length
-    returns)
+    (tie.spec Inv-loop μ-loop (λ c. put-begins _ _ _ _) (λ c. omega arith) (λ c. omega arith) put-ballot-requires (λ c. omega arith) (λ c. omega arith)
+    loop-again (λ c. c .before .loop .inv .long) (λ c. put-ends (c .before .loop .inv) (c .loop-test .left)))

@@ -6,20 +6,9 @@ use Rattle.writer.proofs.LogRecord.{value-first}
 use Rattle.writer.proofs.put_record.Statement.{statement}
 use Rattle.writer.proofs.put_record.Tie as tie
 
-second-mark : tie.Need-slice-write-out-2
-second-mark c = let k = c .before .before .put32 .kept .0 in simp length-set (omega (arith, k))
-
-returns : tie.Need-returns
-returns c = let a = c .before .before .before .before .before .args in value-first (a .out .now) (c .before .before .put32 .last .0) (a .at) (a .value) (c .before .before .put32 .ensures)
-
 pub put-record-spec : {M : Type 1} → statement M
 put-record-spec =
     tie.close
-    (tie.spec
-    (λ c. search needs)
-    (λ c κs. search needs)
-    (λ c. search needs)
-    (λ c. search needs)
-    second-mark
-    (λ c. search needs)
-    returns)
+    (tie.spec (λ c. search needs) (λ c κs. search needs) (λ c. search needs) (λ c. search needs)
+    (λ c. let k = c .before .before .put32 .kept .0 in simp length-set (omega (arith, k))) (λ c. search needs)
+    (λ c. let a = c .before .before .before .before .before .args in value-first (a .out .now) (c .before .before .put32 .last .0) (a .at) (a .value) (c .before .before .put32 .ensures)))

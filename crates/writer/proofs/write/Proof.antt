@@ -1,4 +1,5 @@
 -- The head, the log records, the ballots and the end are stored one after the other, each where the one before ends.
+use Prim.Native.Nat.{_+_, _≤_}
 use mathlib.Core.Path.{_≡_, _∙_}
 use native.Mathlib.Omega.{arith}
 use lib.ListN.{length, length-set}
@@ -13,35 +14,40 @@ full c = search needs
 
 put-head-requires : tie.Need-put-head-requires
 unfolding size
-put-head-requires c κs = omega (arith, c .before .before .before .pre .0, c .before .before .before .pre .1)
+put-head-requires c κs = let s = c .before .before .before in omega (arith, s .pre .0, s .pre .1)
 
 put-log-requires : tie.Need-put-log-requires
 unfolding size
-put-log-requires c κs = omega (arith, c .before .before .before .before .before .before .before .pre .0, c .before .before .before .before .before .before .before .pre .1, c .before .before .before .put-head .kept .0, c .before .before .before .put-head .ensures .0)
+put-log-requires c κs =
+    let s = c .before .before .before .before .before .before .before in let head = c .before .before .before .put-head in
+    omega (arith, s .pre .0, s .pre .1, head .kept .0, head .ensures .0)
 
 put-ballots-requires : tie.Need-put-ballots-requires
 unfolding size
-put-ballots-requires c κs = (c .before .before .before .before .before .before .before .before .before .before .before .pre .0 .few-offices, (c .before .before .before .before .before .before .before .before .before .before .before .pre .0 .shapes, omega (arith, c .before .before .before .before .before .before .before .before .before .before .before .pre .1, c .before .before .before .put-log .kept .0, c .before .before .before .before .before .before .before .put-head .kept .0, c .before .before .before .put-log .ensures .0, c .before .before .before .before .before .before .before .put-head .ensures .0)))
+put-ballots-requires c κs =
+    let s = c .before .before .before .before .before .before .before .before .before .before .before in let head = c .before .before .before .before .before .before .before .put-head in let log = c .before .before .before .put-log in
+    (s .pre .0 .few-offices, (s .pre .0 .shapes, omega (arith, s .pre .1, log .kept .0, head .kept .0, log .ensures .0, head .ensures .0)))
 
-slice-write-out : tie.Need-slice-write-out
+-- behind the ballots there is room for the end
+room : (c : tie.After-slice-known4) → c .before .before .put-ballots .result + 2 ≤ length (c .before .before .put-ballots .last .0)
 unfolding size
-slice-write-out c = omega (arith, c .before .before .put-ballots .kept .0, c .before .before .before .before .before .before .put-log .kept .0, c .before .before .before .before .before .before .before .before .before .before .put-head .kept .0, c .before .before .put-ballots .ensures .0, c .before .before .before .before .before .before .put-log .ensures .0, c .before .before .before .before .before .before .before .before .before .before .put-head .ensures .0, c .before .before .before .before .before .before .before .before .before .before .before .before .before .before .pre .1)
-
-add-out : tie.Need-add-out
-unfolding size
-add-out c = omega (arith, c .before .before .put-ballots .kept .0, c .before .before .before .before .before .before .put-log .kept .0, c .before .before .before .before .before .before .before .before .before .before .put-head .kept .0, c .before .before .put-ballots .ensures .0, c .before .before .before .before .before .before .put-log .ensures .0, c .before .before .before .before .before .before .before .before .before .before .put-head .ensures .0, c .before .before .before .before .before .before .before .before .before .before .before .before .before .before .pre .1)
-
-slice-write-out-2 : tie.Need-slice-write-out-2
-unfolding size
-slice-write-out-2 c = simp length-set (omega (arith, c .before .before .put-ballots .kept .0, c .before .before .before .before .before .before .put-log .kept .0, c .before .before .before .before .before .before .before .before .before .before .put-head .kept .0, c .before .before .put-ballots .ensures .0, c .before .before .before .before .before .before .put-log .ensures .0, c .before .before .before .before .before .before .before .before .before .before .put-head .ensures .0, c .before .before .before .before .before .before .before .before .before .before .before .before .before .before .pre .1))
+room c =
+    let head = c .before .before .before .before .before .before .before .before .before .before .put-head in let log = c .before .before .before .before .before .before .put-log in let ballots = c .before .before .put-ballots in
+    omega (arith, ballots .kept .0, log .kept .0, head .kept .0, ballots .ensures .0, log .ensures .0, head .ensures .0, c .before .before .before .before .before .before .before .before .before .before .before .before .before .before .pre .1)
 
 same-length : tie.Need-same-length
 same-length c = simp length-set (c .before .before .put-ballots .kept .0 ∙ (c .before .before .before .before .before .before .put-log .kept .0 ∙ c .before .before .before .before .before .before .before .before .before .before .put-head .kept .0))
 
 returns : tie.Need-returns
-returns c = whole-written (c .before .before .before .before .before .before .before .before .before .before .before .before .before .before .args .sender) (c .before .before .before .before .before .before .before .before .before .before .before .before .before .before .args .n) (c .before .before .before .before .before .before .before .before .before .before .before .before .before .before .args .weights) (c .before .before .before .before .before .before .before .before .before .before .before .before .before .before .args .log .now) (c .before .before .before .before .before .before .before .before .before .before .before .before .before .before .args .settled) (c .before .before .before .before .before .before .before .before .before .before .before .before .before .before .args .ballots) (omega (arith, full (c .before .before .before .before .before .before .before .before .before .before .before .before .before .before), c .before .before .before .before .before .before .before .before .before .before .before .before .before .before .pre .0)) (c .before .before .before .before .before .before .before .before .before .before .before .before .before .before .pre .0 .log-long) (c .before .before .before .before .before .before .before .before .before .before .before .before .before .before .args .out .now) (c .before .before .before .before .before .before .before .before .before .before .put-head .last .0) (c .before .before .before .before .before .before .put-log .last .0) (c .before .before .put-ballots .last .0) (c .before .before .before .before .before .before .before .before .before .before .put-head .result) (c .before .before .before .before .before .before .put-log .result) (c .before .before .put-ballots .result) (c .before .before .before .before .before .before .before .before .before .before .before .before .before .before .pre .1) (c .before .before .before .before .before .before .before .before .before .before .put-head .ensures .0) (c .before .before .before .before .before .before .before .before .before .before .put-head .ensures .1) (c .before .before .before .before .before .before .put-log .ensures .0) (c .before .before .before .before .before .before .put-log .ensures .1) (c .before .before .put-ballots .ensures .0) (c .before .before .put-ballots .ensures .1)
+returns c =
+    let s = c .before .before .before .before .before .before .before .before .before .before .before .before .before .before in let a = s .args in
+    let head = c .before .before .before .before .before .before .before .before .before .before .put-head in let log = c .before .before .before .before .before .before .put-log in let ballots = c .before .before .put-ballots in
+    whole-written (a .sender) (a .n) (a .weights) (a .log .now) (a .settled) (a .ballots) (omega (arith, full s, s .pre .0)) (s .pre .0 .log-long)
+    (a .out .now) (head .last .0) (log .last .0) (ballots .last .0) (head .result) (log .result) (ballots .result)
+    (head .ensures .0) (head .ensures .1) (log .ensures .0) (log .ensures .1) (ballots .ensures .0) (ballots .ensures .1) (s .pre .1)
 
 pub write-spec : {M : Type 1} → statement M
 write-spec =
     tie.close
-    (tie.spec put-head-requires put-log-requires put-ballots-requires slice-write-out add-out slice-write-out-2 same-length returns)
+    (tie.spec put-head-requires put-log-requires put-ballots-requires (λ c. omega (arith, room c)) (λ c. omega (arith, room c))
+    (λ c. simp length-set (omega (arith, room c))) same-length returns)
