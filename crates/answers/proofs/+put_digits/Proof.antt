@@ -1,14 +1,13 @@
 -- The measure is the places that are left. The digits before the last are written first, the last one behind them.
-use mathlib.Core.Path.{_≡_, _∙_}
+use mathlib.Core.Path.{_∙_}
 use native.Mathlib.Nat.{add-zero}
 use native.Mathlib.Omega.{arith}
-use Prim.Native.Nat.{_+_, _-_, _/_}
+use Prim.Native.Nat.{ℕ, _-_, _/_, _<_}
 use lib.ListN.{length-set}
-use Rattle.answers.proofs.Decimals.{digits-none, digits-one, decimal-short}
-use Rattle.answers.proofs.Printing.{put-last}
-use Prim.Native.Nat.{ℕ, _<_}
 use borrow.Fn.Kinds.{In}
 use borrow.Fn.PlainCycle.{Measures, is, falls, and}
+use Rattle.answers.proofs.Decimals.{digits-none, digits-one, decimal-short}
+use Rattle.answers.proofs.Printing.{put-last}
 use Rattle.answers.proofs.put_digits.Reads as put-digits
 use Rattle.answers.proofs.put_digits.Kinds as put-digits-kinds
 use Rattle.answers.proofs.+put_digits.Lts-put_digits as put-digits-lts
@@ -27,134 +26,33 @@ abbrev put-digits-below : ℕ → In 1 put-digits-kinds.ps
 put-digits-below t =
     and 1 put-digits-kinds.ps (falls 1 put-digits-kinds.ps _<_ μ-put-digits t) put-digits.Pre
 
-put-digits-returns : (t : ℕ) → put-digits-lts.Need-returns (
-  glyph-of-reads.Asked,
-  glyph-of-reads.Learnt,
-  put-digits-below t,
-  put-digits.Post,
-) (put-digits-at t) put-digits.Post
-put-digits-returns t c = (let e = digits-none (c .before .before .args .places) (c .before .before .args .n) (c .if1 .taken) in (rw (e, add-zero), rw e))
-
-put-digits-glyph-of-requires : (t : ℕ) → put-digits-lts.Need-glyph-of-requires (
-  glyph-of-reads.Asked,
-  glyph-of-reads.Learnt,
-  put-digits-below t,
-  put-digits.Post,
-) (put-digits-at t) put-digits.Post
-put-digits-glyph-of-requires t c κs = c .if2 .taken
-
-put-digits-slice-write-out : (t : ℕ) → put-digits-lts.Need-slice-write-out (
-  glyph-of-reads.Asked,
-  glyph-of-reads.Learnt,
-  put-digits-below t,
-  put-digits.Post,
-) (put-digits-at t) put-digits.Post
-put-digits-slice-write-out t c = omega arith
-
-put-digits-add-result : (t : ℕ) → put-digits-lts.Need-add-result (
-  glyph-of-reads.Asked,
-  glyph-of-reads.Learnt,
-  put-digits-below t,
-  put-digits.Post,
-) (put-digits-at t) put-digits.Post
-put-digits-add-result t c = omega arith
-
-put-digits-same-length : (t : ℕ) → put-digits-lts.Need-same-length (
-  glyph-of-reads.Asked,
-  glyph-of-reads.Learnt,
-  put-digits-below t,
-  put-digits.Post,
-) (put-digits-at t) put-digits.Post
-put-digits-same-length t c = length-set (c .before .before .before .before .args .out .now) (c .before .before .before .before .args .at) (c .glyph-of .result)
-
-put-digits-returns-2 : (t : ℕ) → put-digits-lts.Need-returns-2 (
-  glyph-of-reads.Asked,
-  glyph-of-reads.Learnt,
-  put-digits-below t,
-  put-digits.Post,
-) (put-digits-at t) put-digits.Post
-put-digits-returns-2 t c =
+-- In order: no place is left; one digit is written, and its place and the length of the buffer; the digits before the last, the last digit, its
+-- place and the length of the buffer.
+pub +put-digits-spec : {M : Type 1} → statement M
++put-digits-spec = close μ-put-digits λ t. put-digits-lts.spec (glyph-of-reads.Asked, glyph-of-reads.Learnt, put-digits-below t, put-digits.Post) (put-digits-at t) put-digits.Post
+    (λ c. let e = digits-none (c .before .before .args .places) (c .before .before .args .n) (c .if1 .taken) in (rw (e, add-zero), rw e))
+    (λ c κs. c .if2 .taken)
+    (λ c. omega arith)
+    (λ c. omega arith)
+    (λ c. let a = c .before .before .before .before .args in length-set (a .out .now) (a .at) (c .glyph-of .result))
+    (λ c.
     let a = c .before .before .before .before .args in
     let e = digits-one (a .places) (a .n) (omega arith) (c .before .if2 .taken) in
-    (rw e, rw (e, c .glyph-of .ensures))
-
-put-digits-sub-put-digits : (t : ℕ) → put-digits-lts.Need-sub-put-digits (
-  glyph-of-reads.Asked,
-  glyph-of-reads.Learnt,
-  put-digits-below t,
-  put-digits.Post,
-) (put-digits-at t) put-digits.Post
-put-digits-sub-put-digits t c = omega arith
-
-put-digits-put-digits-requires : (t : ℕ) → put-digits-lts.Need-put-digits-requires (
-  glyph-of-reads.Asked,
-  glyph-of-reads.Learnt,
-  put-digits-below t,
-  put-digits.Post,
-) (put-digits-at t) put-digits.Post
-put-digits-put-digits-requires t c κs =
-    let h : c .before .before .before .before .args .places ≡ t = c .before .before .before .before .pre .0 in
-    (omega arith, omega (arith, c .before .before .before .before .pre .1))
-
-put-digits-glyph-of-requires-2 : (t : ℕ) → put-digits-lts.Need-glyph-of-requires-2 (
-  glyph-of-reads.Asked,
-  glyph-of-reads.Learnt,
-  put-digits-below t,
-  put-digits.Post,
-) (put-digits-at t) put-digits.Post
-put-digits-glyph-of-requires-2 t c κs = omega arith
-
-put-digits-slice-write-out-2 : (t : ℕ) → put-digits-lts.Need-slice-write-out-2 (
-  glyph-of-reads.Asked,
-  glyph-of-reads.Learnt,
-  put-digits-below t,
-  put-digits.Post,
-) (put-digits-at t) put-digits.Post
-put-digits-slice-write-out-2 t c = let a = c .before .before .before .before .before .before .before .before .args in omega (arith, c .before .before .before .put-digits .ensures .0, c .before .before .before .put-digits .kept .0, decimal-short (a .places - 1) (a .n / 10), c .before .before .before .before .before .before .before .before .pre .1)
-
-put-digits-add-result-2 : (t : ℕ) → put-digits-lts.Need-add-result-2 (
-  glyph-of-reads.Asked,
-  glyph-of-reads.Learnt,
-  put-digits-below t,
-  put-digits.Post,
-) (put-digits-at t) put-digits.Post
-put-digits-add-result-2 t c = let a = c .before .before .before .before .before .before .before .before .args in omega (arith, c .before .before .before .put-digits .ensures .0, decimal-short (a .places - 1) (a .n / 10), c .before .before .before .before .before .before .before .before .pre .1, c .before .before .before .before .before .before .before .before .good .0 .0)
-
-put-digits-same-length-2 : (t : ℕ) → put-digits-lts.Need-same-length-2 (
-  glyph-of-reads.Asked,
-  glyph-of-reads.Learnt,
-  put-digits-below t,
-  put-digits.Post,
-) (put-digits-at t) put-digits.Post
-put-digits-same-length-2 t c = length-set (c .before .before .before .put-digits .last .0) (c .before .before .before .put-digits .result) (c .glyph-of2 .result) ∙ c .before .before .before .put-digits .kept .0
-
-put-digits-returns-3 : (t : ℕ) → put-digits-lts.Need-returns-3 (
-  glyph-of-reads.Asked,
-  glyph-of-reads.Learnt,
-  put-digits-below t,
-  put-digits.Post,
-) (put-digits-at t) put-digits.Post
-put-digits-returns-3 t c = let a = c .before .before .before .before .before .before .before .before .args in let e = c .before .before .before .put-digits .ensures in put-last (a .out .now) (c .before .before .before .put-digits .last .0) (a .at) (c .before .before .before .put-digits .result) (c .glyph-of2 .result) (a .places) (a .n) (omega arith) (omega arith) (e .0) (e .1) (c .glyph-of2 .ensures)
-
-pub +put-digits-spec : {M : Type 1} → statement M
-+put-digits-spec = close μ-put-digits λ t. put-digits-lts.spec (
-  glyph-of-reads.Asked,
-  glyph-of-reads.Learnt,
-  put-digits-below t,
-  put-digits.Post,
-)
-    (put-digits-at t)
-    put-digits.Post
-    (put-digits-returns t)
-    (put-digits-glyph-of-requires t)
-    (put-digits-slice-write-out t)
-    (put-digits-add-result t)
-    (put-digits-same-length t)
-    (put-digits-returns-2 t)
-    (put-digits-sub-put-digits t)
-    (put-digits-put-digits-requires t)
-    (put-digits-glyph-of-requires-2 t)
-    (put-digits-slice-write-out-2 t)
-    (put-digits-add-result-2 t)
-    (put-digits-same-length-2 t)
-    (put-digits-returns-3 t)
+    (rw e, rw (e, c .glyph-of .ensures)))
+    (λ c. omega arith)
+    (λ c κs. let s = c .before .before .before .before in (omega (arith, s .pre .0), omega (arith, s .pre .1)))
+    (λ c κs. omega arith)
+    (λ c.
+    let s = c .before .before .before .before .before .before .before .before in
+    let put = c .before .before .before .put-digits in
+    omega (arith, put .ensures .0, put .kept .0, decimal-short (s .args .places - 1) (s .args .n / 10), s .pre .1))
+    (λ c.
+    let s = c .before .before .before .before .before .before .before .before in
+    let put = c .before .before .before .put-digits in
+    omega (arith, put .ensures .0, decimal-short (s .args .places - 1) (s .args .n / 10), s .pre .1, s .good .0 .0))
+    (λ c. let put = c .before .before .before .put-digits in length-set (put .last .0) (put .result) (c .glyph-of2 .result) ∙ put .kept .0)
+    (λ c.
+    let a = c .before .before .before .before .before .before .before .before .args in
+    let put = c .before .before .before .put-digits in
+    put-last (a .out .now) (put .last .0) (a .at) (put .result) (c .glyph-of2 .result) (a .places) (a .n) (omega arith) (omega arith)
+    (put .ensures .0) (put .ensures .1) (c .glyph-of2 .ensures))

@@ -15,12 +15,6 @@ Inv-loop out₀ at count numbers next₀ i₀ out next i = SpacedRest (take coun
 abbrev μ-loop : tie.MeasureT-loop
 μ-loop out₀ at count numbers next₀ i₀ out next i = count - i
 
-loop-holds : tie.Need-loop-holds Inv-loop μ-loop
-loop-holds c = spaced-begins (take (c .before .args .count) (c .before .args .t4)) (c .before .args .out .now) (c .before .args .at)
-
-put-spaced-requires : tie.Need-put-spaced-requires Inv-loop μ-loop
-put-spaced-requires c κs = let l = c .before .before .loop in omega (arith, l .inv .room, l .inv .long)
-
 loop-again : tie.Need-loop-again Inv-loop μ-loop
 loop-again c =
     let a = c .before .before .before .before .before .before .before .args in
@@ -29,9 +23,6 @@ loop-again c =
     let n : length (take (a .count) (a .t4)) ≡ a .count = length-take-le (a .count) (a .t4) (omega arith) in
     let e = c .before .before .put-spaced .ensures in
     spaced-next (take (a .count) (a .t4)) (a .out .now) (a .at) (l .out) (l .next) (l .i) (l .inv) (getD (a .t4) (l .i) 0) _ _ (omega arith) (sym (getD-take (a .count) (a .t4) (l .i) 0 (omega arith))) (e .0) (e .1) (c .before .before .put-spaced .kept .0)
-
-same-length : tie.Need-same-length Inv-loop μ-loop
-same-length c = c .before .loop .inv .long
 
 returns : tie.Need-returns Inv-loop μ-loop
 returns c =
@@ -44,15 +35,7 @@ returns c =
 pub put-all-spec : {M : Type 1} → statement M
 put-all-spec =
     tie.close
-    (tie.spec
-    Inv-loop
-    μ-loop
-    loop-holds
-    (λ c. omega arith)
-    (λ c. omega arith)
-    put-spaced-requires
-    (λ c. search needs)
-    (λ c. search needs)
-    loop-again
-    same-length
-    returns)
+    (tie.spec Inv-loop μ-loop
+    (λ c. spaced-begins (take (c .before .args .count) (c .before .args .t4)) (c .before .args .out .now) (c .before .args .at)) (λ c. omega arith)
+    (λ c. omega arith) (λ c κs. let l = c .before .before .loop in omega (arith, l .inv .room, l .inv .long)) (λ c. search needs) (λ c. search needs)
+    loop-again (λ c. c .before .loop .inv .long) returns)

@@ -10,12 +10,12 @@ use borrow.Author.Needs.{needs}
 use Rattle.answers.proofs.put_spaced.Statement.{statement}
 use Rattle.answers.proofs.put_spaced.Tie as tie
 
-same-length : tie.Need-same-length
-same-length c = c .before .before .put-digits .kept .0 ∙ length-set (c .before .before .before .before .before .args .out .now) (c .before .before .before .before .before .args .at) 32
-
 returns : tie.Need-returns
 returns c = let a = c .before .before .before .before .before .args in let e = c .before .before .put-digits .ensures in (omega (arith, e .0), e .1 ∙ ap (λ (k : ℕ). sets (set (a .out .now) (a .at) 32) k (decimalIn 20 (a .n))) (add-one (a .at)))
 
 pub put-spaced-spec : {M : Type 1} → statement M
 put-spaced-spec =
-    tie.close (tie.spec (λ c. search needs) (λ c. search needs) (λ c κs. simp length-set (omega arith)) same-length returns)
+    tie.close
+    (tie.spec (λ c. search needs) (λ c. search needs) (λ c κs. simp length-set (omega arith))
+    (λ c. c .before .before .put-digits .kept .0 ∙ length-set (c .before .before .before .before .before .args .out .now) (c .before .before .before .before .before .args .at) 32)
+    returns)

@@ -22,26 +22,11 @@ returns-2 c =
     let e = sym (c .before .before .before .before .before .number-of .ensures) ∙ c .before .before .before .first .given .1 in
     c .with-more .ensures ∙ sym (line-step (a .letter) (a .bytes .now) _ (omega arith) (c .before .before .before .before .before .before .before .part-end .ensures) ∙ rw (e, sym (c .before .more-of .ensures)))
 
-part-number-of-end : tie.Need-part-number-of-end
-part-number-of-end c = omega (arith, part-within 32 (c .before .before .args .bytes .now) 2 (omega arith))
-
-add-more-of : tie.Need-add-more-of
-add-more-of c = omega (arith, part-within 32 (c .before .before .before .before .before .before .before .args .bytes .now) 2 (omega arith))
-
 pub line-from-spec : {M : Type 1} → statement M
 line-from-spec =
     tie.close
-    (tie.spec
-    (λ c κs. search needs)
-    (λ c. search needs)
-    (λ c. search needs)
-    part-number-of-end
-    (λ c κs. search needs)
-    (λ c. search needs)
-    (λ c. search needs)
-    (λ c κs. search needs)
-    returns
-    add-more-of
-    (λ c κs. search needs)
-    (λ c κs. search needs)
-    returns-2)
+    (tie.spec (λ c κs. search needs) (λ c. search needs) (λ c. search needs)
+    (λ c. omega (arith, part-within 32 (c .before .before .args .bytes .now) 2 (omega arith))) (λ c κs. search needs) (λ c. search needs)
+    (λ c. search needs) (λ c κs. search needs) returns
+    (λ c. omega (arith, part-within 32 (c .before .before .before .before .before .before .before .args .bytes .now) 2 (omega arith)))
+    (λ c κs. search needs) (λ c κs. search needs) returns-2)

@@ -15,5 +15,4 @@ unfolding withThree pick
 returns-2 c = rw (ne-eqb (c .before .args .letter) 105 (c .if1 .left))
 
 pub with-three-spec : {M : Type 1} → statement M
-with-three-spec =
-    tie.close (tie.spec (λ c κs. search needs) (λ c κs. search needs) (λ c κs. search needs) returns returns-2)
+with-three-spec = tie.close (tie.spec (λ c κs. search needs) (λ c κs. search needs) (λ c κs. search needs) returns returns-2)

@@ -15,9 +15,6 @@ Inv-loop bytes at mark i₀ i = i + partLength mark (drop i bytes) ≡ at + part
 abbrev μ-loop : tie.MeasureT-loop
 μ-loop bytes at mark i₀ i = length bytes - i
 
-loop-holds : tie.Need-loop-holds Inv-loop μ-loop
-loop-holds c = refl
-
 returns : tie.Need-returns Inv-loop μ-loop
 returns c =
     let l = c .before .before .before .loop in
@@ -42,13 +39,4 @@ returns-2 c =
 pub part-end-spec : {M : Type 1} → statement M
 part-end-spec =
     tie.close
-    (tie.spec
-    Inv-loop
-    μ-loop
-    loop-holds
-    (λ c. search needs)
-    returns
-    (λ c. search needs)
-    (λ c. search needs)
-    loop-again
-    returns-2)
+    (tie.spec Inv-loop μ-loop (λ c. refl) (λ c. search needs) returns (λ c. search needs) (λ c. search needs) loop-again returns-2)

@@ -3,8 +3,5 @@ use borrow.Author.Needs.{needs}
 use Rattle.turns.proofs.stay.Statement.{statement}
 use Rattle.turns.proofs.stay.Tie as tie
 
-returns : tie.Need-returns
-returns c = rw (c .ask .ensures)
-
 pub stay-spec : {M : Type 1} → statement M
-stay-spec = tie.close (tie.spec (λ c κs. search needs) returns)
+stay-spec = tie.close (tie.spec (λ c κs. search needs) (λ c. rw (c .ask .ensures)))

@@ -8,6 +8,4 @@ returns : tie.Need-returns
 returns c = let a = c .before .before .before .before .args in viewed-turn (a .record) (a .lengths) (a .log .now) (c .says-three .result) (a .line) (c .before .before .settled-frame .result) (c .before .tentative-frame .result) (c .before .before .settled-frame .ensures) (c .before .tentative-frame .ensures) (c .says-three .ensures)
 
 pub view-turn-spec : {M : Type 1} → statement M
-view-turn-spec =
-    tie.close
-    (tie.spec (λ c κs. search needs) (λ c κs. search needs) (λ c κs. search needs) returns)
+view-turn-spec = tie.close (tie.spec (λ c κs. search needs) (λ c κs. search needs) (λ c κs. search needs) returns)

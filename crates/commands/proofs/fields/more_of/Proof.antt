@@ -19,15 +19,9 @@ Inv-loop bytes start cells₀ count₀ at₀ cells count at = (count ≤ 8) × (
 abbrev μ-loop : tie.MeasureT-loop
 μ-loop bytes start cells₀ count₀ at₀ cells count at = length bytes + 1 - at
 
-loop-holds : tie.Need-loop-holds Inv-loop μ-loop
-loop-holds c = (search needs, refl)
-
 returns : tie.Need-returns Inv-loop μ-loop
 unfolding pick
 returns c = let l = c .before .before .before .loop in let s = c .before .before .before .before .before .args .bytes .now in c .no-more .ensures ∙ sym (sym (l .inv .1) ∙ more-step s (l .cells) (l .count) (l .at) _ (omega arith) refl ∙ rw (eq-eqb (l .count) 8 (c .before .if1 .taken)))
-
-part-number-of-end : tie.Need-part-number-of-end Inv-loop μ-loop
-part-number-of-end c = omega (arith, part-within 32 (c .before .before .before .before .before .args .bytes .now) (c .before .before .before .loop .at) (omega arith))
 
 add-at : tie.Need-add-at Inv-loop μ-loop
 add-at c =
@@ -49,31 +43,12 @@ loop-again c =
     let e = sym (c .before .before .before .number-of .ensures) ∙ c .before .value .given .1 in
     (omega arith, sym (sym (l .inv .1) ∙ more-step s (l .cells) (l .count) (l .at) _ (omega arith) (c .before .before .before .before .before .part-end .ensures) ∙ rw (ne-eqb (l .count) 8 (c .before .before .before .before .before .before .if1 .left), e)))
 
-returns-3 : tie.Need-returns-3 Inv-loop μ-loop
-returns-3 c = let l = c .before .loop in let s = c .before .before .before .args .bytes .now in sym (sym (l .inv .1) ∙ more-end s (l .cells) (l .count) (l .at) (omega arith))
-
 pub more-of-spec : {M : Type 1} → statement M
 more-of-spec =
     tie.close
-    (tie.spec
-    Inv-loop
-    μ-loop
-    loop-holds
-    (λ c κs. search needs)
-    returns
-    (λ c κs. search needs)
+    (tie.spec Inv-loop μ-loop (λ c. (search needs, refl)) (λ c κs. search needs) returns (λ c κs. search needs) (λ c. search needs)
     (λ c. search needs)
-    (λ c. search needs)
-    part-number-of-end
-    (λ c κs. search needs)
-    (λ c. search needs)
-    (λ c. search needs)
-    (λ c κs. search needs)
-    returns-2
-    (λ c. search needs)
-    (λ c. search needs)
-    (λ c. search needs)
-    add-at
-    (λ c. search needs)
-    loop-again
-    returns-3)
+    (λ c. omega (arith, part-within 32 (c .before .before .before .before .before .args .bytes .now) (c .before .before .before .loop .at) (omega arith)))
+    (λ c κs. search needs) (λ c. search needs) (λ c. search needs) (λ c κs. search needs) returns-2 (λ c. search needs) (λ c. search needs)
+    (λ c. search needs) add-at (λ c. search needs) loop-again
+    (λ c. let l = c .before .loop in let s = c .before .before .before .args .bytes .now in sym (sym (l .inv .1) ∙ more-end s (l .cells) (l .count) (l .at) (omega arith))))

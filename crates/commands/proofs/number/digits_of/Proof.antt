@@ -15,9 +15,6 @@ Inv-loop field so-far₀ i₀ i-end so-far i = (i-end ≡ length field) × (i �
 abbrev μ-loop : tie.MeasureT-loop
 μ-loop field so-far₀ i₀ i-end so-far i = length field - i
 
-loop-holds : tie.Need-loop-holds Inv-loop μ-loop
-loop-holds c = (refl, search needs, refl)
-
 returns : tie.Need-returns Inv-loop μ-loop
 unfolding byNumber
 returns c = let l = c .before .before .before .before .before .loop in let s = c .before .before .before .before .before .before .before .args .field .now in sym (sym (l .inv .2) ∙ digits-step (l .so-far) s (l .i) (omega arith) ∙ rw (sym (c .before .before .digit-of .ensures), c .enum-told .given .1))
@@ -26,22 +23,9 @@ loop-again : tie.Need-loop-again Inv-loop μ-loop
 unfolding byNumber
 loop-again c = let l = c .before .before .before .before .before .before .loop in let s = c .before .before .before .before .before .before .before .before .args .field .now in (search needs, omega arith, sym (sym (l .inv .2) ∙ digits-step (l .so-far) s (l .i) (omega arith) ∙ rw (sym (c .before .before .before .digit-of .ensures), c .before .next .given .1)))
 
-returns-2 : tie.Need-returns-2 Inv-loop μ-loop
-returns-2 c = let l = c .before .loop in let s = c .before .before .before .args .field .now in sym (sym (l .inv .2) ∙ digits-end (l .so-far) s (l .i) (omega arith))
-
 pub digits-of-spec : {M : Type 1} → statement M
 digits-of-spec =
     tie.close
-    (tie.spec
-    Inv-loop
-    μ-loop
-    loop-holds
-    (λ c. search needs)
-    (λ c κs. search needs)
-    (λ c. search needs)
-    (λ c. search needs)
-    returns
-    (λ c. search needs)
-    (λ c. search needs)
-    loop-again
-    returns-2)
+    (tie.spec Inv-loop μ-loop (λ c. (refl, search needs, refl)) (λ c. search needs) (λ c κs. search needs) (λ c. search needs) (λ c. search needs)
+    returns (λ c. search needs) (λ c. search needs) loop-again
+    (λ c. let l = c .before .loop in let s = c .before .before .before .args .field .now in sym (sym (l .inv .2) ∙ digits-end (l .so-far) s (l .i) (omega arith))))

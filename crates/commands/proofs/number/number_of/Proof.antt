@@ -21,5 +21,4 @@ unfolding numberOf pick
 returns-3 c = c .digits-of .ensures ∙ rw (ne-eqb (length (c .before .before .before .before .before .args .field .now)) 0 (c .before .before .before .if1 .left), sym (c .before .before .leading-zero .ensures), c .before .if2 .left)
 
 pub number-of-spec : {M : Type 1} → statement M
-number-of-spec =
-    tie.close (tie.spec returns (λ c κs. search needs) returns-2 (λ c κs. search needs) returns-3)
+number-of-spec = tie.close (tie.spec returns (λ c κs. search needs) returns-2 (λ c κs. search needs) returns-3)
