@@ -1,10 +1,10 @@
 // The lines that call, and what each call answers.
 use crate::digest;
 use crate::script::Said;
-use crate::script::least;
 use crate::state::State;
 use crate::values;
 use frame::Record;
+use lines::within;
 
 // Whether the line is one of these with all its numbers within their limits, the record after the call, and up to four numbers to print.
 pub struct Called {
@@ -74,7 +74,7 @@ fn issue(record: Record, said: Said, log: &[u32]) -> Called {
     if said.count != 2 {
         return refused(record);
     }
-    if !values::within(cells, 0, 2, 4294967295) {
+    if !values::limited(cells, 0, 2, 4294967295) {
         return refused(record);
     }
     let issued = record.issue(log, values::word(cells[0]), values::word(cells[1]));
@@ -214,9 +214,9 @@ pub fn call(
     output: &mut [u8],
     message: &[u8],
 ) -> Called {
-    let log_length = least(state.log, log.len());
-    let output_length = least(state.output, output.len());
-    let message_length = least(state.message, message.len());
+    let log_length = within(state.log, log.len());
+    let output_length = within(state.output, output.len());
+    let message_length = within(state.message, message.len());
     let record = state.record;
     call_lent(
         record,

@@ -11,8 +11,8 @@ mod values;
 use calling::Called;
 use lines::Held;
 use lines::part_end;
+use lines::within;
 use script::Said;
-use script::least;
 use state::State;
 
 // The state, the line as far as it was read, and whether there may be more to read.
@@ -24,8 +24,8 @@ struct Progress {
 
 // Prints what a call answered, with the digest of all that it may have written.
 fn print_called(letter: u8, called: Called, state: State, log: &[u32], output: &[u8]) {
-    let log_length = least(state.log, log.len());
-    let output_length = least(state.output, output.len());
+    let log_length = within(state.log, log.len());
+    let output_length = within(state.output, output.len());
     let record = called.record;
     let numbers = called.numbers;
     let digest = digest::digest(record, &log[..log_length], &output[..output_length]);

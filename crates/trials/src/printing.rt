@@ -1,6 +1,6 @@
 // What is printed: a letter and numbers, each behind a space.
-use crate::script::least;
 use lines::Held;
+use lines::within;
 
 // The line with a space and the number behind it.
 fn with_number(line: Held, number: u64) -> Held {
@@ -13,7 +13,7 @@ fn with_number(line: Held, number: u64) -> Held {
 // The line with the first `count` of these numbers behind it.
 fn with_numbers(start: Held, count: usize, numbers: [u64; 4]) -> Held {
     let mut line = start;
-    for i in 0..least(count, 4) {
+    for i in 0..within(count, 4) {
         line = with_number(line, numbers[i]);
     }
     line

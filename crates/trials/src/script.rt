@@ -1,5 +1,4 @@
 // What a line of a script says: a letter and up to 24 numbers.
-ghost use Prim.Native.Nat.{_≤_};
 use crate::number::Number;
 use crate::number::number_of;
 use lines::Held;
@@ -72,11 +71,4 @@ pub fn said_by(held: Held) -> Said {
         return other();
     }
     said_of(&bytes[..length])
-}
-
-// The first of two numbers, or the second where that is smaller.
-pub fn least(a: usize, b: usize) -> usize
-    ensures { λ r. ⌜ (r ≤ a) × (r ≤ b) ⌝ }
-{
-    if a < b { a } else { b }
 }

@@ -1,11 +1,11 @@
 // The lines that set the state and print nothing.
 use crate::script::NUMBERS;
 use crate::script::Said;
-use crate::script::least;
 use crate::state::State;
 use crate::values;
 use ballots::Ballot;
 use frame::Record;
+use lines::within;
 
 // Whether the line is one of these with all its numbers within their limits, and the state after it.
 pub struct Changed {
@@ -152,7 +152,7 @@ fn set_log(state: State, said: Said, log: &mut [u32]) -> Changed {
 // `w at v…`
 fn set_words(state: State, said: Said, log: &mut [u32]) -> Changed {
     let cells = said.cells;
-    let length = least(state.log, log.len());
+    let length = within(state.log, log.len());
     let at = cells[0] as usize;
     if !values::words_fit(said, 1, at, length) {
         return refused(state);
@@ -174,7 +174,7 @@ fn set_output(state: State, said: Said, output: &mut [u8]) -> Changed {
     if cells[1] > 255 {
         return refused(state);
     }
-    values::fill_bytes(output, length, values::byte(cells[1]));
+    values::write_times(output, 0, cells, 2, length);
     let mut next = state;
     next.output = length;
     done(next)
@@ -183,12 +183,12 @@ fn set_output(state: State, said: Said, output: &mut [u8]) -> Changed {
 // `m times v…`
 fn append(state: State, said: Said, message: &mut [u8]) -> Changed {
     let cells = said.cells;
-    let count = least(said.count, NUMBERS);
-    let held = least(state.message, State::BYTES);
+    let count = within(said.count, NUMBERS);
+    let held = within(state.message, State::BYTES);
     if count < 2 {
         return refused(state);
     }
-    if !values::within(cells, 1, count, 255) {
+    if !values::limited(cells, 1, count, 255) {
         return refused(state);
     }
     let times = cells[0] as usize;
@@ -203,7 +203,7 @@ fn append(state: State, said: Said, message: &mut [u8]) -> Changed {
 // `x at v`
 fn set_byte(state: State, said: Said, message: &mut [u8]) -> Changed {
     let cells = said.cells;
-    let length = least(state.message, message.len());
+    let length = within(state.message, message.len());
     if said.count != 2 {
         return refused(state);
     }

@@ -1,7 +1,7 @@
 // The numbers of a line as words, weights and bytes, and where they are written.
 use crate::script::NUMBERS;
 use crate::script::Said;
-use crate::script::least;
+use lines::within;
 
 // The low 32 bits.
 pub fn word(x: u64) -> u32 {
@@ -19,8 +19,8 @@ pub fn byte(x: u64) -> u8 {
 }
 
 // Whether each number from place `from` on, and before place `end`, is at most `limit`.
-pub fn within(cells: [u64; 24], from: usize, end: usize, limit: u64) -> bool {
-    for i in from..least(end, NUMBERS) {
+pub fn limited(cells: [u64; 24], from: usize, end: usize, limit: u64) -> bool {
+    for i in from..within(end, NUMBERS) {
         if cells[i] > limit {
             return false;
         }
@@ -30,7 +30,7 @@ pub fn within(cells: [u64; 24], from: usize, end: usize, limit: u64) -> bool {
 
 // Whether the eight numbers from place 2 on are weights.
 pub fn weights_fine(cells: [u64; 24]) -> bool {
-    within(cells, 2, 10, 65535)
+    limited(cells, 2, 10, 65535)
 }
 
 // The eight weights that stand from place 2 on.
@@ -45,7 +45,7 @@ pub fn weights_of(cells: [u64; 24]) -> [u16; 8] {
 // Whether the numbers from place `from` on are one or more, each is a word, and a buffer of this length has a place for each from `at` on.
 pub fn words_fit(said: Said, from: usize, at: usize, length: usize) -> bool {
     let cells = said.cells;
-    let count = least(said.count, NUMBERS);
+    let count = within(said.count, NUMBERS);
     if from >= count {
         return false;
     }
@@ -55,14 +55,14 @@ pub fn words_fit(said: Said, from: usize, at: usize, length: usize) -> bool {
     if count - from > length - at {
         return false;
     }
-    within(cells, from, count, 4294967295)
+    limited(cells, from, count, 4294967295)
 }
 
 // Writes the numbers from place `from` on to the words from `at` on.
 pub fn write_words(words: &mut [u32], at: usize, said: Said, from: usize) {
     let cells = said.cells;
     let mut next = at;
-    for i in from..least(said.count, NUMBERS) {
+    for i in from..within(said.count, NUMBERS) {
         if next >= words.len() {
             return;
         }
@@ -73,22 +73,15 @@ pub fn write_words(words: &mut [u32], at: usize, said: Said, from: usize) {
 
 // Each of the first `length` words is `fill`.
 pub fn fill_words(words: &mut [u32], length: usize, fill: u32) {
-    for i in 0..least(length, words.len()) {
+    for i in 0..within(length, words.len()) {
         words[i] = fill;
-    }
-}
-
-// Each of the first `length` bytes is `fill`.
-pub fn fill_bytes(bytes: &mut [u8], length: usize, fill: u8) {
-    for i in 0..least(length, bytes.len()) {
-        bytes[i] = fill;
     }
 }
 
 // Writes the numbers from place 1 on, and before place `count`, to the bytes from `at` on, and answers the place behind them.
 fn write_bytes(bytes: &mut [u8], at: usize, cells: [u64; 24], count: usize) -> usize {
     let mut next = at;
-    for i in 1..least(count, NUMBERS) {
+    for i in 1..within(count, NUMBERS) {
         if next >= bytes.len() {
             return next;
         }
@@ -115,7 +108,7 @@ pub fn write_times(
 
 // Copies the first `length` bytes.
 pub fn copy(from: &[u8], to: &mut [u8], length: usize) {
-    for i in 0..least(length, least(from.len(), to.len())) {
+    for i in 0..within(length, within(from.len(), to.len())) {
         to[i] = from[i];
     }
 }

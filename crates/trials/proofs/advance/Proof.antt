@@ -16,9 +16,6 @@ Inv-loop bytes log₀ output₀ message₀ state₀ held₀ at₀ end₀ log out
 abbrev μ-loop : tie.MeasureT-loop
 μ-loop bytes log₀ output₀ message₀ state₀ held₀ at₀ end₀ log output message state held at end = length bytes - at
 
-loop-holds : tie.Need-loop-holds Inv-loop μ-loop
-loop-holds c = let h = part-within 10 (c .before .before .before .before .before .before .before .args .bytes .now) 0 (omega arith) in search needs
-
 add-at : tie.Need-add-at Inv-loop μ-loop
 add-at c = let s = c .before .before .before .before .before .before .before .before .before .before .before .before .before .before .before .before .before .before .before .before .before .before in omega (arith, s .good, c .before .before .before .before .before .before .before .before .before .before .before .before .before .loop-test .taken)
 
@@ -34,26 +31,8 @@ loop-again c =
 pub advance-spec : {M : Type 1} → statement M
 advance-spec =
     tie.close
-    (tie.spec
-    Inv-loop
-    μ-loop
-    (λ c κs. search needs)
-    loop-holds
-    (λ c. search needs)
-    (λ c. search needs)
-    (λ c. search needs)
-    (λ c κs. search needs)
-    (λ c κs. search needs)
-    (λ c κs. search needs)
-    add-at
-    (λ c κs. search needs)
-    loop-less
-    loop-again
-    (λ c. search needs)
-    (λ c. search needs)
-    (λ c. search needs)
-    (λ c κs. search needs)
-    (λ c. search needs)
-    (λ c. search needs)
-    (λ c. search needs)
-    (λ c. search needs))
+    (tie.spec Inv-loop μ-loop (λ c κs. search needs)
+    (λ c. let h = part-within 10 (c .before .before .before .before .before .before .before .args .bytes .now) 0 (omega arith) in search needs)
+    (λ c. search needs) (λ c. search needs) (λ c. search needs) (λ c κs. search needs) (λ c κs. search needs) (λ c κs. search needs) add-at
+    (λ c κs. search needs) loop-less loop-again (λ c. search needs) (λ c. search needs) (λ c. search needs) (λ c κs. search needs) (λ c. search needs)
+    (λ c. search needs) (λ c. search needs) (λ c. search needs))

@@ -7,18 +7,9 @@ use lib.Seq.{length-take-le}
 use Rattle.trials.proofs.printing.write.Statement.{statement}
 use Rattle.trials.proofs.printing.write.Tie as tie
 
-array-share-prefix-bytes : tie.Need-array-share-prefix-bytes
-array-share-prefix-bytes c = let h : length (c .before .before .args .line .bytes) ≡ 129 = search needs in omega arith
-
-slice-aggregate-write-all : tie.Need-slice-aggregate-write-all
-slice-aggregate-write-all c = let h : length (c .before .before .before .args .line .bytes) ≡ 129 = search needs in sym (length-take-le _ _ (omega arith))
-
 pub write-spec : {M : Type 1} → statement M
 write-spec =
     tie.close
-    (tie.spec
-    (λ c. search needs)
-    array-share-prefix-bytes
-    slice-aggregate-write-all
-    (λ c κs. search needs)
-    (λ c. search needs))
+    (tie.spec (λ c. search needs) (λ c. let h : length (c .before .before .args .line .bytes) ≡ 129 = search needs in omega arith)
+    (λ c. let h : length (c .before .before .before .args .line .bytes) ≡ 129 = search needs in sym (length-take-le _ _ (omega arith)))
+    (λ c κs. search needs) (λ c. search needs))

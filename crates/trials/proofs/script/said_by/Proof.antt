@@ -7,19 +7,10 @@ use lib.Seq.{length-take-le}
 use Rattle.trials.proofs.script.said_by.Statement.{statement}
 use Rattle.trials.proofs.script.said_by.Tie as tie
 
-array-share-prefix-bytes : tie.Need-array-share-prefix-bytes
-array-share-prefix-bytes c = let h : length (c .before .before .args .held .bytes) ≡ 129 = search needs in omega arith
-
-slice-aggregate-said-of : tie.Need-slice-aggregate-said-of
-slice-aggregate-said-of c = let h : length (c .before .before .before .args .held .bytes) ≡ 129 = search needs in sym (length-take-le _ _ (omega arith))
-
 pub said-by-spec : {M : Type 1} → statement M
 said-by-spec =
     tie.close
-    (tie.spec
-    (λ c κs. search needs)
-    (λ c. search needs)
-    array-share-prefix-bytes
-    slice-aggregate-said-of
-    (λ c κs. search needs)
-    (λ c. search needs))
+    (tie.spec (λ c κs. search needs) (λ c. search needs)
+    (λ c. let h : length (c .before .before .args .held .bytes) ≡ 129 = search needs in omega arith)
+    (λ c. let h : length (c .before .before .before .args .held .bytes) ≡ 129 = search needs in sym (length-take-le _ _ (omega arith)))
+    (λ c κs. search needs) (λ c. search needs))

@@ -13,9 +13,6 @@ Inv-loop bytes letter start cells₀ count₀ at₀ cells count at = count ≤ 2
 abbrev μ-loop : tie.MeasureT-loop
 μ-loop bytes letter start cells₀ count₀ at₀ cells count at = length bytes + 1 - at
 
-part-number-of-end : tie.Need-part-number-of-end Inv-loop μ-loop
-part-number-of-end c = omega (arith, part-within 32 (c .before .before .before .before .before .args .bytes .now) (c .before .before .before .loop .at) (omega arith))
-
 add-at : tie.Need-add-at Inv-loop μ-loop
 add-at c =
     omega (arith, part-within 32 (c .before .before .before .before .before .before .before .before .before .before .args .bytes .now) (c .before .before .before .before .before .before .before .before .loop .at) (omega arith))
@@ -23,25 +20,8 @@ add-at c =
 pub said-from-spec : {M : Type 1} → statement M
 said-from-spec =
     tie.close
-    (tie.spec
-    Inv-loop
-    μ-loop
+    (tie.spec Inv-loop μ-loop (λ c. search needs) (λ c κs. search needs) (λ c. search needs) (λ c κs. search needs) (λ c. search needs)
     (λ c. search needs)
-    (λ c κs. search needs)
-    (λ c. search needs)
-    (λ c κs. search needs)
-    (λ c. search needs)
-    (λ c. search needs)
-    part-number-of-end
-    (λ c κs. search needs)
-    (λ c. search needs)
-    (λ c. search needs)
-    (λ c κs. search needs)
-    (λ c. search needs)
-    (λ c. search needs)
-    (λ c. search needs)
-    (λ c. search needs)
-    add-at
-    (λ c. search needs)
-    (λ c. search needs)
-    (λ c. search needs))
+    (λ c. omega (arith, part-within 32 (c .before .before .before .before .before .args .bytes .now) (c .before .before .before .loop .at) (omega arith)))
+    (λ c κs. search needs) (λ c. search needs) (λ c. search needs) (λ c κs. search needs) (λ c. search needs) (λ c. search needs) (λ c. search needs)
+    (λ c. search needs) add-at (λ c. search needs) (λ c. search needs) (λ c. search needs))
