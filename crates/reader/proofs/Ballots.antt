@@ -13,6 +13,7 @@ use Rattle.ballots.specs.declared.Ballot.{Ballot}
 use Rattle.protocol.specs.Tests.{both, pick}
 use Rattle.records.specs.Steps.{badBallot, badLog, ballotAt, endAt, logAt}
 use Rattle.records.specs.declared.BallotStep.{BallotStep}
+use Rattle.records.specs.declared.EndStep.{EndStep}
 use Rattle.records.specs.declared.LogStep.{LogStep}
 use Rattle.spelling.specs.Content.{eightTails}
 use Rattle.spelling.specs.Numbers.{runOk}
@@ -79,27 +80,25 @@ unfolding ballotsAt pick
 all-good n k at s l h e q = rw (e, q, stored-all n (tailsAt 0 n (drop at s)) (tailsAt-length 0 n (drop at s)) h)
 
 -- what the end's step says
-pub end-step-ok : (at : ℕ) (s : List ℕ) → endAt at s .ok ≡ endOk (drop at s)
+end-step-ok : (at : ℕ) (s : List ℕ) → endAt at s .ok ≡ endOk (drop at s)
 unfolding endAt pick
 end-step-ok at s = by-test _ (endOk (drop at s)) (λ e. rw e) (λ e. rw e)
 
 -- what a log record's step says, in a turn of the loop over the log records
-module _ (n k i at : ℕ) (s : List ℕ) where
-  pub log-step-ok : logAt n at s .ok ≡ recordHere n (drop at s)
+module _ (n k i at : ℕ) (s : List ℕ) (r : LogStep) (h : i < k) (e : r ≡ logAt n at s) where
+  log-step-ok : recordHere n (drop at s) ≡ r .ok
   unfolding logAt pick badLog
-  log-step-ok = by-test _ (recordHere n (drop at s)) (λ e. rw e) (λ e. rw e)
+  log-step-ok = rw e (by-test _ (recordHere n (drop at s)) (λ t. rw t) (λ t. rw t))
 
-  pub log-step-next : recordHere n (drop at s) ≡ true → logAt n at s .next ≡ at + 6
+  log-step-next : recordHere n (drop at s) ≡ true → r .next ≡ at + 6
   unfolding logAt pick
-  log-step-next e = rw e
+  log-step-next t = rw (e, t)
 
-  pub log-turn : (r : LogStep) → i < k → r ≡ logAt n at s → r .ok ≡ true → runOk 6 (recordHere n) (k - (i + 1)) (drop (r .next) s) ≡ runOk 6 (recordHere n) (k - i) (drop at s)
-  log-turn r h e t =
-      let q : recordHere n (drop at s) ≡ true = sym log-step-ok ∙ ap (λ (x : LogStep). x .ok) (sym e) ∙ t in
-      rw (e, log-step-next q) (sym (test-step 6 (recordHere n) k i at s h q))
+  pub log-turn : r .ok ≡ true → runOk 6 (recordHere n) (k - (i + 1)) (drop (r .next) s) ≡ runOk 6 (recordHere n) (k - i) (drop at s)
+  log-turn t = rw (log-step-next (log-step-ok ∙ t)) (sym (test-step 6 (recordHere n) k i at s h (log-step-ok ∙ t)))
 
-  pub log-fails : (r : LogStep) → i < k → r ≡ logAt n at s → r .ok ≡ false → runOk 6 (recordHere n) (k - i) (drop at s) ≡ false
-  log-fails r h e t = test-fails 6 (recordHere n) k i (drop at s) h (sym log-step-ok ∙ ap (λ (x : LogStep). x .ok) (sym e) ∙ t)
+  pub log-fails : r .ok ≡ false → false ≡ runOk 6 (recordHere n) (k - i) (drop at s)
+  log-fails t = sym (test-fails 6 (recordHere n) k i (drop at s) h (log-step-ok ∙ t))
 
 -- ---- the loop's invariant: what is left to test, and to store, from office o at position at, is what there was to test and to store at first
 
@@ -108,23 +107,29 @@ pub record Left (s : List ℕ) (from n k : ℕ) (l : List Ballot) (at o : ℕ) :
   pub tests : ballotsOk n k o (n - o) (drop at s) ≡ ballotsOk n k 0 n (drop from s)
   pub stores : sets l o (map ballotOf (tailsAt o (n - o) (drop at s))) ≡ sets (replicate 8 noBallot) 0 (map ballotOf (tailsAt 0 n (drop from s)))
 
-module _ (s : List ℕ) (from n k : ℕ) (l : List Ballot) (at o : ℕ) (inv : Left s from n k l at o) where
-  pub again : (r : BallotStep) → o < n → r ≡ ballotAt n k o at s → r .ok ≡ true → Left s from n k (set l o (r .ballot)) (r .next) (o + 1)
-  again r h e t =
-      let q : ballotOk n k o (drop at s) ≡ true = sym (step-ok n k o at s) ∙ ap (λ (x : BallotStep). x .ok) (sym e) ∙ t in
-      rw (e, step-next n k o at s q, step-ballot n k o at s q)
-      (record { few = omega arith; tests = sym (turn-ok n k o at s q h) ∙ inv .tests; stores = turn-tails n k o at s l h ∙ inv .stores })
+module _ {s : List ℕ} {from n k : ℕ} {l : List Ballot} {at o : ℕ} (inv : Left s from n k l at o) where
+  module _ {r : BallotStep} (h : o < n) (e : r ≡ ballotAt n k o at s) where
+    pub again : r .ok ≡ true → Left s from n k (set l o (r .ballot)) (r .next) (o + 1)
+    again t =
+        let q : ballotOk n k o (drop at s) ≡ true = sym (step-ok n k o at s) ∙ ap (λ (x : BallotStep). x .ok) (sym e) ∙ t in
+        rw (e, step-next n k o at s q, step-ballot n k o at s q)
+        (record { few = omega arith; tests = sym (turn-ok n k o at s q h) ∙ inv .tests; stores = turn-tails n k o at s l h ∙ inv .stores })
 
-  pub fails : (r : BallotStep) → o < n → r ≡ ballotAt n k o at s → r .ok ≡ false → ballotsAt n k from s ≡ badRecords
-  fails r h e t =
-      let q : ballotOk n k o (drop at s) ≡ false = sym (step-ok n k o at s) ∙ ap (λ (x : BallotStep). x .ok) (sym e) ∙ t in
-      all-bad n k from s (sym (inv .tests) ∙ turn-fails n k o at s h q)
+    pub fails : r .ok ≡ false → badRecords ≡ ballotsAt n k from s
+    fails t =
+        let q : ballotOk n k o (drop at s) ≡ false = sym (step-ok n k o at s) ∙ ap (λ (x : BallotStep). x .ok) (sym e) ∙ t in
+        sym (all-bad n k from s (sym (inv .tests) ∙ turn-fails n k o at s h q))
 
-  pub ends-bad : n ≤ o → endOk (drop at s) ≡ false → ballotsAt n k from s ≡ badRecords
-  ends-bad h e = all-bad n k from s (sym (inv .tests) ∙ end-test n k o at s h ∙ e)
+  -- after the last office the end decides
+  module _ {r : EndStep} (h : n ≤ o) (e : r ≡ endAt at s) where
+    decides : ballotsOk n k 0 n (drop from s) ≡ r .ok
+    decides = sym (inv .tests) ∙ end-test n k o at s h ∙ sym (end-step-ok at s) ∙ ap (λ (x : EndStep). x .ok) (sym e)
 
-  pub ends-good : n ≤ 8 → n ≤ o → endOk (drop at s) ≡ true → record { ok = true; ballots = l } ≡ ballotsAt n k from s
-  ends-good few h e = all-good n k from s l few (sym (inv .tests) ∙ end-test n k o at s h ∙ e) (sym (end-tails n k o at s l h) ∙ inv .stores)
+    pub ends-bad : r .ok ≡ false → badRecords ≡ ballotsAt n k from s
+    ends-bad t = sym (all-bad n k from s (decides ∙ t))
 
-pub begins-left : (s : List ℕ) (from n k : ℕ) (b : Ballot) → b ≡ noBallot → Left s from n k (replicate 8 b) from 0
-begins-left s from n k b e = record { few = omega arith; tests = rw sub-zero; stores = rw (sub-zero, e) }
+    pub ends-good : n ≤ 8 → r .ok ≡ true → record { ok = true; ballots = l } ≡ ballotsAt n k from s
+    ends-good few t = all-good n k from s l few (decides ∙ t) (sym (end-tails n k o at s l h) ∙ inv .stores)
+
+pub begins-left : {s : List ℕ} {from n k : ℕ} {b : Ballot} → b ≡ noBallot → Left s from n k (replicate 8 b) from 0
+begins-left e = record { few = omega arith; tests = rw sub-zero; stores = rw (sub-zero, e) }

@@ -6,7 +6,6 @@ use mathlib.Core.Path.{_∙_, _≡_, ap, sym}
 use native.Mathlib.Omega.{arith}
 use lib.ListN.{drop, getD, length, length-drop, take}
 use lib.Seq.{take-all}
-use Rattle.ballots.specs.declared.Ballot.{Ballot}
 use Rattle.protocol.specs.Tests.{both, pick}
 use Rattle.spelling.specs.Numbers.{be16, runAt, runOk}
 use Rattle.spelling.specs.Reading.{contentAt, countAt, headOk, messageOk, reading, recordAt, recordHere, recordsOk, restAt, settledAt, tailsAt}
@@ -25,11 +24,11 @@ module _ (n k : ℕ) (s : List ℕ) where
   unfolding recordsAt recordsOk pick both
   records-no e = rw e
 
-  pub records-ok : recordsAt n k s .ok ≡ recordsOk n k s
+  records-ok : recordsAt n k s .ok ≡ recordsOk n k s
   unfolding recordsAt pick badRecords
   records-ok = by-test _ (recordsOk n k s) (λ e. rw e) (λ e. rw e)
 
-  pub records-of : recordsOk n k s ≡ true → recordsAt n k s .ballots ≡ ballotsOf n (tailsAt 0 n (drop (6 * k) s))
+  records-of : recordsOk n k s ≡ true → recordsAt n k s .ballots ≡ ballotsOf n (tailsAt 0 n (drop (6 * k) s))
   unfolding recordsAt pick
   records-of e = rw e
 
@@ -44,36 +43,25 @@ pub rest-is : (s : List ℕ) (h : ℕ) → h ≡ 6 + 2 * getD s 3 0 → take (le
 unfolding restAt
 rest-is s h e = take-all (length s - h) (drop h s) (omega (arith, length-drop h s)) ∙ rw e
 
-pub read-bad : (s : List ℕ) → messageOk s ≡ false → badReading ≡ readingOf (reading s)
-unfolding reading pick readingOf
-read-bad s e = rw e
+pub no-head : (s : List ℕ) → headOk s ≡ false → badReading ≡ readingOf (reading s)
+unfolding reading pick readingOf messageOk both
+no-head s e = rw e
 
-pub msg-head : (s : List ℕ) → headOk s ≡ false → messageOk s ≡ false
-unfolding messageOk both
-msg-head s e = rw e
-
-pub msg-records : (s : List ℕ) → recordsOk (countAt s) (settledAt s) (restAt s) ≡ false → messageOk s ≡ false
-unfolding messageOk
-msg-records s e = both-false-1 (headOk s) _ e
-
-pub msg-both : (s : List ℕ) → headOk s ≡ true → recordsOk (countAt s) (settledAt s) (restAt s) ≡ true → messageOk s ≡ true
-unfolding messageOk both
-msg-both s e q = rw (e, q)
-
-pub read-good : (s : List ℕ) (a n : ℕ) (ws : List ℕ) (k h : ℕ) (bs : List Ballot) → messageOk s ≡ true → a ≡ getD s 2 0 → n ≡ getD s 3 0
-    → ws ≡ eightWeights n (runAt 2 be16 n (drop 4 s))
-    → k ≡ settledAt s → h ≡ 6 + 2 * n → bs ≡ ballotsOf n (tailsAt 0 n (drop (6 * k) (restAt s)))
-    → record { ok = true; sender = a; n = n; weights = ws; settled = k; head = h; ballots = bs } ≡ readingOf (reading s)
-unfolding reading pick readingOf contentAt
-read-good s a n ws k h bs e e2 e3 e4 e5 e6 e7 = rw (e, runAt-length 6 recordAt (settledAt s) (restAt s), e7, e6, e4, e5, e3, e2)
-
--- the answer of the record reader, over the rest of the message
+-- the head's fields, and the answer of the record reader over the rest of the message
 module _ (s : List ℕ) (n k : ℕ) (r : Records) (en : n ≡ getD s 3 0) (ek : k ≡ settledAt s) (er : r ≡ recordsAt n k (restAt s)) where
   here-ok : recordsOk n k (restAt s) ≡ r .ok
   here-ok = sym (records-ok n k (restAt s)) ∙ ap (λ (x : Records). x .ok) (sym er)
 
-  pub rest-ok : recordsOk (countAt s) (settledAt s) (restAt s) ≡ r .ok
+  rest-ok : recordsOk (countAt s) (settledAt s) (restAt s) ≡ r .ok
   rest-ok = rw (← en, ← ek) here-ok
 
-  pub rest-of : r .ok ≡ true → r .ballots ≡ ballotsOf n (tailsAt 0 n (drop (6 * k) (restAt s)))
-  rest-of e = ap (λ (x : Records). x .ballots) er ∙ records-of n k (restAt s) (here-ok ∙ e)
+  pub no-records : r .ok ≡ false → badReading ≡ readingOf (reading s)
+  unfolding reading pick readingOf messageOk
+  no-records e = rw (both-false-1 (headOk s) _ (rest-ok ∙ e))
+
+  pub read-all : (a : ℕ) (ws : List ℕ) → headOk s ≡ true → r .ok ≡ true → a ≡ getD s 2 0 → ws ≡ eightWeights n (runAt 2 be16 n (drop 4 s))
+      → record { ok = true; sender = a; n = n; weights = ws; settled = k; head = 6 + 2 * n; ballots = r .ballots } ≡ readingOf (reading s)
+  unfolding reading pick readingOf contentAt messageOk both
+  read-all a ws eh e ea ew =
+      let bs : r .ballots ≡ ballotsOf n (tailsAt 0 n (drop (6 * k) (restAt s))) = ap (λ (x : Records). x .ballots) er ∙ records-of n k (restAt s) (here-ok ∙ e) in
+      rw (eh, rest-ok ∙ e, runAt-length 6 recordAt (settledAt s) (restAt s), bs, ew, ek, en, ea)

@@ -40,24 +40,24 @@ module _ (k a b at : ℕ) (s : List ℕ) (x : Bool) (some : 1 ≤ k) where
       }
 
   -- the test where the mark stands there: the rest of it
-  pub mark-yes : Mark k a b at s → both (leb k (length (drop at s))) (both (eqb (getD (drop at s) 0 0) a) (both (eqb (getD (drop at s) 1 0) b) x)) ≡ x
+  mark-yes : Mark k a b at s → both (leb k (length (drop at s))) (both (eqb (getD (drop at s) 0 0) a) (both (eqb (getD (drop at s) 1 0) b) x)) ≡ x
   unfolding both
   mark-yes m = marked ∙ rw (le-leb k (length s - at) (omega (arith, m .room)), eq-eqb (getD s at 0) a (m .first), eq-eqb (getD s (at + 1) 0) b (m .second))
 
   -- and where it does not
-  pub mark-no : (Mark k a b at s → ⊥) → both (leb k (length (drop at s))) (both (eqb (getD (drop at s) 0 0) a) (both (eqb (getD (drop at s) 1 0) b) x)) ≡ false
+  mark-no : (Mark k a b at s → ⊥) → both (leb k (length (drop at s))) (both (eqb (getD (drop at s) 0 0) a) (both (eqb (getD (drop at s) 1 0) b) x)) ≡ false
   mark-no f = marked ∙ by-test _ (both (leb k (length s - at)) (both (eqb (getD s at 0) a) (both (eqb (getD s (at + 1) 0) b) x))) (λ e. absurd (f (mark-facts e))) (λ e. e)
 
 -- ---- a log record
 
 module _ (n at : ℕ) (s : List ℕ) where
-  pub log-no : (Mark 6 0x4C 0x47 at s → ⊥) → recordHere n (drop at s) ≡ false
+  pub log-no : (Mark 6 0x4C 0x47 at s → ⊥) → false ≡ recordHere n (drop at s)
   unfolding recordHere
-  log-no f = mark-no 6 0x4C 0x47 at s (isEntry n (be32 (drop 2 (drop at s)))) (omega arith) f
+  log-no f = sym (mark-no 6 0x4C 0x47 at s (isEntry n (be32 (drop 2 (drop at s)))) (omega arith) f)
 
-  pub log-yes : Mark 6 0x4C 0x47 at s → recordHere n (drop at s) ≡ isEntry n (be32 (drop (at + 2) s))
+  pub log-yes : Mark 6 0x4C 0x47 at s → isEntry n (be32 (drop (at + 2) s)) ≡ recordHere n (drop at s)
   unfolding recordHere
-  log-yes m = mark-yes 6 0x4C 0x47 at s (isEntry n (be32 (drop 2 (drop at s)))) (omega arith) m ∙ rw drop-drop
+  log-yes m = sym (mark-yes 6 0x4C 0x47 at s (isEntry n (be32 (drop 2 (drop at s)))) (omega arith) m ∙ rw drop-drop)
 
   pub log-good : (v : ℕ) → recordHere n (drop at s) ≡ true → v ≡ recordAt (drop at s) → record { ok = true; value = v; next = at + 6 } ≡ logAt n at s
   unfolding logAt pick
@@ -79,13 +79,13 @@ module _ (at : ℕ) (s : List ℕ) where
 -- ---- a ballot comes next
 
 module _ (o at : ℕ) (s : List ℕ) where
-  pub next-no : (Mark 4 0x42 0x41 at s → ⊥) → ballotNext o (drop at s) ≡ false
+  pub next-no : (Mark 4 0x42 0x41 at s → ⊥) → false ≡ ballotNext o (drop at s)
   unfolding ballotNext
-  next-no f = mark-no 4 0x42 0x41 at s (eqb (getD (drop at s) 2 0) o) (omega arith) f
+  next-no f = sym (mark-no 4 0x42 0x41 at s (eqb (getD (drop at s) 2 0) o) (omega arith) f)
 
-  pub next-yes : Mark 4 0x42 0x41 at s → ballotNext o (drop at s) ≡ eqb (getD s (at + 2) 0) o
+  pub next-yes : Mark 4 0x42 0x41 at s → eqb (getD s (at + 2) 0) o ≡ ballotNext o (drop at s)
   unfolding ballotNext
-  next-yes m = mark-yes 4 0x42 0x41 at s (eqb (getD (drop at s) 2 0) o) (omega arith) m ∙ rw getD-drop
+  next-yes m = sym (mark-yes 4 0x42 0x41 at s (eqb (getD (drop at s) 2 0) o) (omega arith) m ∙ rw getD-drop)
 
 -- ---- the end
 
@@ -106,12 +106,12 @@ module _ (at : ℕ) (s : List ℕ) where
         first = eqb-true _ _ (both-0 _ _ (both-1 (eqb (length s - at) 2) _ e0));
       }
 
-  pub end-no : (End at s → ⊥) → endOk (drop at s) ≡ false
-  end-no f = by-test _ (endOk (drop at s)) (λ e. absurd (f (end-facts e))) (λ e. e)
+  pub end-no : (End at s → ⊥) → false ≡ endOk (drop at s)
+  end-no f = by-test _ (endOk (drop at s)) (λ e. absurd (f (end-facts e))) sym
 
-  pub end-yes : End at s → endOk (drop at s) ≡ eqb (getD s (at + 1) 0) 0x4E
+  pub end-yes : End at s → eqb (getD s (at + 1) 0) 0x4E ≡ endOk (drop at s)
   unfolding both
-  end-yes m = ended ∙ rw (eq-eqb (length s - at) 2 (omega (arith, m .last)), eq-eqb (getD s at 0) 0x45 (m .first))
+  end-yes m = sym (ended ∙ rw (eq-eqb (length s - at) 2 (omega (arith, m .last)), eq-eqb (getD s at 0) 0x45 (m .first)))
 
   pub end-room : endOk (drop at s) ≡ true → at + 2 ≤ length s
   end-room e = omega (arith, end-facts e)

@@ -2,7 +2,7 @@
 use Prim.Native.Nat.{ℕ, _+_, _*_, _≤_, _<_}
 use mathlib.Core.Bool.{true, false}
 use mathlib.Core.List.{List}
-use mathlib.Core.Path.{_≡_}
+use mathlib.Core.Path.{sym, _≡_}
 use lib.Dec.{ltb, leb, eqb}
 use lib.ListN.{length, getD}
 use borrow.Author.Tests.{ltb-true, leb-true, eqb-true, lt-ltb, le-leb, eq-eqb}
@@ -41,10 +41,10 @@ head-facts s h0 =
       settled-few = leb-true _ _ (both-1 (leb (6 + 2 * countAt s) (length s)) _ h6);
     }
 
-pub head-not : (s : List ℕ) → (Head s → ⊥) → headOk s ≡ false
-head-not s f = by-test _ (headOk s) (λ e. absurd (f (head-facts s e))) (λ e. e)
+pub head-not : (s : List ℕ) → (Head s → ⊥) → false ≡ headOk s
+head-not s f = by-test _ (headOk s) (λ e. absurd (f (head-facts s e))) sym
 
-pub head-test : (s : List ℕ) → Head s → headOk s ≡ true
+pub head-test : (s : List ℕ) → Head s → true ≡ headOk s
 unfolding headOk both
 head-test s h =
     rw (

@@ -1,13 +1,13 @@
 -- One turn of the loops that read and write a run. Assumes nothing.
 use Prim.Native.Nat.{ℕ, suc, _+_, _-_, _≤_, _<_, _*_, zero}
 use mathlib.Core.Bool.{Bool, true, false}
-use mathlib.Core.List.{List}
+use mathlib.Core.List.{List, _++_}
 use mathlib.Core.Path.{_≡_, _∙_, sym}
-use native.Mathlib.Nat.{mul-zero}
+use native.Mathlib.Nat.{add-zero, mul-zero, sub-zero}
 use native.Mathlib.Numerals.{add-one}
 use native.Mathlib.Omega.{arith}
 use lib.Dec.{leb}
-use lib.ListN.{length, getD, take, drop, set, length-drop, length-take, drop-of-length-le}
+use lib.ListN.{length, getD, take, drop, set, length-drop, length-take, drop-of-length-le, replicate}
 use lib.Seq.{sets, drop-drop, drop-cons, getD-take, length-take-le}
 use borrow.Author.Tests.{leb-true}
 use Rattle.protocol.specs.Tests.{both}
@@ -15,6 +15,8 @@ use Rattle.protocol.proofs.Stores.{sets-append}
 use Rattle.protocol.proofs.Tests.{both-0, both-1}
 use Rattle.spelling.specs.Numbers.{runAt, run, runOk}
 use Rattle.spelling.specs.Reading.{recordHere, valueHere}
+use Rattle.spelling.proofs.Numbers.{sets-alike}
+use Rattle.spelling.proofs.Runs.{runAt-length}
 
 -- reading: what is left to test at turn i, of k, at position at
 pub test-step : (w : ℕ) (p : List ℕ → Bool) (k i at : ℕ) (s : List ℕ) → i < k → p (drop at s) ≡ true → runOk w p (k - i) (drop at s) ≡ runOk w p (k - (i + 1)) (drop (at + w) s)
@@ -82,6 +84,27 @@ fill-step w g l k i at s h =
 pub fill-end : (w : ℕ) (g : List ℕ → ℕ) (l : List ℕ) (k i : ℕ) (s : List ℕ) → k ≤ i → sets l i (runAt w g (k - i) s) ≡ l
 unfolding runAt
 fill-end w g l k i s h = let q : k - i ≡ 0 = omega arith in rw q
+
+-- the invariant of a loop that fills cells with k items of w bytes, read from place p of s on: what is left to store at turn i, read at place at,
+-- gives all that is to be stored
+pub record Filling (w : ℕ) (g : List ℕ → ℕ) (cells₀ s : List ℕ) (p k : ℕ) (cells : List ℕ) (at i : ℕ) : Type 0 where
+  pub few : i ≤ k
+  pub place : at ≡ p + w * i
+  pub stores : sets cells i (runAt w g (k - i) (drop at s)) ≡ sets cells₀ 0 (runAt w g k (drop p s))
+
+pub filling-begins : {w : ℕ} {g : List ℕ → ℕ} {cells s : List ℕ} {p k : ℕ} → Filling w g cells s p k cells p 0
+filling-begins = record { few = omega arith; place = rw (mul-zero, add-zero); stores = rw sub-zero }
+
+module _ {w : ℕ} {g : List ℕ → ℕ} {cells₀ s : List ℕ} {p k : ℕ} {cells : List ℕ} {at i : ℕ} where
+  pub filling-again : {v : ℕ} → Filling w g cells₀ s p k cells at i → i < k → v ≡ g (drop at s) → Filling w g cells₀ s p k (set cells i v) (at + w) (i + 1)
+  filling-again inv h e = record { few = omega arith; place = omega arith; stores = rw e (fill-step w g cells k i at s h) ∙ inv .stores }
+
+-- cells that were zero hold the items, and zeros after them
+pub filling-ends : {w : ℕ} {g : List ℕ → ℕ} {m : ℕ} {s : List ℕ} {p k : ℕ} {cells : List ℕ} {at i : ℕ} → Filling w g (replicate m 0) s p k cells at i → k ≤ i → k ≤ m
+    → cells ≡ runAt w g k (drop p s) ++ replicate (m - k) 0
+filling-ends {w} {g} {m} {s} {p} {k} {cells} {at} {i} inv h j =
+    let l : length (runAt w g k (drop p s)) ≡ k = runAt-length w g k (drop p s) in
+    sym (fill-end w g cells k i (drop at s) h) ∙ inv .stores ∙ sets-alike m 0 (runAt w g k (drop p s)) (omega arith) ∙ rw l
 
 -- k items that stand there have room
 pub run-room : (w : ℕ) (p : List ℕ → Bool) → ((s : List ℕ) → p s ≡ true → w ≤ length s) → (k : ℕ) (s : List ℕ) → runOk w p k s ≡ true → w * k ≤ length s

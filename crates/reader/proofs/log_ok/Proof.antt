@@ -18,28 +18,13 @@ Inv-loop rest n k at₀ i₀ at i = (i ≤ k) × (runOk 6 (recordHere n) (k - i)
 abbrev μ-loop : tie.MeasureT-loop
 μ-loop rest n k at₀ i₀ at i = k - i
 
-loop-holds : tie.Need-loop-holds Inv-loop μ-loop
-loop-holds c = (search needs, simp sub-zero)
-
 returns : tie.Need-returns Inv-loop μ-loop
-returns c = sym (log-fails (c .before .before .before .before .before .args .n) _ _ (c .before .before .before .loop .at) (c .before .before .before .before .before .args .rest .now) (c .before .read-log .result) (c .before .before .loop-test .taken) (c .before .read-log .ensures) (c .if1 .left)) ∙ c .before .before .before .loop .inv .1
+returns c = log-fails _ _ _ _ _ _ (c .before .before .loop-test .taken) (c .before .read-log .ensures) (c .if1 .left) ∙ c .before .before .before .loop .inv .1
 
 loop-again : tie.Need-loop-again Inv-loop μ-loop
-loop-again c = (omega arith, log-turn (c .before .before .before .before .before .args .n) _ _ (c .before .before .before .loop .at) (c .before .before .before .before .before .args .rest .now) (c .before .read-log .result) (c .before .before .loop-test .taken) (c .before .read-log .ensures) (c .if1 .taken) ∙ c .before .before .before .loop .inv .1)
-
-returns-2 : tie.Need-returns-2 Inv-loop μ-loop
-returns-2 c = sym (test-end 6 _ _ _ _ (c .loop-test .left)) ∙ c .before .loop .inv .1
+loop-again c = (omega arith, log-turn _ _ _ _ _ _ (c .before .before .loop-test .taken) (c .before .read-log .ensures) (c .if1 .taken) ∙ c .before .before .before .loop .inv .1)
 
 pub log-ok-spec : {M : Type 1} → statement M
 log-ok-spec =
-    tie.close
-    (tie.spec
-    Inv-loop
-    μ-loop
-    loop-holds
-    (λ c κs. search needs)
-    returns
-    (λ c. omega arith)
-    (λ c. omega arith)
-    loop-again
-    returns-2)
+    tie.close (tie.spec Inv-loop μ-loop (λ c. (search needs, simp sub-zero)) (search needs) returns (search needs) (search needs) loop-again
+    (λ c. sym (test-end 6 _ _ _ _ (c .loop-test .left)) ∙ c .before .loop .inv .1))

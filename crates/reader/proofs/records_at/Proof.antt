@@ -5,19 +5,8 @@ use Rattle.reader.proofs.Whole.{records-no, records-yes}
 use Rattle.reader.proofs.records_at.Statement.{statement}
 use Rattle.reader.proofs.records_at.Tie as tie
 
-returns : tie.Need-returns
-returns c = c .ballots-at .ensures ∙ records-yes _ _ _ (sym (c .before .before .log-ok .ensures) ∙ c .before .if1 .taken)
-
-returns-2 : tie.Need-returns-2
-returns-2 c = c .bad-records .ensures ∙ records-no _ _ _ (sym (c .before .before .log-ok .ensures) ∙ c .before .if1 .left)
-
 pub records-at-spec : {M : Type 1} → statement M
 records-at-spec =
-    tie.close
-    (tie.spec
-    (λ c κs. search needs)
-    (λ c. search needs)
-    (λ c κs. search needs)
-    (λ c κs. search needs)
-    returns
-    returns-2)
+    tie.close (tie.spec (search needs) (search needs) (search needs) (search needs)
+    (λ c. c .ballots-at .ensures ∙ records-yes _ _ _ (sym (c .before .before .log-ok .ensures) ∙ c .before .if1 .taken))
+    (λ c. c .bad-records .ensures ∙ records-no _ _ _ (sym (c .before .before .log-ok .ensures) ∙ c .before .if1 .left)))

@@ -9,7 +9,4 @@ unfolding badLog
 returns c = refl
 
 pub bad-log-spec : {M : Type 1} → statement M
-bad-log-spec =
-    tie.close
-    (tie.spec
-    returns)
+bad-log-spec = tie.close (tie.spec returns)

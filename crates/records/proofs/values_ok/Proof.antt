@@ -18,40 +18,22 @@ Inv-loop s from n k at₀ i₀ at i = (i ≤ k) × ((at ≤ length s) × (runOk 
 abbrev μ-loop : tie.MeasureT-loop
 μ-loop s from n k at₀ i₀ at i = k - i
 
-loop-holds : tie.Need-loop-holds Inv-loop μ-loop
-loop-holds c = (search needs, (search needs, simp sub-zero))
-
 -- in a turn that goes on a record stands at the position
 stands : (c : tie.Then1 Inv-loop μ-loop)
     → valueHere (c .before .before .before .before .before .args .n) (drop (c .before .before .before .loop .at) (c .before .before .before .before .before .args .s .now)) ≡ true
 stands c = sym (c .before .value-here .ensures) ∙ c .if1 .taken
 
 room : (c : tie.Then1 Inv-loop μ-loop) → c .before .before .before .loop .at + 4 ≤ length (c .before .before .before .before .before .args .s .now)
-room c = value-room _ (c .before .before .before .loop .at) (c .before .before .before .before .before .args .s .now) (stands c)
-
-add-at : tie.Need-add-at Inv-loop μ-loop
-add-at c = omega (arith, room c)
+room c = value-room _ _ _ (stands c)
 
 returns : tie.Need-returns Inv-loop μ-loop
 returns c = sym (test-fails 4 _ _ _ _ (c .before .before .loop-test .taken) (sym (c .before .value-here .ensures) ∙ c .if1 .left)) ∙ c .before .before .before .loop .inv .1 .1
 
 loop-again : tie.Need-loop-again Inv-loop μ-loop
-loop-again c = (omega arith, (room c, sym (test-step 4 _ _ _ (c .before .before .before .loop .at) (c .before .before .before .before .before .args .s .now) (c .before .before .loop-test .taken) (stands c)) ∙ c .before .before .before .loop .inv .1 .1))
-
-returns-2 : tie.Need-returns-2 Inv-loop μ-loop
-returns-2 c = sym (test-end 4 _ _ _ _ (c .loop-test .left)) ∙ c .before .loop .inv .1 .1
+loop-again c = let l = c .before .before .before .loop in
+    (omega arith, (room c, sym (test-step 4 _ _ _ (l .at) (c .before .before .before .before .before .args .s .now) (c .before .before .loop-test .taken) (stands c)) ∙ l .inv .1 .1))
 
 pub values-ok-spec : {M : Type 1} → statement M
 values-ok-spec =
-    tie.close
-    (tie.spec
-    Inv-loop
-    μ-loop
-    loop-holds
-    (λ c κs. search needs)
-    add-at
-    returns
-    (λ c. omega arith)
-    (λ c. omega arith)
-    loop-again
-    returns-2)
+    tie.close (tie.spec Inv-loop μ-loop (λ c. (search needs, (search needs, simp sub-zero))) (search needs) (λ c. omega (arith, room c)) returns
+    (λ c. omega arith) (λ c. omega arith) loop-again (λ c. sym (test-end 4 _ _ _ _ (c .loop-test .left)) ∙ c .before .loop .inv .1 .1))
