@@ -4,14 +4,14 @@
 --     spaced-begins, spaced-next, spaced-ends      the loop over the numbers
 --     print-whole      a letter, the numbers, a newline
 -- Assumes nothing.
-use mathlib.Core.Path.{_≡_, refl, sym, ap, _∙_}
+use mathlib.Core.Path.{_≡_, sym, ap, _∙_}
 use mathlib.Core.List.{List, [], _∷_, _++_}
 use Prim.Native.Nat.{ℕ, _+_, _-_, _*_, _/_, _%_, _<_, _≤_, zero-le}
 use native.Mathlib.Omega.{arith}
 use native.Mathlib.Numerals.{add-one}
 use lib.ListN.{length, drop, getD, set, length-append, length-take, drop-of-length-le}
 use lib.Seq.{sets, drop-cons}
-use Rattle.protocol.proofs.Stores.{sets-append}
+use Rattle.protocol.proofs.Stores.{sets-append, Left, left-all, left-next, left-none}
 use Rattle.answers.specs.declared.Answer.{Answer}
 use Rattle.answers.specs.Decimal.{glyph, spaced, decimalIn}
 use Rattle.answers.specs.Answer.{spacedAll, numbersOf, printedOf}
@@ -38,40 +38,27 @@ pub printed-short : (a : Answer) → length (a .numbers) ≡ 3 → length (print
 unfolding printedOf
 printed-short a h = simp length-append (omega (arith, all-short (numbersOf a), length-take (a .count) (a .numbers)))
 
--- the loop over the numbers: what is left, written from here on, gives what is to be written
+-- the loop over the numbers: those from place i on are left to write
 pub record SpacedRest (ns first : List ℕ) (at : ℕ) (out : List ℕ) (next i : ℕ) : Type 0 where
   pub within : i ≤ length ns
   pub room : next ≤ at + 21 * i
-  pub place : next + length (spacedAll (drop i ns)) ≡ at + length (spacedAll ns)
-  pub bytes : sets out next (spacedAll (drop i ns)) ≡ sets first at (spacedAll ns)
-  pub long : length out ≡ length first
+  pub left : Left first at (spacedAll ns) out next (spacedAll (drop i ns))
 
 pub spaced-begins : (ns first : List ℕ) (at : ℕ) → SpacedRest ns first at first at 0
-spaced-begins ns first at = record { within = zero-le; room = omega arith; place = refl; bytes = refl; long = refl }
+spaced-begins ns first at = record { within = zero-le; room = omega arith; left = left-all first at (spacedAll ns) }
 
-module _ (ns first : List ℕ) (at : ℕ) (out : List ℕ) (next i : ℕ) (inv : SpacedRest ns first at out next i) where
+module _ {ns first : List ℕ} {at : ℕ} {out : List ℕ} {next i : ℕ} (inv : SpacedRest ns first at out next i) where
   rest-spaced : i < length ns → spacedAll (drop i ns) ≡ spaced (getD ns i 0) ++ spacedAll (drop (i + 1) ns)
   unfolding spacedAll
   rest-spaced h = rw (add-one, drop-cons ns i 0 h)
 
-  pub spaced-next : (v r : ℕ) (last : List ℕ) → i < length ns → v ≡ getD ns i 0 → r ≡ next + length (spaced v) → last ≡ sets out next (spaced v) → length last ≡ length out → SpacedRest ns first at last r (i + 1)
-  spaced-next v r last h ev er el eo =
-      let x : spacedAll (drop i ns) ≡ spaced v ++ spacedAll (drop (i + 1) ns) = rw ev (rest-spaced h) in
-      let k : length (spacedAll (drop i ns)) ≡ length (spaced v) + length (spacedAll (drop (i + 1) ns)) = ap length x ∙ length-append (spaced v) (spacedAll (drop (i + 1) ns)) in
-      record {
-        within = omega arith;
-        room = omega (arith, spaced-short v, inv .room);
-        place = omega (arith, inv .place);
-        bytes = rw (el, er) (sym (sets-append out next (spaced v) (spacedAll (drop (i + 1) ns))) ∙ ap (λ (s : List ℕ). sets out next s) (sym x) ∙ inv .bytes);
-        long = eo ∙ inv .long;
-      }
+  pub spaced-next : (v : ℕ) {r : ℕ} {last : List ℕ} → i < length ns → v ≡ getD ns i 0 → r ≡ next + length (spaced v) → last ≡ sets out next (spaced v) → SpacedRest ns first at last r (i + 1)
+  spaced-next v h ev er el =
+      record { within = omega arith; room = omega (arith, spaced-short v, inv .room); left = left-next (inv .left) (spaced v) (rw ev (rest-spaced h)) er el }
 
   pub spaced-ends : length ns ≤ i → (next ≡ at + length (spacedAll ns)) × (out ≡ sets first at (spacedAll ns))
   unfolding spacedAll
-  spaced-ends h =
-      let d : drop i ns ≡ [] = drop-of-length-le ns h in
-      let e : length (spacedAll (drop i ns)) ≡ 0 = rw d in
-      (omega (arith, inv .place), ap (λ (s : List ℕ). sets out next (spacedAll s)) (sym d) ∙ inv .bytes)
+  spaced-ends h = left-none (inv .left) (rw (drop-of-length-le ns h))
 
 -- an answer: its letter, its numbers, a newline
 pub print-whole : (a : Answer) (out last : List ℕ) (at next : ℕ) → next ≡ at + 1 + length (spacedAll (numbersOf a)) → last ≡ sets (set out at (a .letter)) (at + 1) (spacedAll (numbersOf a)) → (next + 1 ≡ at + length (printedOf a)) × (set last next 10 ≡ sets out at (printedOf a))

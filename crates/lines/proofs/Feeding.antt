@@ -8,14 +8,14 @@ use mathlib.Core.Path.{_≡_, refl, sym, ap, _∙_}
 use mathlib.Core.Bool.{Bool, true, false}
 use mathlib.Core.List.{List, [], _∷_, _++_, append-assoc, append-nil}
 use Prim.Native.Nat.{ℕ, zero, suc, _+_, _-_, _*_, _<_, _≤_, zero-le}
-use native.Mathlib.Nat.{le-of-suc-le-suc, not-suc-le-zero}
+use native.Mathlib.Nat.{le-of-suc-le-suc, not-suc-le-zero, zero-add}
 use native.Mathlib.Omega.{arith}
 use lib.Dec.{eqb}
-use lib.ListN.{length, take, drop, length-append, length-take, length-drop}
-use lib.Seq.{sets, length-sets, take-all, drop-drop}
+use lib.ListN.{length, take, drop, length-take, length-drop}
+use lib.Seq.{sets, take-all, drop-drop}
 use borrow.Author.Tests.{eq-eqb, ne-eqb}
 use Rattle.protocol.specs.Tests.{pick}
-use Rattle.protocol.proofs.Stores.{sets-append}
+use Rattle.protocol.proofs.Stores.{Left, left-all, left-next, left-none}
 use Rattle.lines.specs.Parts.{partLength}
 use Rattle.lines.specs.Held.{cut}
 use Rattle.lines.specs.Feeding.{Said, Fed, saidThen, feedBy, finishBy, FedAs}
@@ -83,13 +83,11 @@ module _ {W : Type 0} (say : W → List ℕ → Said W) where
     pub room : printed ≤ 65 * at
     pub world : feedBy say w h (drop at s) .world ≡ feedBy say w₀ h₀ s .world
     pub held : feedBy say w h (drop at s) .held ≡ feedBy say w₀ h₀ s .held
-    pub place : printed + length (feedBy say w h (drop at s) .printed) ≡ length (feedBy say w₀ h₀ s .printed)
-    pub bytes : sets out printed (feedBy say w h (drop at s) .printed) ≡ sets out₀ 0 (feedBy say w₀ h₀ s .printed)
-    pub long : length out ≡ length out₀
+    pub left : Left out₀ 0 (feedBy say w₀ h₀ s .printed) out printed (feedBy say w h (drop at s) .printed)
 
   pub feed-begins : (w : W) (h s out : List ℕ) → length h ≤ 129 → FeedRest w h s out w h out 0 0
   feed-begins w h s out l =
-      record { within = zero-le; short = l; room = zero-le; world = refl; held = refl; place = omega arith; bytes = refl; long = refl }
+      record { within = zero-le; short = l; room = zero-le; world = refl; held = refl; left = left-all out 0 (feedBy say w h s .printed) }
 
   module _ (w₀ : W) (h₀ s out₀ : List ℕ) (w : W) (h out : List ℕ) (at printed : ℕ) (inv : FeedRest w₀ h₀ s out₀ w h out at printed) (end : ℕ) (there : end ≡ at + partLength 10 (drop at s)) where
     -- the line that ends at `end`
@@ -112,13 +110,7 @@ module _ {W : Type 0} (say : W → List ℕ → Said W) where
           room = omega (arith, inv .room);
           world = rw ew (sym (ap (λ (f : Fed W). f .world) x) ∙ inv .world);
           held = rw ew (sym (ap (λ (f : Fed W). f .held) x) ∙ inv .held);
-          place = rw ew (omega (arith, ap (λ (f : Fed W). length (f .printed)) x, length-append (say w lineTo .printed) (feedBy say (say w lineTo .world) [] (drop (end + 1) s) .printed), inv .place));
-          bytes =
-              rw (ew, eo, ep)
-              (sym (sets-append out printed (say w lineTo .printed) (feedBy say (say w lineTo .world) [] (drop (end + 1) s) .printed))
-              ∙ sym (ap (λ (f : Fed W). sets out printed (f .printed)) x)
-              ∙ inv .bytes);
-          long = rw eo (length-sets out printed (say w lineTo .printed)) ∙ inv .long;
+          left = rw ew (left-next (inv .left) (say w lineTo .printed) (ap (λ (f : Fed W). f .printed) x) ep eo);
         }
 
     pub feed-ends : length s ≤ end → (end ≤ length s) → FedAs (feedBy say w₀ h₀ s) out₀ w lineTo out printed
@@ -127,11 +119,12 @@ module _ {W : Type 0} (say : W → List ℕ → Said W) where
         let k : end - at ≡ length (drop at s) = omega (arith, inv .within) in
         let a : take (end - at) (drop at s) ≡ drop at s = take-all (end - at) (drop at s) (omega arith) in
         let x : feedBy say w h (drop at s) ≡ record { world = w; held = lineTo; printed = [] } = rw a (feed-rest w h (drop at s) (inv .short) (omega (arith, inv .within))) in
+        let none = left-none (inv .left) (ap (λ (f : Fed W). f .printed) x) in
         record {
           world = sym (ap (λ (f : Fed W). f .world) x) ∙ inv .world;
           line = sym (ap (λ (f : Fed W). f .held) x) ∙ inv .held;
-          printed = omega (arith, ap (λ (f : Fed W). length (f .printed)) x, inv .place);
-          output = sym (ap (λ (f : Fed W). sets out printed (f .printed)) x) ∙ inv .bytes;
+          printed = none .0 ∙ zero-add (length (feedBy say w₀ h₀ s .printed));
+          output = none .1;
         }
 
   -- the end of the input, with nothing held and with a line

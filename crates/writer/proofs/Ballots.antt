@@ -1,5 +1,5 @@
 -- The bytes of a ballot, and of the ballots that are left to write. Assumes nothing.
-use Prim.Native.Nat.{ℕ, _+_, _*_, _≤_, _<_}
+use Prim.Native.Nat.{ℕ, _+_, _*_, _≤_, _<_, zero-le}
 use mathlib.Core.Bool.{true}
 use mathlib.Core.List.{List, [], _∷_, _++_, map}
 use mathlib.Core.Path.{_≡_, refl, ap, _∙_}
@@ -19,7 +19,7 @@ use Rattle.spelling.specs.Spelling.{ballotBytes, ballotsBytes}
 use Rattle.protocol.proofs.Tests.{all-at, both-0, both-1}
 use Rattle.spelling.proofs.Ballots.{ballot-cons}
 use Rattle.spelling.proofs.Items.{valueItem}
-use Rattle.protocol.proofs.Stores.{sets-append}
+use Rattle.protocol.proofs.Stores.{Left, left-all, left-next, left-none}
 use Rattle.spelling.proofs.Runs.{run-length}
 use Rattle.writer.specs.Written.{tailsOf}
 
@@ -69,37 +69,26 @@ pub len-at : (bs : List Ballot) (o : ℕ) (d : Ballot) → allB ballotShape bs �
 unfolding ballotShape
 len-at bs o d e h = let b : Ballot = getD bs o d in leb-true (b .len) 32 (both-0 _ _ (both-1 (eqb (length (b .cells)) 32) _ (all-at ballotShape d bs o e h)))
 
--- the invariant of the loop that writes: from office o on, at place p, the rest is left to store, and ends where all would
+-- the invariant of the loop that writes: from office o on, at place p, the rest is left to store
 pub record ToPut (l₀ : List ℕ) (at n : ℕ) (bs : List Ballot) (l : List ℕ) (p o : ℕ) : Type 0 where
   pub within : o ≤ n
-  pub long : length l ≡ length l₀
-  pub place : p + length (restBytes n bs o) ≡ at + length (ballotsBytes 0 (tailsOf n bs))
-  pub bytes : sets l p (restBytes n bs o) ≡ sets l₀ at (ballotsBytes 0 (tailsOf n bs))
+  pub left : Left l₀ at (ballotsBytes 0 (tailsOf n bs)) l p (restBytes n bs o)
 
 module _ {l₀ : List ℕ} {at n : ℕ} {bs : List Ballot} {l : List ℕ} {p o : ℕ} (inv : ToPut l₀ at n bs l p o) where
   -- there is room for the next ballot
   pub put-room : (d : Ballot) → o < n → n ≤ length bs → at + length (ballotsBytes 0 (tailsOf n bs)) ≤ length l₀ → p + length (ballotBytes o (tailOf (getD bs o d))) ≤ length l
-  put-room d h j room = omega (arith, inv .place, simp length-append at (ap length (rest-step n bs o d h j)))
+  put-room d h j room = omega (arith, inv .left .place, inv .left .long, simp length-append at (ap length (rest-step n bs o d h j)))
 
-  pub put-again : (d : Ballot) (l′ : List ℕ) (p′ : ℕ) → o < n → n ≤ length bs → length l′ ≡ length l → p′ ≡ p + length (ballotBytes o (tailOf (getD bs o d)))
+  pub put-again : (d : Ballot) {l′ : List ℕ} {p′ : ℕ} → o < n → n ≤ length bs → p′ ≡ p + length (ballotBytes o (tailOf (getD bs o d)))
       → l′ ≡ sets l p (ballotBytes o (tailOf (getD bs o d))) → ToPut l₀ at n bs l′ p′ (o + 1)
-  put-again d l′ p′ h j k e q =
-      let b : List ℕ = ballotBytes o (tailOf (getD bs o d)) in
-      let s : restBytes n bs o ≡ b ++ restBytes n bs (o + 1) = rest-step n bs o d h j in
-      record {
-        within = omega arith;
-        long = k ∙ inv .long;
-        place = omega (arith, inv .place, simp length-append at (ap length s));
-        bytes = rw (q, e, ← sets-append l p b (restBytes n bs (o + 1)), ← s) (inv .bytes);
-      }
+  put-again d h j e q = record { within = omega arith; left = left-next (inv .left) (ballotBytes o (tailOf (getD bs o d))) (rest-step n bs o d h j) e q }
 
   pub put-ends : n ≤ o → (p ≡ at + length (ballotsBytes 0 (tailsOf n bs))) × (l ≡ sets l₀ at (ballotsBytes 0 (tailsOf n bs)))
-  put-ends h =
-      let r : restBytes n bs o ≡ [] = rest-none n bs o h in
-      (omega (arith, inv .place, ap length r), (rw r at (inv .bytes)))
+  put-ends h = left-none (inv .left) (rest-none n bs o h)
 
 pub put-begins : (l : List ℕ) (at n : ℕ) (bs : List Ballot) → ToPut l at n bs l at 0
-put-begins l at n bs = record { within = omega arith; long = refl; place = rw rest-all; bytes = rw rest-all }
+unfolding restBytes tailsOf
+put-begins l at n bs = record { within = zero-le; left = left-all l at (ballotsBytes 0 (tailsOf n bs)) }
 
 -- the invariant of the loop that counts
 abbrev pub ToCount : ℕ → List Ballot → ℕ → ℕ → Type 0

@@ -15,27 +15,20 @@ Inv-loop out₀ at count numbers next₀ i₀ out next i = SpacedRest (take coun
 abbrev μ-loop : tie.MeasureT-loop
 μ-loop out₀ at count numbers next₀ i₀ out next i = count - i
 
+-- the first `count` of the numbers
+counted : (c : tie.Start Inv-loop μ-loop) → length (take (c .args .count) (c .args .t4)) ≡ c .args .count
+counted c = let h : length (c .args .t4) ≡ 3 = search needs in length-take-le (c .args .count) (c .args .t4) (omega arith)
+
 loop-again : tie.Need-loop-again Inv-loop μ-loop
 loop-again c =
-    let a = c .before .before .before .before .before .before .before .args in
-    let l = c .before .before .before .before .before .loop in
-    let h : length (a .t4) ≡ 3 = search needs in
-    let n : length (take (a .count) (a .t4)) ≡ a .count = length-take-le (a .count) (a .t4) (omega arith) in
-    let e = c .before .before .put-spaced .ensures in
-    spaced-next (take (a .count) (a .t4)) (a .out .now) (a .at) (l .out) (l .next) (l .i) (l .inv) (getD (a .t4) (l .i) 0) _ _ (omega arith) (sym (getD-take (a .count) (a .t4) (l .i) 0 (omega arith))) (e .0) (e .1) (c .before .before .put-spaced .kept .0)
-
-returns : tie.Need-returns Inv-loop μ-loop
-returns c =
-    let a = c .before .before .before .args in
-    let l = c .before .loop in
-    let h : length (a .t4) ≡ 3 = search needs in
-    let n : length (take (a .count) (a .t4)) ≡ a .count = length-take-le (a .count) (a .t4) (omega arith) in
-    spaced-ends (take (a .count) (a .t4)) (a .out .now) (a .at) (l .out) (l .next) (l .i) (l .inv) (omega arith)
+    let s = c .before .before .before .before .before .before .before in let a = s .args in let l = c .before .before .before .before .before .loop in let e = c .before .before .put-spaced .ensures in
+    spaced-next (l .inv) (getD (a .t4) (l .i) 0) (omega (arith, counted s)) (sym (getD-take (a .count) (a .t4) (l .i) 0 (omega arith))) (e .0) (e .1)
 
 pub put-all-spec : {M : Type 1} → statement M
 put-all-spec =
     tie.close
     (tie.spec Inv-loop μ-loop
     (λ c. spaced-begins (take (c .before .args .count) (c .before .args .t4)) (c .before .args .out .now) (c .before .args .at)) (λ c. omega arith)
-    (λ c. omega arith) (λ c κs. let l = c .before .before .loop in omega (arith, l .inv .room, l .inv .long)) (λ c. search needs) (λ c. search needs)
-    loop-again (λ c. c .before .loop .inv .long) returns)
+    (λ c. omega arith) (λ c κs. let l = c .before .before .loop in omega (arith, l .inv .room, l .inv .left .long)) (λ c. search needs) (λ c. search needs)
+    loop-again (λ c. c .before .loop .inv .left .long)
+    (λ c. spaced-ends (c .before .loop .inv) (omega (arith, counted (c .before .before .before)))))

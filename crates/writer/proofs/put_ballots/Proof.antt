@@ -31,11 +31,10 @@ put-ballot-requires c κs =
 loop-again : tie.Need-loop-again Inv-loop μ-loop
 loop-again c =
     let put = c .before .before .put-ballot in
-    put-again (c .before .before .before .before .before .before .loop .inv) none (put .last .0) (put .result) (c .before .before .before .before .before .loop-test .taken)
-    (omega (arith, full (c .before .before .before .before .before .before .before .before))) (put .kept .0) (put .ensures .0) (put .ensures .1)
+    put-again (c .before .before .before .before .before .before .loop .inv) none (c .before .before .before .before .before .loop-test .taken) (omega (arith, full (c .before .before .before .before .before .before .before .before))) (put .ensures .0) (put .ensures .1)
 
 pub put-ballots-spec : {M : Type 1} → statement M
 put-ballots-spec =
     tie.close
     (tie.spec Inv-loop μ-loop (λ c. put-begins _ _ _ _) (λ c. omega arith) (λ c. omega arith) put-ballot-requires (λ c. omega arith) (λ c. omega arith)
-    loop-again (λ c. c .before .loop .inv .long) (λ c. put-ends (c .before .loop .inv) (c .loop-test .left)))
+    loop-again (λ c. c .before .loop .inv .left .long) (λ c. put-ends (c .before .loop .inv) (c .loop-test .left)))

@@ -36,7 +36,7 @@ below c = aim-there (c .before .before .before .before .before .before .before .
 
 -- each byte of the chunk has room for an answer
 room : (c : tie.Else1 Inv-loop μ-loop) → c .before .before .before .before .loop .printed + 65 ≤ length (c .before .before .before .before .loop .out)
-room c = let l = c .before .before .before .before .loop in omega (arith, l .inv .rest .room, l .inv .rest .long, c .before .before .before .before .before .before .before .before .before .before .before .pre .2, c .before .before .before .part-end .ensures, c .if1 .left)
+room c = let l = c .before .before .before .before .loop in omega (arith, l .inv .rest .room, l .inv .rest .left .long, c .before .before .before .before .before .before .before .before .before .before .before .pre .2, c .before .before .before .part-end .ensures, c .if1 .left)
 
 -- the next line begins further on
 less : (c : tie.Else1 Inv-loop μ-loop) → length (c .before .before .before .before .before .before .before .before .before .before .before .args .chunk .now) - (c .before .before .before .part-end .result + 1) < length (c .before .before .before .before .before .before .before .before .before .before .before .args .chunk .now) - c .before .before .before .before .loop .at
@@ -65,7 +65,7 @@ same-length-2 : tie.Need-same-length-2 Inv-loop μ-loop
 same-length-2 c = c .before .before .before .before .loop .inv .slots ∙ sym (c .before .before .before .before .before .before .before .before .before .before .before .pre .1)
 
 same-length-3 : tie.Need-same-length-3 Inv-loop μ-loop
-same-length-3 c = c .before .before .before .before .loop .inv .rest .long
+same-length-3 c = c .before .before .before .before .loop .inv .rest .left .long
 
 returns : tie.Need-returns Inv-loop μ-loop
 returns c =
