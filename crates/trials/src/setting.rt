@@ -130,19 +130,26 @@ fn set_state(state: State, said: Said) -> Changed {
     done(State::start())
 }
 
+// Whether the line is a length and a fill, each within its limit.
+fn fills(said: Said, most: usize, limit: u64) -> bool {
+    let cells = said.cells;
+    if said.count != 2 {
+        return false;
+    }
+    let length = cells[0] as usize;
+    if length > most {
+        return false;
+    }
+    cells[1] <= limit
+}
+
 // `l length fill`
 fn set_log(state: State, said: Said, log: &mut [u32]) -> Changed {
     let cells = said.cells;
-    if said.count != 2 {
+    if !fills(said, State::LOG, 4294967295) {
         return refused(state);
     }
     let length = cells[0] as usize;
-    if length > State::LOG {
-        return refused(state);
-    }
-    if cells[1] > 4294967295 {
-        return refused(state);
-    }
     values::fill_words(log, length, values::word(cells[1]));
     let mut next = state;
     next.log = length;
@@ -164,16 +171,10 @@ fn set_words(state: State, said: Said, log: &mut [u32]) -> Changed {
 // `o length fill`
 fn set_output(state: State, said: Said, output: &mut [u8]) -> Changed {
     let cells = said.cells;
-    if said.count != 2 {
+    if !fills(said, State::BYTES, 255) {
         return refused(state);
     }
     let length = cells[0] as usize;
-    if length > State::BYTES {
-        return refused(state);
-    }
-    if cells[1] > 255 {
-        return refused(state);
-    }
     values::write_times(output, 0, cells, 2, length);
     let mut next = state;
     next.output = length;
