@@ -9,4 +9,4 @@ unfolding badReading
 returns c = rw (c .none .ensures)
 
 pub bad-reading-spec : {M : Type 1} → statement M
-bad-reading-spec = tie.close (tie.spec (search needs) returns)
+bad-reading-spec = tie.close (tie.spec (λ c. search needs) returns)

@@ -9,4 +9,4 @@ unfolding badRecords
 returns c = rw (c .none .ensures)
 
 pub bad-records-spec : {M : Type 1} → statement M
-bad-records-spec = tie.close (tie.spec (search needs) returns)
+bad-records-spec = tie.close (tie.spec (λ c. search needs) returns)

@@ -26,5 +26,6 @@ returns-3 c = c .bad-records2 .ensures ∙ ends-bad (c .before .before .before .
 
 pub ballots-at-spec : {M : Type 1} → statement M
 ballots-at-spec =
-    tie.close (tie.spec Inv-loop μ-loop (search needs) (λ c. begins-left (c .none .ensures)) (search needs) (search needs) (search needs)
-    (search needs) returns (search needs) (search needs) loop-again (search needs) (search needs) returns-2 returns-3)
+    tie.close (tie.spec Inv-loop μ-loop (λ c. search needs) (λ c. begins-left (c .none .ensures)) (λ c. search needs) (λ c. search needs)
+    (λ c. search needs) (λ c. search needs) returns (λ c. search needs) (λ c. search needs) loop-again (λ c. search needs) (λ c. search needs)
+    returns-2 returns-3)

@@ -16,7 +16,8 @@ returns-9 c = let a = c .before .before .before .before .before .before .before 
 
 pub head-ok-spec : {M : Type 1} → statement M
 head-ok-spec =
-    tie.close (tie.spec (λ c. head-not _ (λ h. omega arith)) (search needs) (λ c. head-not _ (λ h. omega arith)) (search needs)
-    (λ c. head-not _ (λ h. omega arith)) (search needs) (search needs) (search needs) (λ c. head-not _ (λ h. omega arith))
-    (λ c. head-not _ (λ h. omega arith)) (search needs) (search needs) (search needs) (λ c. head-not _ (λ h. omega arith)) (search needs)
-    (search needs) (λ c. head-not _ (λ h. omega arith)) (search needs) (search needs) (search needs) returns-8 returns-9)
+    tie.close (tie.spec (λ c. head-not _ (λ h. omega arith)) (λ c. search needs) (λ c. head-not _ (λ h. omega arith)) (λ c. search needs)
+    (λ c. head-not _ (λ h. omega arith)) (λ c. search needs) (λ c. search needs) (λ c. search needs) (λ c. head-not _ (λ h. omega arith))
+    (λ c. head-not _ (λ h. omega arith)) (λ c. search needs) (λ c. search needs) (λ c. search needs) (λ c. head-not _ (λ h. omega arith))
+    (λ c. search needs) (λ c. search needs) (λ c. head-not _ (λ h. omega arith)) (λ c. search needs) (λ c. search needs) (λ c. search needs) returns-8
+    returns-9)

@@ -26,5 +26,5 @@ loop-again c = (omega arith, log-turn _ _ _ _ _ _ (c .before .before .loop-test 
 
 pub log-ok-spec : {M : Type 1} → statement M
 log-ok-spec =
-    tie.close (tie.spec Inv-loop μ-loop (λ c. (search needs, simp sub-zero)) (search needs) returns (search needs) (search needs) loop-again
-    (λ c. sym (test-end 6 _ _ _ _ (c .loop-test .left)) ∙ c .before .loop .inv .1))
+    tie.close (tie.spec Inv-loop μ-loop (λ c. (search needs, simp sub-zero)) (λ c. search needs) returns (λ c. search needs) (λ c. search needs)
+    loop-again (λ c. sym (test-end 6 _ _ _ _ (c .loop-test .left)) ∙ c .before .loop .inv .1))

@@ -31,11 +31,11 @@ returns-2 c = c .bad-reading .ensures ∙ no-records _ _ _ _ (c .before .before 
 
 pub read-spec : {M : Type 1} → statement M
 read-spec =
-    tie.close (tie.spec (search needs) (λ c. omega (arith, head (c .before))) (search needs) (search needs) (search needs) (search needs)
-    (λ c κs. omega (arith, head (c .before .before))) (search needs) (search needs) (search needs)
-    (λ c. omega (arith, head (c .before .before .before))) (λ c. omega (arith, head (c .before .before .before))) (search needs)
+    tie.close (tie.spec (λ c. search needs) (λ c. omega (arith, head (c .before))) (λ c. search needs) (λ c. search needs) (λ c. search needs)
+    (λ c. search needs) (λ c κs. omega (arith, head (c .before .before))) (λ c. search needs) (λ c. search needs) (λ c. search needs)
+    (λ c. omega (arith, head (c .before .before .before))) (λ c. omega (arith, head (c .before .before .before))) (λ c. search needs)
     (λ c κs. omega (arith, head (c .before .before .before .before), settled (c .before)))
     (λ c κs. omega (arith, head (c .before .before .before .before .before .before)))
-    (λ c. omega (arith, head (c .before .before .before .before .before .before .before .before .before))) (search needs) (search needs)
-    (search needs) (search needs) returns returns-2
+    (λ c. omega (arith, head (c .before .before .before .before .before .before .before .before .before))) (λ c. search needs) (λ c. search needs)
+    (λ c. search needs) (λ c. search needs) returns returns-2
     (λ c. c .bad-reading2 .ensures ∙ no-head _ (sym (c .before .before .head-ok .ensures) ∙ c .before .if1 .left)))

@@ -7,6 +7,6 @@ use Rattle.reader.proofs.records_at.Tie as tie
 
 pub records-at-spec : {M : Type 1} → statement M
 records-at-spec =
-    tie.close (tie.spec (search needs) (search needs) (search needs) (search needs)
+    tie.close (tie.spec (λ c. search needs) (λ c. search needs) (λ c. search needs) (λ c. search needs)
     (λ c. c .ballots-at .ensures ∙ records-yes _ _ _ (sym (c .before .before .log-ok .ensures) ∙ c .before .if1 .taken))
     (λ c. c .bad-records .ensures ∙ records-no _ _ _ (sym (c .before .before .log-ok .ensures) ∙ c .before .if1 .left)))

@@ -20,5 +20,6 @@ returns c = filling-ends (c .before .loop .inv) (c .loop-test .left) (c .before 
 
 pub weights-at-spec : {M : Type 1} → statement M
 weights-at-spec =
-    tie.close (tie.spec Inv-loop μ-loop (λ c. filling-begins) (search needs) (search needs) (search needs) (search needs) (search needs) (search needs)
-    (λ c. filling-again (c .before .before .loop .inv) (c .before .loop-test .taken) (c .be16-at .ensures)) returns)
+    tie.close (tie.spec Inv-loop μ-loop (λ c. filling-begins) (λ c. search needs) (λ c. search needs) (λ c. search needs) (λ c. search needs)
+    (λ c. search needs) (λ c. search needs) (λ c. filling-again (c .before .before .loop .inv) (c .before .loop-test .taken) (c .be16-at .ensures))
+    returns)

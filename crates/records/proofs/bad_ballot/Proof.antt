@@ -9,4 +9,4 @@ unfolding badBallot
 returns c = rw (c .none .ensures)
 
 pub bad-ballot-spec : {M : Type 1} → statement M
-bad-ballot-spec = tie.close (tie.spec (search needs) returns)
+bad-ballot-spec = tie.close (tie.spec (λ c. search needs) returns)

@@ -48,8 +48,8 @@ returns-6 c = rw (c .none .ensures) (step-none _ _ _ _ _ (sym (c .before .before
 
 pub ballot-at-spec : {M : Type 1} → statement M
 ballot-at-spec =
-    tie.close (tie.spec (search needs) (λ c. omega (arith, room c)) (λ c. omega (arith, room (c .before))) (search needs) (search needs)
-    (search needs) returns (search needs) returns-2 (search needs) (search needs) returns-3
+    tie.close (tie.spec (λ c. search needs) (λ c. omega (arith, room c)) (λ c. omega (arith, room (c .before))) (λ c. search needs)
+    (λ c. search needs) (λ c. search needs) returns (λ c. search needs) returns-2 (λ c. search needs) (λ c. search needs) returns-3
     (λ c. omega (arith, room (c .before .before .before .before .before))) (λ c κs. room (c .before .before .before .before .before))
-    (λ c. omega (arith, room (c .before .before .before .before .before .before .before))) (λ c κs. omega (arith, values-end c)) (search needs)
-    (search needs) (λ c. omega (arith, values-end (c .before))) (search needs) (search needs) returns-4 returns-5 returns-6)
+    (λ c. omega (arith, room (c .before .before .before .before .before .before .before))) (λ c κs. omega (arith, values-end c)) (λ c. search needs)
+    (λ c. search needs) (λ c. omega (arith, values-end (c .before))) (λ c. search needs) (λ c. search needs) returns-4 returns-5 returns-6)

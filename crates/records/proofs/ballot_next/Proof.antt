@@ -11,9 +11,9 @@ returns c = let a = c .before .before .before .before .before .before .before .b
 
 pub ballot-next-spec : {M : Type 1} → statement M
 ballot-next-spec =
-    tie.close (tie.spec (λ c. next-no _ (c .before .before .args .at) (c .before .before .args .s .now) (λ m. omega arith)) (search needs)
-    (λ c. next-no _ (c .before .before .before .args .at) (c .before .before .before .args .s .now) (λ m. omega arith)) (search needs)
+    tie.close (tie.spec (λ c. next-no _ (c .before .before .args .at) (c .before .before .args .s .now) (λ m. omega arith)) (λ c. search needs)
+    (λ c. next-no _ (c .before .before .before .args .at) (c .before .before .before .args .s .now) (λ m. omega arith)) (λ c. search needs)
     (λ c. next-no _ (c .before .before .before .before .before .args .at) (c .before .before .before .before .before .args .s .now) (λ m. omega arith))
-    (search needs) (search needs)
+    (λ c. search needs) (λ c. search needs)
     (λ c. next-no _ (c .before .before .before .before .before .before .before .args .at) (c .before .before .before .before .before .before .before .args .s .now) (λ m. omega arith))
-    (search needs) (search needs) (search needs) (search needs) returns)
+    (λ c. search needs) (λ c. search needs) (λ c. search needs) (λ c. search needs) returns)

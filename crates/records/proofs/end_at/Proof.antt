@@ -11,5 +11,5 @@ add-t5 c = let a = c .before .before .before .args in omega (arith, end-room (a 
 
 pub end-at-spec : {M : Type 1} → statement M
 end-at-spec =
-    tie.close (tie.spec (search needs) add-t5 (λ c. end-good _ _ (sym (c .before .end-ok .ensures) ∙ c .if1 .taken))
+    tie.close (tie.spec (λ c. search needs) add-t5 (λ c. end-good _ _ (sym (c .before .end-ok .ensures) ∙ c .if1 .taken))
     (λ c. end-bad _ _ (sym (c .before .end-ok .ensures) ∙ c .if1 .left)))

@@ -10,7 +10,7 @@ returns c = let a = c .before .before .before .before .before .args in end-yes (
 
 pub end-ok-spec : {M : Type 1} → statement M
 end-ok-spec =
-    tie.close (tie.spec (λ c. end-no (c .before .args .at) (c .before .args .s .now) (λ m. omega arith)) (search needs)
-    (λ c. end-no (c .before .before .args .at) (c .before .before .args .s .now) (λ m. omega arith)) (search needs)
-    (λ c. end-no (c .before .before .before .before .args .at) (c .before .before .before .before .args .s .now) (λ m. omega arith)) (search needs)
-    (search needs) returns)
+    tie.close (tie.spec (λ c. end-no (c .before .args .at) (c .before .args .s .now) (λ m. omega arith)) (λ c. search needs)
+    (λ c. end-no (c .before .before .args .at) (c .before .before .args .s .now) (λ m. omega arith)) (λ c. search needs)
+    (λ c. end-no (c .before .before .before .before .args .at) (c .before .before .before .before .args .s .now) (λ m. omega arith))
+    (λ c. search needs) (λ c. search needs) returns)

@@ -8,6 +8,6 @@ use Rattle.records.proofs.entry_at.Tie as tie
 
 pub entry-at-spec : {M : Type 1} → statement M
 entry-at-spec =
-    tie.close (tie.spec (search needs) (λ c. c .bad-log .ensures ∙ entry-bad _ _ (omega arith)) (search needs) (search needs)
-    (λ c. c .bad-log2 .ensures ∙ entry-bad _ _ (omega arith)) (search needs) (search needs)
+    tie.close (tie.spec (λ c. search needs) (λ c. c .bad-log .ensures ∙ entry-bad _ _ (omega arith)) (λ c. search needs) (λ c. search needs)
+    (λ c. c .bad-log2 .ensures ∙ entry-bad _ _ (omega arith)) (λ c. search needs) (λ c. search needs)
     (λ c. rw (c .record-at .ensures) (entry-good _ _ (omega arith))))

@@ -18,5 +18,5 @@ returns c = log-good _ _ _ _ (sym (c .before .before .record-here .ensures) ∙ 
 
 pub log-at-spec : {M : Type 1} → statement M
 log-at-spec =
-    tie.close (tie.spec (search needs) (λ c κs. room c) (λ c. omega (arith, room (c .before))) (search needs) returns
+    tie.close (tie.spec (λ c. search needs) (λ c κs. room c) (λ c. omega (arith, room (c .before))) (λ c. search needs) returns
     (λ c. c .bad-log .ensures ∙ log-bad _ _ _ (sym (c .before .before .record-here .ensures) ∙ c .before .if1 .left)))

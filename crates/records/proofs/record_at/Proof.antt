@@ -11,4 +11,4 @@ unfolding recordAt
 returns c = c .be32-at .ensures ∙ simp drop-drop
 
 pub record-at-spec : {M : Type 1} → statement M
-record-at-spec = tie.close (tie.spec (search needs) (search needs) returns)
+record-at-spec = tie.close (tie.spec (λ c. search needs) (λ c. search needs) returns)

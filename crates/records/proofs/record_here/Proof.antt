@@ -12,9 +12,9 @@ returns c = let a = c .before .before .before .before .before .before .before .b
 
 pub record-here-spec : {M : Type 1} → statement M
 record-here-spec =
-    tie.close (tie.spec (λ c. log-no _ (c .before .before .args .at) (c .before .before .args .s .now) (λ m. omega arith)) (search needs)
-    (λ c. log-no _ (c .before .before .before .args .at) (c .before .before .before .args .s .now) (λ m. omega arith)) (search needs)
+    tie.close (tie.spec (λ c. log-no _ (c .before .before .args .at) (c .before .before .args .s .now) (λ m. omega arith)) (λ c. search needs)
+    (λ c. log-no _ (c .before .before .before .args .at) (c .before .before .before .args .s .now) (λ m. omega arith)) (λ c. search needs)
     (λ c. log-no _ (c .before .before .before .before .before .args .at) (c .before .before .before .before .before .args .s .now) (λ m. omega arith))
-    (search needs) (search needs)
+    (λ c. search needs) (λ c. search needs)
     (λ c. log-no _ (c .before .before .before .before .before .before .before .args .at) (c .before .before .before .before .before .before .before .args .s .now) (λ m. omega arith))
-    (search needs) (search needs) (search needs) returns)
+    (λ c. search needs) (λ c. search needs) (λ c. search needs) returns)

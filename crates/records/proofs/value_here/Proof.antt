@@ -17,4 +17,4 @@ unfolding valueHere both
 returns-2 c = c .is-entry .ensures ∙ simp (length-drop, c .before .be32-at .ensures, le-leb _ _ (c .before .before .if1 .left))
 
 pub value-here-spec : {M : Type 1} → statement M
-value-here-spec = tie.close (tie.spec (search needs) returns (search needs) (search needs) returns-2)
+value-here-spec = tie.close (tie.spec (λ c. search needs) returns (λ c. search needs) (λ c. search needs) returns-2)

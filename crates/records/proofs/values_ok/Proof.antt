@@ -35,5 +35,5 @@ loop-again c = let l = c .before .before .before .loop in
 
 pub values-ok-spec : {M : Type 1} → statement M
 values-ok-spec =
-    tie.close (tie.spec Inv-loop μ-loop (λ c. (search needs, (search needs, simp sub-zero))) (search needs) (λ c. omega (arith, room c)) returns
+    tie.close (tie.spec Inv-loop μ-loop (λ c. (search needs, (search needs, simp sub-zero))) (λ c. search needs) (λ c. omega (arith, room c)) returns
     (λ c. omega arith) (λ c. omega arith) loop-again (λ c. sym (test-end 4 _ _ _ _ (c .loop-test .left)) ∙ c .before .loop .inv .1 .1))

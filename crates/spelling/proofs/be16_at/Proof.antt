@@ -13,5 +13,5 @@ returns c = simp (getD-drop, add-zero) (omega arith)
 
 pub be16-at-spec : {M : Type 1} → statement M
 be16-at-spec =
-    tie.close (tie.spec (search needs) (search needs) (search needs) (search needs) (search needs) (search needs) (search needs) (λ c. omega arith)
-    returns)
+    tie.close (tie.spec (λ c. search needs) (λ c. search needs) (λ c. search needs) (λ c. search needs) (λ c. search needs) (λ c. search needs)
+    (λ c. search needs) (λ c. omega arith) returns)

@@ -13,4 +13,5 @@ returns c = simp add-one
 
 pub put16-spec : {M : Type 1} → statement M
 put16-spec =
-    tie.close (tie.spec (search needs) (search needs) (search needs) (search needs) (λ c. simp length-set (omega arith)) (search needs) returns)
+    tie.close (tie.spec (λ c. search needs) (λ c. search needs) (λ c. search needs) (λ c. search needs) (λ c. simp length-set (omega arith))
+    (λ c. search needs) returns)

@@ -13,5 +13,6 @@ returns c = simp (add-one, add-two, add-three)
 
 pub put32-spec : {M : Type 1} → statement M
 put32-spec =
-    tie.close (tie.spec (search needs) (search needs) (search needs) (search needs) (λ c. simp length-set (omega arith)) (search needs) (search needs)
-    (λ c. simp length-set (omega arith)) (search needs) (search needs) (λ c. simp length-set (omega arith)) (search needs) returns)
+    tie.close (tie.spec (λ c. search needs) (λ c. search needs) (λ c. search needs) (λ c. search needs) (λ c. simp length-set (omega arith))
+    (λ c. search needs) (λ c. search needs) (λ c. simp length-set (omega arith)) (λ c. search needs) (λ c. search needs)
+    (λ c. simp length-set (omega arith)) (λ c. search needs) returns)
