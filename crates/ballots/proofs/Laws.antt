@@ -7,7 +7,7 @@
 --     none-empty, empty-none    no ballot is the empty tail
 -- Assumes nothing.
 use mathlib.Core.Path.{_≡_, refl, sym, ap, ap₂, _∙_}
-use mathlib.Core.Bool.{true, false}
+use mathlib.Core.Bool.{Bool, true, false}
 use mathlib.Core.List.{List, [], _∷_, _++_, map, append-assoc}
 use Prim.Native.Nat.{ℕ, suc, _+_, _-_, _<_, _≤_}
 use native.Mathlib.Numerals.{add-one}
@@ -19,7 +19,7 @@ use borrow.Author.Tests.{eqb-true, leb-true, lt-ltb, eq-eqb, le-leb, lt-leb}
 use Rattle.protocol.specs.Tests.{allB, both, pick}
 use Rattle.protocol.specs.Entry.{isEntry}
 use Rattle.protocol.specs.Limits.{isEmpty, tailFine}
-use Rattle.protocol.proofs.Tests.{both-0, both-1, both-true, zeros, all-zeros, getD-map}
+use Rattle.protocol.proofs.Tests.{both-0, both-1, both-true, both-false-1, zeros, all-zeros, getD-map}
 use Rattle.ballots.specs.Ballots.{ballotShape, ballotFine, tailOf, ballotOf, pushed, isNoBallot, offEnd}
 use Rattle.ballots.specs.declared.Ballot.{Ballot}
 
@@ -133,31 +133,30 @@ module _ (n settled : ℕ) (b : Ballot) (h : length (b .cells) ≡ 32) where
   too-long l = simp (eq-eqb (length (b .cells)) 32 h, lt-leb (b .len) 32 l)
 
   module _ (l : b .len ≤ 32) where
+    abbrev long : ℕ
+    long = length (tailOf b)
+
+    is-len : long ≡ b .len
+    is-len = length-take-le (b .len) (b .cells) (omega arith)
+
+    pub too-far : 1024 < settled + b .len → false ≡ ballotFine n settled b
+    unfolding ballotFine tailFine both
+    too-far s = sym (both-false-1 (ballotShape b) (tailFine n settled (tailOf b)) far)
+      where
+        far : tailFine n settled (tailOf b) ≡ false
+        far = simp (le-leb long 32 (omega (arith, is-len)), lt-leb (settled + long) 1024 (omega (arith, is-len)))
+
     pub not-zero : allB (eqb 0) (drop (b .len) (b .cells)) ≡ false → false ≡ ballotFine n settled b
     unfolding ballotFine ballotShape both
     not-zero z = simp (eq-eqb (length (b .cells)) 32 h, le-leb (b .len) 32 l, z)
 
-    module _ (z : allB (eqb 0) (drop (b .len) (b .cells)) ≡ true) where
-      tail-tested : tailFine n settled (tailOf b) ≡ ballotFine n settled b
-      unfolding ballotFine ballotShape both
-      tail-tested = simp (eq-eqb (length (b .cells)) 32 h, le-leb (b .len) 32 l, z)
+    module _ (s : settled + b .len ≤ 1024) where
+      pub all-tested : allB (eqb 0) (drop (b .len) (b .cells)) ≡ true → allB (isEntry n) (tailOf b) ≡ ballotFine n settled b
+      unfolding ballotFine ballotShape tailFine both
+      all-tested z = simp (eq-eqb (length (b .cells)) 32 h, le-leb (b .len) 32 l, z, le-leb long 32 (omega (arith, is-len)), le-leb (settled + long) 1024 (omega (arith, is-len)))
 
-      abbrev long : ℕ
-      long = length (tailOf b)
-
-      is-len : long ≡ b .len
-      is-len = length-take-le (b .len) (b .cells) (omega arith)
-
-      pub too-far : 1024 < settled + b .len → false ≡ ballotFine n settled b
-      unfolding tailFine both
-      too-far s = far ∙ tail-tested
-        where
-          far : false ≡ tailFine n settled (tailOf b)
-          far = simp (le-leb long 32 (omega (arith, is-len)), lt-leb (settled + long) 1024 (omega (arith, is-len)))
-
-      pub all-tested : settled + b .len ≤ 1024 → allB (isEntry n) (tailOf b) ≡ ballotFine n settled b
-      unfolding tailFine both
-      all-tested s = rest ∙ tail-tested
-        where
-          rest : allB (isEntry n) (tailOf b) ≡ tailFine n settled (tailOf b)
-          rest = simp (le-leb long 32 (omega (arith, is-len)), le-leb (settled + long) 1024 (omega (arith, is-len)))
+      -- one with no entries
+      pub none-tested : b .len ≡ 0 → (t : Bool) → t ≡ allB (eqb 0) (b .cells) → t ≡ ballotFine n settled b
+      unfolding allB
+      none-tested e true q = sym (ap (λ (k : ℕ). allB (isEntry n) (take k (b .cells))) e) ∙ all-tested (ap (λ (k : ℕ). allB (eqb 0) (drop k (b .cells))) e ∙ sym q)
+      none-tested e false q = not-zero (ap (λ (k : ℕ). allB (eqb 0) (drop k (b .cells))) e ∙ sym q)

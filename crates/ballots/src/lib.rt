@@ -12,6 +12,17 @@ pub struct Ballot {
     pub cells: [u32; 32],
 }
 
+// Whether all the cells are zero. Most ballots are none, and a walk of fixed length over the array needs no copy of it.
+fn zero_cells(cells: [u32; 32]) -> bool
+    ensures { λ r. ⌜ r ≡ allB (eqb 0) cells ⌝ }
+{
+    let mut good = true;
+    for i in 0..32 {
+        good = good & (0 == cells[i]);
+    }
+    good
+}
+
 impl Ballot {
     pub const CELLS: usize = 32;
 
@@ -27,10 +38,13 @@ impl Ballot {
         if len > Ballot::CELLS {
             return false;
         }
-        if !entries::all_zero(&cells[len..]) {
+        if settled > Ballot::PATH - len {
             return false;
         }
-        if settled > Ballot::PATH - len {
+        if len == 0 {
+            return zero_cells(cells);
+        }
+        if !entries::all_zero(&cells[len..]) {
             return false;
         }
         entries::all_entries(&cells[..len], n)

@@ -7,7 +7,7 @@
 --     elect-keeps        a refused one leaves both
 -- Assumes nothing.
 use mathlib.Core.Path.{_≡_, refl, sym, ap, ap₂, subst₂, _∙_}
-use mathlib.Core.Bool.{Bool, true, false, true≢false}
+use mathlib.Core.Bool.{Bool, true, false}
 use mathlib.Core.List.{List, [], _∷_, _++_, map, append-assoc}
 use mathlib.Core.Option.{Option, none, some}
 use Prim.Native.Nat.{ℕ, _+_, _-_, _<_, _≤_}
@@ -29,7 +29,6 @@ use Rattle.frame.specs.State.{heldBy, holding, wordsWith}
 use Rattle.frame.specs.Soundness.{soundB, Sound}
 use Rattle.frame.specs.Electing.{ruleOf, electedOf, electOf, electWords, winnerOf, stepOf, stepWords}
 use Rattle.frame.specs.declared.Record.{Record}
-use Rattle.frame.specs.declared.electing.Stepped.{Stepped}
 use Rattle.frame.specs.declared.electing.Elected.{Elected}
 use Rattle.frame.proofs.Sound.{sound}
 use Rattle.frame.proofs.State.{log-length, held, held-by, held-fine, words-kept, words-length, sound-of}
@@ -82,36 +81,36 @@ module _ (r : Record) (words : List ℕ) (S : Sound r words) (e : ℕ) (w : winn
   step-settled = next-length
 
   pub step-won : (bs : List Ballot) → bs ≡ map ballotOf (map (lose e) (map tailOf (r .ballots)))
-      → (_≡_ {A = Stepped} (record { won = true; «record» = record { n = r .n; own = r .own; weights = r .weights; settled = r .settled + 1; ballots = bs } }) (stepOf r words)) × (set words (r .settled) e ≡ stepWords r words)
+      → (_≡_ {A = Record} (record { n = r .n; own = r .own; weights = r .weights; settled = r .settled + 1; ballots = bs }) (stepOf r words)) × (set words (r .settled) e ≡ stepWords r words)
   unfolding stepOf stepWords
   step-won bs q = (
-    ap (λ (x : Record). record { won = true; «record» = x }) (step-held bs q) ∙ ap (λ (x : Option ℕ). next x (record { won = false; «record» = r }) (λ f. record { won = true; «record» = holding r (stepped r words f) })) (sym w),
+    step-held bs q ∙ ap (λ (x : Option ℕ). next x r (λ f. holding r (stepped r words f))) (sym w),
     step-words ∙ ap (λ (x : Option ℕ). next x words (λ f. wordsWith (stepped r words f .log) words)) (sym w),
   )
 
-pub step-nobody : (r : Record) (words : List ℕ) → winnerOf r words ≡ none → (_≡_ {A = Stepped} (record { won = false; «record» = r }) (stepOf r words)) × (words ≡ stepWords r words)
+pub step-nobody : (r : Record) (words : List ℕ) → winnerOf r words ≡ none → (r ≡ stepOf r words) × (words ≡ stepWords r words)
 unfolding stepOf stepWords
 step-nobody r words w = (
-  ap (λ (x : Option ℕ). next x (record { won = false; «record» = r }) (λ f. record { won = true; «record» = holding r (stepped r words f) })) (sym w),
+  ap (λ (x : Option ℕ). next x r (λ f. holding r (stepped r words f))) (sym w),
   ap (λ (x : Option ℕ). next x words (λ f. wordsWith (stepped r words f .log) words)) (sym w),
 )
 
--- by cases of the winner: what a step that won, and one that did not, answers
-module _ (r : Record) (o : Office) (words last : List ℕ) (out : Stepped) where
+-- by cases of the winner: what a step answers
+module _ (r : Record) (words : List ℕ) (S : Sound r words) (out : Record) (last : List ℕ) where
   abbrev Out : Option ℕ → Type 0
-  Out w = out ≡ next w (record { won = false; «record» = r }) (λ e. record { won = true; «record» = holding r (settle e o) })
+  Out w = out ≡ next w r (λ e. holding r (stepped r words e))
 
   abbrev Last : Option ℕ → Type 0
-  Last w = last ≡ next w words (λ e. wordsWith (settle e o .log) words)
+  Last w = last ≡ next w words (λ e. wordsWith (stepped r words e .log) words)
 
-  no-win : (w : Option ℕ) → Out w → Last w → out .won ≡ false → (w ≡ none) × (out .«record» ≡ r) × (last ≡ words)
-  no-win (some e) p q h = absurd (true≢false (sym (ap (λ (s : Stepped). s .won) p) ∙ h))
-  no-win none p q h = (refl, ap (λ (s : Stepped). s .«record») p, q)
+  -- a step that leaves the settled length had no winner
+  no-win : (w : Option ℕ) → winnerOf r words ≡ w → Out w → Last w → out .settled ≡ r .settled → (w ≡ none) × (out ≡ r) × (last ≡ words)
+  no-win (some e) v p q h = let a = step-settled r words S e v in absurd (omega (arith, a, h, ap (λ (x : Record). x .settled) p))
+  no-win none v p q h = (refl, p, q)
 
-  a-win : (w : Option ℕ) → Out w → Last w → out .won ≡ true
-      → (e : ℕ) × (w ≡ some e) × (out .«record» ≡ holding r (settle e o)) × (last ≡ wordsWith (settle e o .log) words)
-  a-win (some e) p q h = (e, refl, ap (λ (s : Stepped). s .«record») p, q)
-  a-win none p q h = absurd (true≢false (sym h ∙ ap (λ (s : Stepped). s .won) p))
+  a-win : (w : Option ℕ) → Out w → Last w → (out .settled ≡ r .settled → ⊥) → (e : ℕ) × (w ≡ some e) × (out ≡ holding r (stepped r words e)) × (last ≡ wordsWith (stepped r words e .log) words)
+  a-win (some e) p q h = (e, refl, p, q)
+  a-win none p q h = absurd (h (ap (λ (x : Record). x .settled) p))
 
 -- ── a run of steps ──
 -- what it keeps, from the record r₀ with the words words₀
@@ -162,42 +161,42 @@ module _ (r₀ : Record) (words₀ : List ℕ) (r : Record) (words : List ℕ) (
       fits : (e : ℕ) → winnerOf r words ≡ some e → length (stepped r words e .log) ≤ length words
       fits e w = let S = R .sound in let h = winning r words S e w .1 in omega (arith, step-settled r words S e w)
 
-  module _ (out : Stepped) (p : out ≡ stepOf r words) (last : List ℕ) (q : last ≡ stepWords r words) where
-    pub run-more : out .won ≡ true → Running r₀ words₀ (out .«record») last × (out .«record» .settled ≡ r .settled + 1) × (r .settled < 1024)
+  module _ (out : Record) (p : out ≡ stepOf r words) (last : List ℕ) (q : last ≡ stepWords r words) where
+    pub run-more : (out .settled ≡ r .settled → ⊥) → Running r₀ words₀ out last × (out .settled ≡ r .settled + 1) × (r .settled < 1024)
     unfolding stepOf stepWords
     run-more h =
-        let m = a-win r (heldBy r words) words last out (winnerOf r words) p q h in (
+        let m = a-win r words (R .sound) out last (winnerOf r words) p q h in (
           subst₂ (Running r₀ words₀) (sym (m .2)) (sym (m .3)) (won (m .0) (m .1)),
           ap (λ (x : Record). x .settled) (m .2) ∙ step-settled r words (R .sound) (m .0) (m .1),
           winning r words (R .sound) (m .0) (m .1) .1,
         )
 
-    pub run-last : out .won ≡ false → (out .«record» ≡ r) × (last ≡ words) × (electedOf r₀ words₀ ≡ heldBy r words)
+    pub run-last : out .settled ≡ r .settled → (out ≡ r) × (last ≡ words) × (electedOf r₀ words₀ ≡ heldBy r words)
     unfolding stepOf stepWords
     run-last h =
-        let m = no-win r (heldBy r words) words last out (winnerOf r words) p q h in
+        let m = no-win r words (R .sound) out last (winnerOf r words) refl p q h in
         (m .1, m .2, R .same ∙ elect-none (ruleOf r₀) (heldBy r words) (ap (λ (f : Rule). f (heldBy r words .log) (votes (heldBy r words))) (sym rule-same) ∙ m .0))
 
-    pub run-end : soundB r₀ words₀ ≡ true → out .won ≡ false
-        → (_≡_ {A = Elected} (record { number = 0; count = out .«record» .settled - r₀ .settled; «record» = out .«record» }) (electOf r₀ words₀)) × (last ≡ electWords r₀ words₀)
+    pub run-end : soundB r₀ words₀ ≡ true → out .settled ≡ r .settled
+        → (_≡_ {A = Elected} (record { «record» = out; number = 0; count = out .settled - r₀ .settled }) (electOf r₀ words₀)) × (last ≡ electWords r₀ words₀)
     unfolding electOf electWords pick
     run-end e h =
-        (rw e (λ i. record { number = 0; count = count i; «record» = made i }), rw e words-end)
+        (rw e (λ i. record { «record» = made i; number = 0; count = count i }), rw e words-end)
       where
         end : electedOf r₀ words₀ ≡ heldBy r words
         end = run-last h .2
 
-        made : out .«record» ≡ holding r₀ (electedOf r₀ words₀)
+        made : out ≡ holding r₀ (electedOf r₀ words₀)
         made = run-last h .0 ∙ R .made ∙ ap (holding r₀) (sym end)
 
-        count : out .«record» .settled - r₀ .settled ≡ electCount (ruleOf r₀) (heldBy r₀ words₀)
+        count : out .settled - r₀ .settled ≡ electCount (ruleOf r₀) (heldBy r₀ words₀)
         count = ap₂ (λ (a b : ℕ). a - b) (ap (λ (x : Record). x .settled) made) (sym (log-length r₀ words₀ (sound r₀ words₀ e)))
 
         words-end : last ≡ wordsWith (electedOf r₀ words₀ .log) words₀
         words-end = run-last h .1 ∙ R .kept ∙ ap (λ (x : Office). wordsWith (x .log) words₀) (sym end)
 
 -- ── what elect leaves ──
-pub elect-unsound : (r : Record) (words : List ℕ) → soundB r words ≡ false → (_≡_ {A = Elected} (record { number = 1; count = 0; «record» = r }) (electOf r words)) × (words ≡ electWords r words)
+pub elect-unsound : (r : Record) (words : List ℕ) → soundB r words ≡ false → (_≡_ {A = Elected} (record { «record» = r; number = 1; count = 0 }) (electOf r words)) × (words ≡ electWords r words)
 unfolding electOf electWords pick
 elect-unsound r words e = (simp e, simp e)
 

@@ -8,4 +8,5 @@ pub mod Promise
 pub mod Send
 pub mod Sound
 pub mod State
+pub mod Steps
 pub mod Take

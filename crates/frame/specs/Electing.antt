@@ -1,6 +1,5 @@
 -- "Elect repeats this step until no entry wins, and answers how many entries it settled, 0 included." Assumes nothing.
 use Prim.Native.Nat.{ℕ}
-use mathlib.Core.Bool.{true, false}
 use mathlib.Core.List.{List}
 use mathlib.Core.Option.{Option}
 use Rattle.protocol.specs.Tests.{pick}
@@ -10,7 +9,6 @@ use Rattle.protocol.specs.Elect.{settle, next, withElect, electCount}
 use Rattle.frame.specs.State.{heldBy, holding, wordsWith}
 use Rattle.frame.specs.Soundness.{soundB}
 use Rattle.frame.specs.declared.Record.{Record}
-use Rattle.frame.specs.declared.electing.Stepped.{Stepped}
 use Rattle.frame.specs.declared.electing.Elected.{Elected}
 
 -- the rule of the record's weights
@@ -25,19 +23,20 @@ electedOf r words = withElect (ruleOf r) (heldBy r words)
 unfoldable pub electOf : Record → List ℕ → Elected
 electOf r words =
     pick (soundB r words)
-    (record { number = 0; count = electCount (ruleOf r) (heldBy r words); «record» = holding r (electedOf r words) })
-    (record { number = 1; count = 0; «record» = r })
+    (record { «record» = holding r (electedOf r words); number = 0; count = electCount (ruleOf r) (heldBy r words) })
+    (record { «record» = r; number = 1; count = 0 })
 
 -- the log's words after elect
 unfoldable pub electWords : Record → List ℕ → List ℕ
 electWords r words = pick (soundB r words) (wordsWith (electedOf r words .log) words) words
 
--- one step on a sound record: "the winner is written to the log, the length rises by one"
+-- the entry that wins, if any
 abbrev pub winnerOf : Record → List ℕ → Option ℕ
 winnerOf r words = ruleOf r (heldBy r words .log) (votes (heldBy r words))
 
-unfoldable pub stepOf : Record → List ℕ → Stepped
-stepOf r words = next (winnerOf r words) (record { won = false; «record» = r }) (λ e. record { won = true; «record» = holding r (settle e (heldBy r words)) })
+-- one step on a sound record: "the winner is written to the log, the length rises by one"
+unfoldable pub stepOf : Record → List ℕ → Record
+stepOf r words = next (winnerOf r words) r (λ e. holding r (settle e (heldBy r words)))
 
 unfoldable pub stepWords : Record → List ℕ → List ℕ
 stepWords r words = next (winnerOf r words) words (λ e. wordsWith (settle e (heldBy r words) .log) words)

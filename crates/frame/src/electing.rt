@@ -3,45 +3,50 @@ ghost use mathlib.Core.Path.{_≡_};
 ghost use Rattle.frame.specs.Soundness.{Sound};
 ghost use Rattle.frame.specs.Electing.{stepOf, stepWords, electOf, electWords};
 use crate::Record;
+use ballots::Ballot;
 use tallies::Winner;
-
-struct Stepped {
-    won: bool,
-    record: Record,
-}
 
 #[repr(C)]
 pub struct Elected {
+    pub record: Record,
     pub number: u32,
     pub count: usize,
-    pub record: Record,
 }
 
 impl Record {
-    // One election step on a sound record: the winner is written to the log, and the next record handed back.
-    fn step(self, log: &mut [u32]) -> Stepped
+    // One election step on a sound record: the winner is written to the log, and the next record handed back; the record itself where no
+    // entry wins. The ballots change where they stand and are walked to n, not 8: a walk of known length is unrolled, and copies them.
+    fn step(self, log: &mut [u32]) -> Record
         requires { ⌜ Sound self (now log) ⌝ }
         ensures { λ r. ⌜ (r ≡ stepOf self (now (log .entry))) × (now (log .exit) ≡ stepWords self (now (log .entry))) ⌝ }
     {
-        let settled = self.settled;
-        let ballots = self.ballots;
-        let weights = self.weights;
-        let w = tallies::find_winner(ballots, weights);
+        let mut next = self;
+        let n = next.n;
+        let settled = next.settled;
+        let weights = next.weights;
+        let none = tallies::NO_VOTE;
+        let mut votes = [none; 8];
+        for i in 0..n {
+            let b = next.ballots[i];
+            votes[i] = tallies::vote(b);
+        }
+        let w = tallies::find_winner(votes, weights);
         match w {
-            Winner::Nobody => Stepped {
-                won: false,
-                record: self,
-            },
+            Winner::Nobody => next,
             Winner::Entry(e) => {
                 log[settled] = e;
-                let left = tallies::settle(ballots, e);
-                let mut next = self;
                 next.settled = settled + 1;
-                next.ballots = left;
-                Stepped {
-                    won: true,
-                    record: next,
+                for i in 0..n {
+                    let b = next.ballots[i];
+                    if b.len > 0 {
+                        if tallies::vote(b) == e {
+                            next.ballots[i] = tallies::without_first(b);
+                        } else {
+                            next.ballots[i] = Ballot::none();
+                        }
+                    }
                 }
+                next
             }
         }
     }
@@ -53,24 +58,24 @@ impl Record {
         let start = self.settled;
         if !self.sound(&log[..]) {
             return Elected {
+                record: self,
                 number: 1,
                 count: 0,
-                record: self,
             };
         }
         let mut now = self;
         loop {
-            let stepped = now.step(log);
-            now = stepped.record;
-            if !stepped.won {
+            let before = now.settled;
+            now = now.step(log);
+            if now.settled == before {
                 break;
             }
         }
         let count = now.settled - start;
         Elected {
+            record: now,
             number: 0,
             count: count,
-            record: now,
         }
     }
 }

@@ -7,8 +7,8 @@ use ballots::Ballot;
 
 #[repr(C)]
 pub struct Founded {
-    pub number: u32,
     pub record: Record,
+    pub number: u32,
 }
 
 impl Record {

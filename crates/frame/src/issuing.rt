@@ -6,8 +6,8 @@ use crate::Record;
 
 #[repr(C)]
 pub struct Issued {
-    pub number: u32,
     pub record: Record,
+    pub number: u32,
 }
 
 // The number of an issue on a sound record, by the lengths of its log and of its own tail.

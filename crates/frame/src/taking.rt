@@ -9,8 +9,8 @@ use reader::Reading;
 
 #[repr(C)]
 pub struct Taken {
-    pub number: u32,
     pub record: Record,
+    pub number: u32,
 }
 
 impl Record {

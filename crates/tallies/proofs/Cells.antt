@@ -1,114 +1,123 @@
--- The cells of one ballot: its first entry, and what is left without it.
---     no-cell, first-cell    the tail of a ballot with no entries, and of one with some
---     left-full, left-some   how many entries are left after the first
---     lost-one               what a ballot that supports an entry keeps when it is settled, and what any other does
+-- The cells of one ballot: the vote that it casts, and what is left without its first entry.
+--     vote-none, vote-first      the vote of a ballot with no entries, and of one with some
+--     cast-vote                  no entry is the word for no vote, so the word that a ballot of entries casts is its vote
+--     moved-step, moved-end      the walk that moves the cells up by one
+--     without-first-is           what it leaves
+--     lost-for, lost-other, lost-none      what is left of a ballot when an entry is settled, by its vote
 -- Assumes nothing.
 use mathlib.Core.Path.{_≡_, refl, sym, ap, ap₂, _∙_}
-use mathlib.Core.Bool.{true, false, true≢false}
-use mathlib.Core.Option.{some}
-use mathlib.Core.List.{List, [], _∷_, _++_, map}
+use mathlib.Core.Bool.{true, false}
+use mathlib.Core.List.{List, [], _∷_, _++_, append-assoc}
 use Prim.Native.Nat.{ℕ, zero, suc, _+_, _-_, _<_, _≤_}
 use native.Mathlib.Nat.{not-suc-le-zero}
 use native.Mathlib.Omega.{arith}
-use lib.Dec.{eqb, eqb·suc-zero}
-use lib.ListN.{length, getD, take, drop, set, replicate, length-drop, length-replicate}
-use lib.Seq.{length-take-le, take-all, getD-take, getD-drop}
-use Rattle.protocol.proofs.Tests.{zeros, all-drop, all-zeros}
-use Rattle.entries.proofs.Fill.{filled, front-step}
-use Rattle.protocol.specs.Vote.{Votes, isFor, isNone}
+use lib.Dec.{eqb}
+use lib.ListN.{length, getD, take, drop, set, replicate, length-drop, length-replicate, take-append-drop, replicate-append-replicate}
+use lib.Seq.{length-take-le, take-all, getD-drop}
+use borrow.Author.Tests.{eqb-true, leb-true, eq-eqb, ne-eqb}
+use Rattle.protocol.specs.Tests.{allB, both}
+use Rattle.protocol.specs.Entry.{isEntry, codeOf}
 use Rattle.protocol.specs.Office.{first}
 use Rattle.protocol.specs.Elect.{lose}
-use Rattle.ballots.specs.Ballots.{tailOf, ballotOf, noBallot}
+use Rattle.protocol.proofs.Tests.{both-0, both-1, zeros}
+use Rattle.entries.proofs.Fill.{filled, front-step}
+use Rattle.ballots.specs.Ballots.{tailOf, ballotOf, ballotShape}
 use Rattle.ballots.specs.declared.Ballot.{Ballot}
-use Rattle.tallies.specs.Tallies.{firstWins, settledBallot}
+use Rattle.tallies.specs.Tallies.{noVote, voteWord, cast, voteIn}
 
-pub first-cell : (k : ℕ) (xs : List ℕ) → 0 < k → 0 < length xs → take k xs ≡ getD xs 0 0 ∷ take (k - 1) (drop 1 xs)
-first-cell zero xs h l = absurd (not-suc-le-zero h)
-first-cell (suc k) [] h l = absurd (not-suc-le-zero l)
-first-cell (suc k) (x ∷ xs) h l =
-    let e : k ≡ suc k - 1 = omega arith in
-    ap (λ (n : ℕ). x ∷ take n xs) e
+-- ── the vote ──
+pub vote-none : (b : Ballot) → b .len ≡ 0 → noVote ≡ cast b
+vote-none b e = rw e
 
-pub no-cell : (k : ℕ) (xs : List ℕ) → k ≡ 0 → take k xs ≡ []
-no-cell k xs e = rw e
-
-pub none-cells : (k : ℕ) (xs : List ℕ) → 0 < length xs → eqb k 0 ≡ isNone (first (take k xs))
-none-cells zero xs l = refl
-none-cells (suc k) [] l = absurd (not-suc-le-zero l)
-none-cells (suc k) (x ∷ xs) l = eqb·suc-zero k
-
--- a ballot whose entry wins has its first cell as that entry
-pub won-first : (ws : List ℕ) (v : Votes) (k : ℕ) (xs : List ℕ) → firstWins ws v (first (take k xs)) ≡ true → first (take k xs) ≡ some (getD xs 0 0)
-won-first ws v zero xs h = absurd (true≢false (sym h))
-won-first ws v (suc k) [] h = absurd (true≢false (sym h))
-won-first ws v (suc k) (x ∷ xs) h = refl
-
--- how many entries of 32 cells are left after the first of k
-module _ (k : ℕ) (xs : List ℕ) (h : length xs ≡ 32) where
-  pub left-full : 32 < k → 31 ≡ length (drop 1 (take k xs))
-  left-full l = rw (take-all k xs (omega arith), length-drop) (omega arith)
-
-  pub left-some : k ≤ 32 → k - 1 ≡ length (drop 1 (take k xs))
-  left-some l = rw (length-drop, length-take-le k xs (omega arith))
-
-lose-for : (e : ℕ) (t : List ℕ) → isFor e (first t) ≡ true → lose e t ≡ drop 1 t
-lose-for e [] q = refl
-lose-for e (x ∷ t) q = rw q
-
-lose-other : (e : ℕ) (t : List ℕ) → isFor e (first t) ≡ false → lose e t ≡ []
-lose-other e [] q = refl
-lose-other e (x ∷ t) q = rw q
-
-pub settled-for : (e : ℕ) (b : Ballot) → isFor e (first (tailOf b)) ≡ true → ballotOf (drop 1 (tailOf b)) ≡ settledBallot e b
-settled-for e b q = ap ballotOf (sym (lose-for e (tailOf b) q))
-
-pub settled-other : (e : ℕ) (b : Ballot) → isFor e (first (tailOf b)) ≡ false → noBallot ≡ settledBallot e b
-settled-other e b q = ap ballotOf (sym (lose-other e (tailOf b) q))
-
-pub settled-all : (e : ℕ) (bs : List Ballot) → map (settledBallot e) bs ≡ map ballotOf (map (lose e) (map tailOf bs))
-settled-all e [] = refl
-settled-all e (b ∷ bs) = ap (λ (l : List Ballot). settledBallot e b ∷ l) (settled-all e bs)
-
--- the k entries behind the first cell
-abbrev pub moved : ℕ → List ℕ → List ℕ
-moved k xs = take k (drop 1 xs)
-
-module _ (k : ℕ) (xs cs : List ℕ) (j : ℕ) (h : length xs ≡ 32) (l : k ≤ 31) (inv : cs ≡ filled (moved k xs) (replicate 32 0) j) where
-  moved-length : length (moved k xs) ≡ k
-  moved-length = length-take-le k (drop 1 xs) (simp length-drop (omega arith))
-
-  moved-at : j < k → getD xs (j + 1) 0 ≡ getD (moved k xs) j 0
-  moved-at a =
-      let one : j + 1 ≡ 1 + j = omega arith in
-      ap (λ (i : ℕ). getD xs i 0) one ∙ sym (getD-take k (drop 1 xs) j 0 a ∙ getD-drop 1 xs j 0)
-
-  pub moved-step : j < k → set cs j (getD xs (j + 1) 0) ≡ filled (moved k xs) (replicate 32 0) (j + 1)
-  moved-step a =
-      ap₂ (λ (ys : List ℕ) (v : ℕ). set ys j v) inv (moved-at a) ∙
-      front-step 0 (moved k xs) (replicate 32 0) j (omega (arith, moved-length)) (omega (arith, length-replicate {A = ℕ} 32 0))
-
-  pub moved-end : j ≡ k → cs ≡ moved k xs ++ replicate (32 - length (moved k xs)) 0
-  moved-end e =
-      inv ∙ ap₂ (λ (x y : List ℕ). x ++ y) (take-all j (moved k xs) (omega (arith, moved-length)))
-      (zeros (drop j (replicate 32 0)) (all-drop (eqb 0) j (replicate 32 0) (all-zeros 32)) ∙ ap (λ (m : ℕ). replicate m 0) left)
-    where
-      left : length {A = ℕ} (drop j (replicate 32 0)) ≡ 32 - length (moved k xs)
-      left = rw (length-drop, length-replicate) (omega (arith, moved-length))
-
-take-taken : (k : ℕ) (xs : List ℕ) → take (length (take k xs)) xs ≡ take k xs
-take-taken zero xs = refl
-take-taken (suc k) [] = refl
-take-taken (suc k) (x ∷ xs) = ap (λ (l : List ℕ). x ∷ l) (take-taken k xs)
-
--- as many cells behind the first as are left of the tail are what is left of it
-pub moved-tail : (k : ℕ) (xs : List ℕ) → moved (length (drop 1 (take k xs))) xs ≡ drop 1 (take k xs)
-moved-tail zero xs = refl
-moved-tail (suc k) [] = refl
-moved-tail (suc k) (x ∷ xs) = take-taken k xs
-
-pub without-first-is : (b : Ballot) (k : ℕ) (cs : List ℕ) → k ≡ length (drop 1 (tailOf b)) → cs ≡ moved k (b .cells) ++ replicate (32 - length (moved k (b .cells))) 0
-    → _≡_ {A = Ballot} (record { len = k; cells = cs }) (ballotOf (drop 1 (tailOf b)))
-without-first-is b k cs e q = λ i. record { len = e i; cells = (q ∙ ap (λ (t : List ℕ). t ++ replicate (32 - length t) 0) same) i }
+pub vote-first : (b : Ballot) → 0 < b .len → 0 < length (b .cells) → getD (b .cells) 0 0 ≡ cast b
+vote-first b h l = go (b .len) (b .cells) h l
   where
-    same : moved k (b .cells) ≡ drop 1 (tailOf b)
-    same = ap (λ (m : ℕ). moved m (b .cells)) e ∙ moved-tail (b .len) (b .cells)
+    go : (k : ℕ) (xs : List ℕ) → 0 < k → 0 < length xs → getD xs 0 0 ≡ voteWord (first (take k xs))
+    go zero xs h l = absurd (not-suc-le-zero h)
+    go (suc k) [] h l = absurd (not-suc-le-zero l)
+    go (suc k) (x ∷ xs) h l = refl
+
+entry-no-vote : (n e : ℕ) → isEntry n e ≡ true → e ≡ noVote → ⊥
+unfolding isEntry
+entry-no-vote n e h q =
+    let code = leb-true (codeOf e) 9999 (both-1 _ _ (both-1 _ _ h)) in
+    let most : codeOf e ≡ 65535 = ap codeOf q in
+    omega arith
+
+pub cast-vote : (n : ℕ) (b : Ballot) → allB (isEntry n) (tailOf b) ≡ true → voteIn (cast b) ≡ first (tailOf b)
+unfolding allB
+cast-vote n b = go (tailOf b)
+  where
+    go : (t : List ℕ) → allB (isEntry n) t ≡ true → voteIn (voteWord (first t)) ≡ first t
+    go [] p = refl
+    go (e ∷ t) p = rw (ne-eqb e noVote (entry-no-vote n e (both-0 _ _ p)))
+
+-- ── the ballot without its first entry ──
+module _ (xs cs : List ℕ) (j : ℕ) (h : length xs ≡ 32) (inv : cs ≡ filled (drop 1 xs) (replicate 32 0) j) where
+  behind : length (drop 1 xs) ≡ 31
+  behind = simp length-drop (omega arith)
+
+  pub moved-step : j < 31 → set cs j (getD xs (j + 1) 0) ≡ filled (drop 1 xs) (replicate 32 0) (j + 1)
+  moved-step a =
+      let one : j + 1 ≡ 1 + j = omega arith in
+      ap₂ (λ (ys : List ℕ) (v : ℕ). set ys j v) inv (ap (λ (i : ℕ). getD xs i 0) one ∙ sym (getD-drop 1 xs j 0)) ∙
+      front-step 0 (drop 1 xs) (replicate 32 0) j (omega (arith, behind)) (omega (arith, length-replicate {A = ℕ} 32 0))
+
+  pub moved-end : j ≡ 31 → cs ≡ drop 1 xs ++ 0 ∷ []
+  moved-end e = inv ∙ ap (λ (k : ℕ). filled (drop 1 xs) (replicate 32 0) k) e ∙ ap (λ (l : List ℕ). l ++ 0 ∷ []) (take-all 31 (drop 1 xs) (omega (arith, behind)))
+
+pub without-first-is : (b : Ballot) → ballotShape b ≡ true → 1 ≤ b .len → (cs : List ℕ) → cs ≡ drop 1 (b .cells) ++ 0 ∷ []
+    → _≡_ {A = Ballot} (record { len = b .len - 1; cells = cs }) (ballotOf (drop 1 (tailOf b)))
+unfolding ballotShape
+without-first-is b s o cs q = λ i. record { len = left i; cells = (q ∙ moved) i }
+  where
+    cells : length (b .cells) ≡ 32
+    cells = eqb-true (length (b .cells)) 32 (both-0 _ _ s)
+
+    len : b .len ≤ 32
+    len = leb-true (b .len) 32 (both-0 _ _ (both-1 _ _ s))
+
+    long : length (tailOf b) ≡ b .len
+    long = length-take-le (b .len) (b .cells) (omega (arith, cells, len))
+
+    left : b .len - 1 ≡ length (drop 1 (tailOf b))
+    left = simp (length-drop, long)
+
+    unused : drop (b .len) (b .cells) ≡ replicate (32 - b .len) 0
+    unused =
+        let l : length (drop (b .len) (b .cells)) ≡ 32 - b .len = rw (length-drop, cells) in
+        zeros (drop (b .len) (b .cells)) (both-1 _ _ (both-1 _ _ s)) ∙ ap (λ (k : ℕ). replicate k 0) l
+
+    drop-front : (t zs : List ℕ) → 1 ≤ length t → drop 1 (t ++ zs) ≡ drop 1 t ++ zs
+    drop-front [] zs h = absurd (not-suc-le-zero h)
+    drop-front (x ∷ t) zs h = refl
+
+    one-more : 32 - b .len + 1 ≡ 32 - length (drop 1 (tailOf b))
+    one-more = omega (arith, left, len, o)
+
+    moved : drop 1 (b .cells) ++ 0 ∷ [] ≡ drop 1 (tailOf b) ++ replicate (32 - length (drop 1 (tailOf b))) 0
+    moved =
+        ap (λ (l : List ℕ). l ++ 0 ∷ []) (ap (drop 1) (sym (take-append-drop (b .len) (b .cells)) ∙ ap (λ (l : List ℕ). tailOf b ++ l) unused) ∙ drop-front (tailOf b) (replicate (32 - b .len) 0) (omega (arith, long, o))) ∙
+        append-assoc (drop 1 (tailOf b)) (replicate (32 - b .len) 0) (0 ∷ []) ∙
+        ap (λ (l : List ℕ). drop 1 (tailOf b) ++ l) (replicate-append-replicate (32 - b .len) 1 0 ∙ ap (λ (k : ℕ). replicate k 0) one-more)
+
+-- ── what is left of a ballot when e is settled ──
+module _ (e : ℕ) (b : Ballot) (h : 0 < b .len) (l : 0 < length (b .cells)) where
+  pub lost-for : cast b ≡ e → drop 1 (tailOf b) ≡ lose e (tailOf b)
+  lost-for = go (b .len) (b .cells) h l
+    where
+      go : (k : ℕ) (xs : List ℕ) → 0 < k → 0 < length xs → voteWord (first (take k xs)) ≡ e → drop 1 (take k xs) ≡ lose e (take k xs)
+      go zero xs h l q = absurd (not-suc-le-zero h)
+      go (suc k) [] h l q = absurd (not-suc-le-zero l)
+      go (suc k) (x ∷ xs) h l q = rw (eq-eqb x e q)
+
+  pub lost-other : (cast b ≡ e → ⊥) → [] ≡ lose e (tailOf b)
+  lost-other = go (b .len) (b .cells) h l
+    where
+      go : (k : ℕ) (xs : List ℕ) → 0 < k → 0 < length xs → (voteWord (first (take k xs)) ≡ e → ⊥) → [] ≡ lose e (take k xs)
+      go zero xs h l q = absurd (not-suc-le-zero h)
+      go (suc k) [] h l q = absurd (not-suc-le-zero l)
+      go (suc k) (x ∷ xs) h l q = rw (ne-eqb x e q)
+
+pub lost-none : (e : ℕ) (b : Ballot) → b .len ≡ 0 → tailOf b ≡ lose e (tailOf b)
+lost-none e b q = rw q

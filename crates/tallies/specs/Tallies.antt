@@ -1,13 +1,13 @@
--- The votes that eight ballots cast, and the answer of an election step by the paper's rule. Assumes nothing.
+-- The votes that eight ballots cast, as words, and the answer of an election step by the paper's rule. Assumes nothing.
 use Prim.Native.Nat.{ℕ}
-use mathlib.Core.Bool.{Bool, false, _&&_, _||_}
-use mathlib.Core.List.{List, [], map}
+use mathlib.Core.Bool.{Bool, false, _&&_, _||_, cond}
+use mathlib.Core.List.{List, []}
 use mathlib.Core.Option.{Option, none, some}
 use lib.Dec.{ltb, eqb}
-use Rattle.protocol.specs.Vote.{Votes, and-also, beatsAll, wins}
-use Rattle.protocol.specs.Office.{votesOf}
-use Rattle.protocol.specs.Elect.{lose}
-use Rattle.ballots.specs.Ballots.{tailOf, ballotOf}
+use lib.ListN.{getD}
+use Rattle.protocol.specs.Vote.{Votes, tally, unheard, and-also, beatsAll, wins}
+use Rattle.protocol.specs.Office.{first}
+use Rattle.ballots.specs.Ballots.{tailOf}
 use Rattle.ballots.specs.declared.Ballot.{Ballot}
 use Rattle.tallies.specs.declared.Winner.{Winner}
 use Rattle.tallies.specs.declared.Winner.the-variants.{Entry, Nobody}
@@ -17,23 +17,38 @@ abbrev pub winnerIs : Option ℕ → Winner
 winnerIs none = Nobody
 winnerIs (some e) = Entry e
 
+-- the word of an office with no ballot; no entry has this value (law `entry-vote`)
+abbrev pub noVote : ℕ
+noVote = 4294967295
+
+abbrev pub voteWord : Option ℕ → ℕ
+voteWord none = noVote
+voteWord (some e) = e
+
 -- "each non-empty ballot supports its first tail entry"
-abbrev pub votesIn : List Ballot → Votes
-votesIn bs = votesOf (map tailOf bs)
+abbrev pub cast : Ballot → ℕ
+cast b = voteWord (first (tailOf b))
+
+-- the vote that a word is, and the votes that eight words are
+abbrev pub voteIn : ℕ → Option ℕ
+voteIn x = cond (eqb x noVote) none (some x)
+
+abbrev pub votesIn : List ℕ → Votes
+votesIn xs k = voteIn (getD xs k noVote)
+
+-- T of an entry, U of the word for no vote
+abbrev pub weightFor : List ℕ → Votes → ℕ → ℕ
+weightFor ws v x = cond (eqb x noVote) (unheard ws v) (tally ws v x)
 
 -- a above b, or equal to it and e below f: the lower value first
 abbrev pub above : ℕ → ℕ → ℕ → ℕ → Bool
 above a b e f = ltb b a || (eqb a b && ltb e f)
 
--- e against the entry that a ballot supports, if it supports another
-abbrev pub beatsFirst : List ℕ → Votes → ℕ → Option ℕ → Bool
-beatsFirst ws v e x = beatsAll ws ltb v e (and-also x [])
+-- e against the entry that is voted for, if that is another
+abbrev pub beatsVote : List ℕ → Votes → ℕ → Option ℕ → Bool
+beatsVote ws v e x = beatsAll ws ltb v e (and-also x [])
 
--- the entry that a ballot supports wins
-abbrev pub firstWins : List ℕ → Votes → Option ℕ → Bool
-firstWins ws v none = false
-firstWins ws v (some e) = wins ws ltb v e
-
--- "ballots starting with it lose that entry, all other ballots become none"
-abbrev pub settledBallot : ℕ → Ballot → Ballot
-settledBallot e b = ballotOf (lose e (tailOf b))
+-- the entry that is voted for wins
+abbrev pub voteWins : List ℕ → Votes → Option ℕ → Bool
+voteWins ws v none = false
+voteWins ws v (some e) = wins ws ltb v e

@@ -1,15 +1,13 @@
-// One election step over the eight ballots and weights.
+// One election step: the vote that a ballot casts, the entry that wins by eight votes and their weights, and a ballot without the entry
+// that was settled.
 ghost use mathlib.Core.Path.{_≡_};
-ghost use mathlib.Core.Bool.{cond};
-ghost use mathlib.Core.List.{map};
+ghost use mathlib.Core.Bool.{true, cond};
 ghost use Prim.Native.Nat.{_≤_};
 ghost use lib.Dec.{ltb};
-ghost use lib.ListN.{length, drop};
-ghost use Rattle.protocol.specs.Vote.{isFor, isNone, tally, unheard, supported, beatsAll, wins, winner};
-ghost use Rattle.protocol.specs.Office.{first};
-ghost use Rattle.protocol.specs.Elect.{lose};
-ghost use Rattle.ballots.specs.Ballots.{tailOf, ballotOf};
-ghost use Rattle.tallies.specs.Tallies.{winnerIs, votesIn, above, beatsFirst, firstWins, settledBallot};
+ghost use lib.ListN.{drop};
+ghost use Rattle.protocol.specs.Vote.{tally, unheard, supported, beatsAll, winner};
+ghost use Rattle.ballots.specs.Ballots.{tailOf, ballotOf, ballotShape};
+ghost use Rattle.tallies.specs.Tallies.{winnerIs, cast, voteIn, votesIn, weightFor, above, beatsVote, voteWins};
 use ballots::Ballot;
 
 // Who wins an election step.
@@ -18,22 +16,18 @@ pub enum Winner {
     Nobody,
 }
 
-// Whether the ballot supports this entry.
-fn is_for(b: Ballot, entry: u32) -> bool
-    ensures { λ r. ⌜ r ≡ isFor entry (first (tailOf b)) ⌝ }
+// The vote of an office with no ballot: no entry has this value.
+pub const NO_VOTE: u32 = 4294967295;
+
+// The vote that a ballot casts.
+pub fn vote(b: Ballot) -> u32
+    ensures { λ r. ⌜ r ≡ cast b ⌝ }
 {
     let cells = b.cells;
     if b.len == 0 {
-        return false;
+        return NO_VOTE;
     }
-    cells[0] == entry
-}
-
-// Whether there is no ballot.
-fn is_none(b: Ballot) -> bool
-    ensures { λ r. ⌜ r ≡ isNone (first (tailOf b)) ⌝ }
-{
-    b.len == 0
+    cells[0]
 }
 
 // The weight where it counts, else 0.
@@ -43,26 +37,13 @@ fn share(counts: bool, weight: u16) -> u32
     if counts { weight as u32 } else { 0 }
 }
 
-// T(entry): the weight of the ballots that support it.
-fn tally(ballots: [Ballot; 8], weights: [u16; 8], entry: u32) -> u32
-    ensures { λ r. ⌜ (r ≡ tally weights (votesIn ballots) entry) × (r ≤ 524280) ⌝ }
+// The weight of the offices that cast this vote: T of an entry, U of the vote that is none.
+fn weight_for(votes: [u32; 8], weights: [u16; 8], vote: u32) -> u32
+    ensures { λ r. ⌜ (r ≡ weightFor weights (votesIn votes) vote) × (r ≤ 524280) ⌝ }
 {
     let mut sum: u32 = 0;
     for i in 0..8 {
-        let b = ballots[i];
-        sum = sum + share(is_for(b, entry), weights[i]);
-    }
-    sum
-}
-
-// U: the weight of the offices with no ballot.
-fn unheard(ballots: [Ballot; 8], weights: [u16; 8]) -> u32
-    ensures { λ r. ⌜ (r ≡ unheard weights (votesIn ballots)) × (r ≤ 524280) ⌝ }
-{
-    let mut sum: u32 = 0;
-    for i in 0..8 {
-        let b = ballots[i];
-        sum = sum + share(is_none(b), weights[i]);
+        sum = sum + share(votes[i] == vote, weights[i]);
     }
     sum
 }
@@ -80,130 +61,85 @@ fn is_above(a: u32, b: u32, entry: u32, other: u32) -> bool
     entry < other
 }
 
-// Whether the entry, with its weight te and the unheard weight u, beats what the ballot supports, if that is another.
-fn beats_first(
-    ballots: [Ballot; 8],
+// Whether the entry, with its weight te and the unheard weight u, beats the one that is voted for, if that is another.
+fn beats_vote(
+    votes: [u32; 8],
     weights: [u16; 8],
     te: u32,
     u: u32,
     entry: u32,
-    b: Ballot,
+    vote: u32,
 ) -> bool
-    requires { ⌜ (te ≡ tally weights (votesIn ballots) entry) × (u ≡ unheard weights (votesIn ballots)) × (u ≤ 524280) ⌝ }
-    ensures { λ r. ⌜ r ≡ beatsFirst weights (votesIn ballots) entry (first (tailOf b)) ⌝ }
+    requires { ⌜ (te ≡ tally weights (votesIn votes) entry) × (u ≡ unheard weights (votesIn votes)) × (u ≤ 524280) ⌝ }
+    ensures { λ r. ⌜ r ≡ beatsVote weights (votesIn votes) entry (voteIn vote) ⌝ }
 {
-    let cells = b.cells;
-    if b.len == 0 {
+    if vote == NO_VOTE {
         return true;
     }
-    let other = cells[0];
-    if other == entry {
+    if vote == entry {
         return true;
     }
-    let t = tally(ballots, weights, other);
-    is_above(te, t + u, entry, other)
+    let t = weight_for(votes, weights, vote);
+    is_above(te, t + u, entry, vote)
 }
 
 // Whether it beats every other supported entry.
-fn beats_all(ballots: [Ballot; 8], weights: [u16; 8], te: u32, u: u32, entry: u32) -> bool
-    requires { ⌜ (te ≡ tally weights (votesIn ballots) entry) × (u ≡ unheard weights (votesIn ballots)) × (u ≤ 524280) ⌝ }
-    ensures { λ r. ⌜ r ≡ beatsAll weights ltb (votesIn ballots) entry (supported weights (votesIn ballots)) ⌝ }
+fn beats_all(votes: [u32; 8], weights: [u16; 8], te: u32, u: u32, entry: u32) -> bool
+    requires { ⌜ (te ≡ tally weights (votesIn votes) entry) × (u ≡ unheard weights (votesIn votes)) × (u ≤ 524280) ⌝ }
+    ensures { λ r. ⌜ r ≡ beatsAll weights ltb (votesIn votes) entry (supported weights (votesIn votes)) ⌝ }
 {
     for i in 0..8 {
-        let b = ballots[i];
-        if !beats_first(ballots, weights, te, u, entry, b) {
+        let vote = votes[i];
+        if !beats_vote(votes, weights, te, u, entry, vote) {
             return false;
         }
     }
     true
 }
 
-// Whether the entry wins.
-fn entry_wins(ballots: [Ballot; 8], weights: [u16; 8], entry: u32) -> bool
-    ensures { λ r. ⌜ r ≡ wins weights ltb (votesIn ballots) entry ⌝ }
+// Whether the entry that is voted for wins, with the unheard weight u.
+fn vote_wins(votes: [u32; 8], weights: [u16; 8], u: u32, vote: u32) -> bool
+    requires { ⌜ (u ≡ unheard weights (votesIn votes)) × (u ≤ 524280) ⌝ }
+    ensures { λ r. ⌜ r ≡ voteWins weights (votesIn votes) (voteIn vote) ⌝ }
 {
-    let te = tally(ballots, weights, entry);
-    let u = unheard(ballots, weights);
+    if vote == NO_VOTE {
+        return false;
+    }
+    let te = weight_for(votes, weights, vote);
     if te <= u {
         return false;
     }
-    beats_all(ballots, weights, te, u, entry)
-}
-
-// Whether the entry that the ballot supports wins.
-fn first_wins(ballots: [Ballot; 8], weights: [u16; 8], b: Ballot) -> bool
-    ensures { λ r. ⌜ r ≡ firstWins weights (votesIn ballots) (first (tailOf b)) ⌝ }
-{
-    let cells = b.cells;
-    if b.len == 0 {
-        return false;
-    }
-    entry_wins(ballots, weights, cells[0])
+    beats_all(votes, weights, te, u, vote)
 }
 
 // The entry that wins the step, if any.
-pub fn find_winner(ballots: [Ballot; 8], weights: [u16; 8]) -> Winner
-    ensures { λ r. ⌜ r ≡ winnerIs (winner weights ltb (votesIn ballots)) ⌝ }
+pub fn find_winner(votes: [u32; 8], weights: [u16; 8]) -> Winner
+    ensures { λ r. ⌜ r ≡ winnerIs (winner weights ltb (votesIn votes)) ⌝ }
 {
+    let u = weight_for(votes, weights, NO_VOTE);
     for i in 0..8 {
-        let b = ballots[i];
-        if first_wins(ballots, weights, b) {
-            let cells = b.cells;
-            return Winner::Entry(cells[0]);
+        let vote = votes[i];
+        if vote_wins(votes, weights, u, vote) {
+            return Winner::Entry(vote);
         }
     }
     Winner::Nobody
 }
 
-// How many entries the ballot has after its first.
-fn left_after_first(b: Ballot) -> usize
-    ensures { λ r. ⌜ (r ≡ length (drop 1 (tailOf b))) × (r ≤ 31) ⌝ }
-{
-    if b.len == 0 {
-        return 0;
-    }
-    if b.len > Ballot::CELLS {
-        return 31;
-    }
-    b.len - 1
-}
-
-// The ballot without its first entry, its unused cells zero.
-fn without_first(b: Ballot) -> Ballot
+// The ballot without its first entry. Its unused cells are zero, so all its cells move up by one, in a walk of fixed length. Public only
+// for the crate above, which proves what it requires.
+pub fn without_first(b: Ballot) -> Ballot
+    requires { ⌜ (ballotShape b ≡ true) × (1 ≤ b .len) ⌝ }
     ensures { λ r. ⌜ r ≡ ballotOf (drop 1 (tailOf b)) ⌝ }
 {
-    let left = left_after_first(b);
     let old = b.cells;
     let mut cells: [u32; 32] = [0; 32];
-    for j in 0..left {
+    for j in 0..31 {
         let next = old[j + 1];
         cells[j] = next;
     }
     Ballot {
-        len: left,
+        len: b.len - 1,
         cells: cells,
     }
-}
-
-// The ballot after the entry is settled.
-fn settle_one(b: Ballot, entry: u32) -> Ballot
-    ensures { λ r. ⌜ r ≡ settledBallot entry b ⌝ }
-{
-    if is_for(b, entry) {
-        without_first(b)
-    } else {
-        Ballot::none()
-    }
-}
-
-// The ballots after the entry is settled.
-pub fn settle(ballots: [Ballot; 8], entry: u32) -> [Ballot; 8]
-    ensures { λ r. ⌜ r ≡ map ballotOf (map (lose entry) (map tailOf ballots)) ⌝ }
-{
-    let mut next = ballots;
-    for i in 0..8 {
-        let b = ballots[i];
-        next[i] = settle_one(b, entry);
-    }
-    next
 }

@@ -10,11 +10,12 @@ use second::calls as plain;
 use second::message::LONGEST;
 use second::record::{entry, sound, Ballot, Record, LOG, OFFICES, TAIL};
 
+use crate::by_value;
 use crate::engine::to_engine;
 use crate::samples::Sample;
 
-/// Pairs of batches of each case; their order changes from pair to pair.
-const PAIRS: usize = 61;
+/// Rounds of batches of each case; their order changes from round to round.
+const ROUNDS: usize = 61;
 /// Nanoseconds that a batch takes, about.
 const BATCH: f64 = 300_000.0;
 const WEIGHTS: [u16; OFFICES] = [40, 35, 25, 20, 15, 10, 5, 1];
@@ -63,20 +64,26 @@ pub fn state(settled: usize, ballots: Ballots, own: usize) -> Sample {
     Sample { record, log }
 }
 
-/// One case: a call of both on the same state.
+/// One call of a case.
+type Call = Box<dyn FnMut()>;
+
+/// One case: the same call on the same state by the engine, by the second implementation, and by that with the
+/// record handed over by value.
 struct Case {
     call: String,
     settled: usize,
     ballots: &'static str,
-    engine: Box<dyn FnMut()>,
-    second: Box<dyn FnMut()>,
+    engine: Call,
+    second: Call,
+    by_value: Call,
 }
 
-/// Median times of a case, in nanoseconds, and the median of the pairs' ratios.
+/// Median times of a case, in nanoseconds, and the medians of the rounds' ratios.
 struct Time {
     engine: f64,
     second: f64,
     ratio: f64,
+    ratio_by_value: f64,
 }
 
 /// Nanoseconds of one of several calls.
@@ -96,18 +103,26 @@ fn median(mut values: Vec<f64>) -> f64 {
 impl Case {
     fn time(&mut self) -> Time {
         batch(&mut self.engine, 100);
+        batch(&mut self.by_value, 100);
         let once = batch(&mut self.second, 100).max(1.0);
         let times = (BATCH / once) as usize + 1;
-        let (mut engine, mut second, mut ratios) = (vec![], vec![], vec![]);
-        for pair in 0..PAIRS {
-            let first = if pair % 2 == 0 { batch(&mut self.engine, times) } else { 0.0 };
+        let (mut engine, mut second, mut ratios, mut by_value) = (vec![], vec![], vec![], vec![]);
+        for round in 0..ROUNDS {
+            let first = if round % 2 == 0 { batch(&mut self.engine, times) } else { 0.0 };
             let plain = batch(&mut self.second, times);
-            let proved = if pair % 2 == 0 { first } else { batch(&mut self.engine, times) };
+            let value = batch(&mut self.by_value, times);
+            let proved = if round % 2 == 0 { first } else { batch(&mut self.engine, times) };
             engine.push(proved);
             second.push(plain);
             ratios.push(proved / plain);
+            by_value.push(proved / value);
         }
-        Time { engine: median(engine), second: median(second), ratio: median(ratios) }
+        Time {
+            engine: median(engine),
+            second: median(second),
+            ratio: median(ratios),
+            ratio_by_value: median(by_value),
+        }
     }
 }
 
@@ -125,35 +140,40 @@ macro_rules! call {
 fn reading_cases(settled: usize, ballots: Ballots, cases: &mut Vec<Case>) {
     let Sample { record, log } = state(settled, ballots, 0);
     let proved = to_engine(&record);
-    let mut case = |call: &str, engine: Box<dyn FnMut()>, second: Box<dyn FnMut()>| {
-        cases.push(Case { call: call.into(), settled, ballots: ballots.name(), engine, second });
+    let logs = || (log.clone(), log.clone(), log.clone());
+    let mut case = |call: &str, engine: Call, second: Call, by_value: Call| {
+        cases.push(Case { call: call.into(), settled, ballots: ballots.name(), engine, second, by_value });
     };
-    let (a, b) = (log.clone(), log.clone());
+    let (a, b, c) = logs();
     case(
         "sound",
         call!(unsafe { engine::joukerpan_sound(*black_box(&proved), a.as_ptr(), LOG) }),
         call!(sound(black_box(&record), &b)),
+        call!(unsafe { by_value::sound(*black_box(&record), c.as_ptr(), LOG) }),
     );
-    let (a, b) = (log.clone(), log.clone());
+    let (a, b, c) = logs();
     case(
         "settled",
         call!(unsafe { engine::joukerpan_settled(*black_box(&proved), a.as_ptr(), LOG) }),
         call!(plain::settled(black_box(&record), &b)),
+        call!(unsafe { by_value::settled(*black_box(&record), c.as_ptr(), LOG) }),
     );
     let newest = (settled as u32).saturating_sub(1) % 63;
     for (name, line) in [("settled frame, newest entry", newest), ("settled frame, no entry", 63)] {
-        let (a, b) = (log.clone(), log.clone());
+        let (a, b, c) = logs();
         case(
             name,
             call!(unsafe { engine::joukerpan_settled_frame(*black_box(&proved), a.as_ptr(), LOG, black_box(line)) }),
             call!(plain::settled_frame(black_box(&record), &b, black_box(line))),
+            call!(unsafe { by_value::settled_frame(*black_box(&record), c.as_ptr(), LOG, black_box(line)) }),
         );
     }
-    let (a, b) = (log.clone(), log);
+    let (a, b, c) = logs();
     case(
         "tentative frame, no entry",
         call!(unsafe { engine::joukerpan_tentative_frame(*black_box(&proved), a.as_ptr(), LOG, black_box(63)) }),
         call!(plain::tentative_frame(black_box(&record), &b, black_box(63))),
+        call!(unsafe { by_value::tentative_frame(*black_box(&record), c.as_ptr(), LOG, black_box(63)) }),
     );
 }
 
@@ -161,21 +181,24 @@ fn reading_cases(settled: usize, ballots: Ballots, cases: &mut Vec<Case>) {
 fn writing_cases(settled: usize, ballots: Ballots, cases: &mut Vec<Case>) {
     let Sample { record, log } = state(settled, ballots, 0);
     let proved = to_engine(&record);
-    let mut case = |call: &str, engine: Box<dyn FnMut()>, second: Box<dyn FnMut()>| {
-        cases.push(Case { call: call.into(), settled, ballots: ballots.name(), engine, second });
+    let logs = || (log.clone(), log.clone(), log.clone());
+    let mut case = |call: &str, engine: Call, second: Call, by_value: Call| {
+        cases.push(Case { call: call.into(), settled, ballots: ballots.name(), engine, second, by_value });
     };
-    let (a, b) = (log.clone(), log.clone());
+    let (a, b, c) = logs();
     case(
         "issue",
         call!(unsafe { engine::joukerpan_issue(*black_box(&proved), a.as_ptr(), LOG, 5, black_box(120)) }),
         call!(plain::issue(*black_box(&record), &b, 5, black_box(120))),
+        call!(unsafe { by_value::issue(*black_box(&record), c.as_ptr(), LOG, 5, black_box(120)) }),
     );
-    let (a, b) = (log.clone(), log);
-    let (mut c, mut d) = (vec![0; LONGEST], vec![0; LONGEST]);
+    let (a, b, c) = logs();
+    let (mut d, mut e, mut f) = (vec![0; LONGEST], vec![0; LONGEST], vec![0; LONGEST]);
     case(
         "send",
-        call!(unsafe { engine::joukerpan_send(*black_box(&proved), a.as_ptr(), LOG, c.as_mut_ptr(), LONGEST) }),
-        call!(second::message::send(black_box(&record), &b, black_box(&mut d))),
+        call!(unsafe { engine::joukerpan_send(*black_box(&proved), a.as_ptr(), LOG, d.as_mut_ptr(), LONGEST) }),
+        call!(second::message::send(black_box(&record), &b, black_box(&mut e))),
+        call!(unsafe { by_value::send(*black_box(&record), c.as_ptr(), LOG, f.as_mut_ptr(), LONGEST) }),
     );
 }
 
@@ -183,13 +206,14 @@ fn writing_cases(settled: usize, ballots: Ballots, cases: &mut Vec<Case>) {
 fn elect_case(settled: usize, ballots: Ballots, cases: &mut Vec<Case>) {
     let Sample { record, log } = state(settled, ballots, 0);
     let proved = to_engine(&record);
-    let (mut a, mut b) = (log.clone(), log);
+    let (mut a, mut b, mut c) = (log.clone(), log.clone(), log);
     cases.push(Case {
         call: "elect".into(),
         settled,
         ballots: ballots.name(),
         engine: call!(unsafe { engine::joukerpan_elect(*black_box(&proved), a.as_mut_ptr(), LOG) }),
         second: call!(second::elect::elect(*black_box(&record), &mut b)),
+        by_value: call!(unsafe { by_value::elect(*black_box(&record), c.as_mut_ptr(), LOG) }),
     });
 }
 
@@ -197,26 +221,28 @@ fn elect_case(settled: usize, ballots: Ballots, cases: &mut Vec<Case>) {
 fn take_case(name: &str, receiver: Sample, sender: Sample, ballots: &'static str, cases: &mut Vec<Case>) {
     let Sample { record, log } = receiver;
     let proved = to_engine(&record);
-    let (mut a, mut b) = (log.clone(), log);
-    let (c, d) = (sender.message(), sender.message());
+    let (mut a, mut b, mut c) = (log.clone(), log.clone(), log);
+    let (d, e, f) = (sender.message(), sender.message(), sender.message());
     cases.push(Case {
         call: format!("take, {name}"),
         settled: sender.record.settled,
         ballots,
-        engine: call!(unsafe { engine::joukerpan_take(*black_box(&proved), a.as_mut_ptr(), LOG, c.as_ptr(), c.len()) }),
-        second: call!(second::take::take(*black_box(&record), &mut b, black_box(&d))),
+        engine: call!(unsafe { engine::joukerpan_take(*black_box(&proved), a.as_mut_ptr(), LOG, d.as_ptr(), d.len()) }),
+        second: call!(second::take::take(*black_box(&record), &mut b, black_box(&e))),
+        by_value: call!(unsafe { by_value::take(*black_box(&record), c.as_mut_ptr(), LOG, f.as_ptr(), f.len()) }),
     });
 }
 
-/// Founding; nothing in it grows.
+/// Founding; nothing in it grows, and no record is handed over.
 fn found_case(cases: &mut Vec<Case>) {
-    let (a, b) = (vec![0; LOG], vec![0; LOG]);
+    let (a, b, c) = (vec![0; LOG], vec![0; LOG], vec![0; LOG]);
     cases.push(Case {
         call: "found".into(),
         settled: 0,
         ballots: "empty",
         engine: call!(unsafe { engine::joukerpan_found(8, 0, Weights { of: black_box(WEIGHTS) }, a.as_ptr(), LOG) }),
         second: call!(plain::found(8, 0, black_box(WEIGHTS), &b)),
+        by_value: call!(plain::found(8, 0, black_box(WEIGHTS), &c)),
     });
 }
 
@@ -246,14 +272,14 @@ fn cases() -> Vec<Case> {
 pub fn print() -> Result<()> {
     let mut output = stdout().lock();
     let mut rows: Vec<(Case, Time)> = vec![];
-    writeln!(output, "| Call | Settled | Ballots | Engine, ns | Second, ns | Ratio |")?;
-    writeln!(output, "|---|---:|---|---:|---:|---:|")?;
+    writeln!(output, "| Call | Settled | Ballots | Engine, ns | Second, ns | Ratio | Ratio by value |")?;
+    writeln!(output, "|---|---:|---|---:|---:|---:|---:|")?;
     for mut case in cases() {
         let time = case.time();
         writeln!(
             output,
-            "| {} | {} | {} | {:.0} | {:.0} | {:.2} |",
-            case.call, case.settled, case.ballots, time.engine, time.second, time.ratio
+            "| {} | {} | {} | {:.0} | {:.0} | {:.2} | {:.2} |",
+            case.call, case.settled, case.ballots, time.engine, time.second, time.ratio, time.ratio_by_value
         )?;
         rows.push((case, time));
     }

@@ -1,4 +1,4 @@
--- A walk from the front: what is left of the ballots answers as all of them do.
+-- A walk from the front: what is left of the votes answers as all of them do.
 use native.Mathlib.Omega.{arith}
 use mathlib.Core.Path.{_≡_, refl, sym, _∙_}
 use Prim.Native.Nat.{_-_, _≤_}
@@ -13,22 +13,22 @@ use Rattle.tallies.proofs.beats_all.Statement.{statement}
 use Rattle.tallies.proofs.beats_all.Tie as tie
 
 abbrev Inv-loop : tie.InvT-loop
-Inv-loop weights te u entry ballots i₀ i = (i ≤ 8) × (beatsAll weights ltb (votesIn ballots) entry (supported weights (votesIn ballots)) ≡ beatsAll weights ltb (votesIn ballots) entry (supported (drop i weights) (votesFrom i ballots)))
+Inv-loop weights te u entry votes i₀ i = (i ≤ 8) × (beatsAll weights ltb (votesIn votes) entry (supported weights (votesIn votes)) ≡ beatsAll weights ltb (votesIn votes) entry (supported (drop i weights) (votesFrom i votes)))
 
 abbrev μ-loop : tie.MeasureT-loop
-μ-loop weights te u entry ballots i₀ i = 8 - i
+μ-loop weights te u entry votes i₀ i = 8 - i
 
 loop-holds : tie.Need-loop-holds Inv-loop μ-loop
 loop-holds c = (search needs, refl)
 
 returns : tie.Need-returns Inv-loop μ-loop
-returns c = let l = c .before .before .before .before .loop in let a = c .before .before .before .before .before .args in let hb : length (a .t1) ≡ 8 = search needs in let hw : length (a .weights) ≡ 8 = search needs in beats-stop _ (a .entry) (votesIn (a .t1)) (a .weights) (a .t1) (a .weights) (l .i) (l .inv .1) (omega arith) (omega arith) (sym (c .before .beats-first .ensures) ∙ not-true _ (c .if1 .taken))
+returns c = let l = c .before .before .before .loop in let a = c .before .before .before .before .args in let hx : length (a .t1) ≡ 8 = search needs in let hw : length (a .weights) ≡ 8 = search needs in beats-stop _ (a .entry) (votesIn (a .t1)) (a .weights) (a .t1) (a .weights) (l .i) (l .inv .1) (omega arith) (omega arith) (c .before .beats-vote .result) (c .before .beats-vote .ensures) (not-true _ (c .if1 .taken))
 
 loop-again : tie.Need-loop-again Inv-loop μ-loop
-loop-again c = let l = c .before .before .before .before .loop in let a = c .before .before .before .before .before .args in let hb : length (a .t1) ≡ 8 = search needs in let hw : length (a .weights) ≡ 8 = search needs in (search needs, beats-next _ (a .entry) (votesIn (a .t1)) (a .weights) (a .t1) (a .weights) (l .i) (l .inv .1) (omega arith) (omega arith) (sym (c .before .beats-first .ensures) ∙ not-false _ (c .if1 .left)))
+loop-again c = let l = c .before .before .before .loop in let a = c .before .before .before .before .args in let hx : length (a .t1) ≡ 8 = search needs in let hw : length (a .weights) ≡ 8 = search needs in (search needs, beats-next _ (a .entry) (votesIn (a .t1)) (a .weights) (a .t1) (a .weights) (l .i) (l .inv .1) (omega arith) (omega arith) (c .before .beats-vote .result) (c .before .beats-vote .ensures) (not-false _ (c .if1 .left)))
 
 returns-2 : tie.Need-returns-2 Inv-loop μ-loop
-returns-2 c = let l = c .before .loop in let a = c .before .before .args in let hb : length (a .t1) ≡ 8 = search needs in let hw : length (a .weights) ≡ 8 = search needs in beats-done _ (a .entry) (votesIn (a .t1)) (a .weights) (a .t1) (a .weights) (l .i) (l .inv .1) (omega arith)
+returns-2 c = let l = c .before .loop in let a = c .before .before .args in let hw : length (a .weights) ≡ 8 = search needs in beats-done _ (a .entry) (votesIn (a .t1)) (a .weights) (a .t1) (a .weights) (l .i) (l .inv .1) (omega arith)
 
 pub beats-all-spec : {M : Type 1} → statement M
 beats-all-spec =

@@ -27,19 +27,19 @@ step-requires : tie.Need-step-requires Inv-loop μ-loop
 step-requires c κs = c .before .loop .inv .sound
 
 loop-less : tie.Need-loop-less Inv-loop μ-loop
-loop-less c = let a = c .before .before .before .before .before .before .before .before .before .before .before .before .args in let l = c .before .before .before .before .before .before .before .loop in let x = c .before .before .before .before .before .step in let m = run-more (a .self) (a .log .now) (l .now) (l .log) (l .inv) (x .result) (x .ensures .0) (x .last .1 .0) (x .ensures .1) (not-false _ (c .if2 .left)) in omega (arith, m .1, m .2)
+loop-less c = let a = c .before .before .before .before .before .before .before .before .before .before .before .args in let l = c .before .before .before .before .before .before .loop in let x = c .before .before .before .before .step in let m = run-more (a .self) (a .log .now) (l .now) (l .log) (l .inv) (x .result) (x .ensures .0) (x .last .1 .0) (x .ensures .1) (c .if2 .left) in omega (arith, m .1, m .2)
 
 loop-again : tie.Need-loop-again Inv-loop μ-loop
-loop-again c = let a = c .before .before .before .before .before .before .before .before .before .before .before .before .args in let l = c .before .before .before .before .before .before .before .loop in let x = c .before .before .before .before .before .step in run-more (a .self) (a .log .now) (l .now) (l .log) (l .inv) (x .result) (x .ensures .0) (x .last .1 .0) (x .ensures .1) (not-false _ (c .if2 .left)) .0
+loop-again c = let a = c .before .before .before .before .before .before .before .before .before .before .before .args in let l = c .before .before .before .before .before .before .loop in let x = c .before .before .before .before .step in run-more (a .self) (a .log .now) (l .now) (l .log) (l .inv) (x .result) (x .ensures .0) (x .last .1 .0) (x .ensures .1) (c .if2 .left) .0
 
 sub-count : tie.Need-sub-count Inv-loop μ-loop
-sub-count c = let a = c .before .before .before .before .before .before .before .before .before .before .before .before .before .args in let l = c .before .before .before .before .before .before .before .before .loop in let x = c .before .before .before .before .before .before .step in let m = run-last (a .self) (a .log .now) (l .now) (l .log) (l .inv) (x .result) (x .ensures .0) (x .last .1 .0) (x .ensures .1) (not-true _ (c .before .if2 .taken)) in omega (arith, ap (λ (r : Record). r .settled) (m .0), l .inv .grown)
+sub-count c = let a = c .before .before .before .before .before .before .before .before .before .before .before .before .args in let l = c .before .before .before .before .before .before .before .loop in let x = c .before .before .before .before .before .step in let m = run-last (a .self) (a .log .now) (l .now) (l .log) (l .inv) (x .result) (x .ensures .0) (x .last .1 .0) (x .ensures .1) (c .before .if2 .taken) in omega (arith, ap (λ (r : Record). r .settled) (m .0), l .inv .grown)
 
 same-length-2 : tie.Need-same-length-2 Inv-loop μ-loop
-same-length-2 c = let a = c .before .before .before .before .before .before .before .before .before .before .before .before .before .args in let l = c .before .before .before .before .before .before .before .before .loop in let x = c .before .before .before .before .before .before .step in let m = run-last (a .self) (a .log .now) (l .now) (l .log) (l .inv) (x .result) (x .ensures .0) (x .last .1 .0) (x .ensures .1) (not-true _ (c .before .if2 .taken)) in ap length (m .1) ∙ l .inv .long
+same-length-2 c = let a = c .before .before .before .before .before .before .before .before .before .before .before .before .args in let l = c .before .before .before .before .before .before .before .loop in let x = c .before .before .before .before .before .step in let m = run-last (a .self) (a .log .now) (l .now) (l .log) (l .inv) (x .result) (x .ensures .0) (x .last .1 .0) (x .ensures .1) (c .before .if2 .taken) in ap length (m .1) ∙ l .inv .long
 
 returns-2 : tie.Need-returns-2 Inv-loop μ-loop
-returns-2 c = let a = c .before .before .before .before .before .before .before .before .before .before .before .before .before .args in let l = c .before .before .before .before .before .before .before .before .loop in let x = c .before .before .before .before .before .before .step in run-end (a .self) (a .log .now) (l .now) (l .log) (l .inv) (x .result) (x .ensures .0) (x .last .1 .0) (x .ensures .1) (sym (c .before .before .before .before .before .before .before .before .before .before .sound .ensures) ∙ not-false _ (c .before .before .before .before .before .before .before .before .before .if1 .left)) (not-true _ (c .before .if2 .taken))
+returns-2 c = let a = c .before .before .before .before .before .before .before .before .before .before .before .before .args in let l = c .before .before .before .before .before .before .before .loop in let x = c .before .before .before .before .before .step in run-end (a .self) (a .log .now) (l .now) (l .log) (l .inv) (x .result) (x .ensures .0) (x .last .1 .0) (x .ensures .1) (sym (c .before .before .before .before .before .before .before .before .before .sound .ensures) ∙ not-false _ (c .before .before .before .before .before .before .before .before .if1 .left)) (c .before .if2 .taken)
 
 pub elect-spec : {M : Type 1} → statement M
 elect-spec =

@@ -1,0 +1,169 @@
+-- The two walks of an election step over the ballots of a sound record, each up to place n, behind which every ballot is none.
+--     votes-step                 a turn of the first, which gathers the votes
+--     won-by, won-nobody         who wins by them
+--     shape-here                 the ballot that the second walk is at
+--     lost-first, lost-rival, lost-keep      a turn of it: a ballot for the settled entry, for another, and none
+--     next-turn                  and what it leaves of the record
+--     lost-end                   after its last turn
+-- Assumes nothing.
+use mathlib.Core.Path.{_≡_, refl, sym, ap, ap₂, subst, _∙_}
+use mathlib.Core.Bool.{Bool, true}
+use mathlib.Core.List.{List, [], _∷_, map}
+use mathlib.Core.Option.{none, some}
+use Prim.Native.Nat.{ℕ, zero, suc, _+_, _-_, _<_, _≤_}
+use native.Mathlib.Omega.{arith}
+use lib.Dec.{ltb}
+use lib.ListN.{length, getD, drop, set, replicate, length-map, length-drop, length-replicate}
+use lib.Seq.{set-getD}
+use borrow.Author.Tests.{eqb-true}
+use Rattle.protocol.specs.Tests.{allB}
+use Rattle.protocol.specs.Entry.{isEntry}
+use Rattle.protocol.specs.Vote.{Votes, winner}
+use Rattle.protocol.specs.Office.{first, votes}
+use Rattle.protocol.specs.Elect.{lose}
+use Rattle.protocol.proofs.Tests.{both-0, both-1, all-at, all-getD, all-drop, all-mono, drop-map, getD-map}
+use Rattle.entries.proofs.Fill.{filled, front-step, fill-here, fill-rest}
+use Rattle.ballots.specs.Ballots.{tailOf, ballotOf, noBallot, offEnd, ballotShape, ballotFine, isNoBallot}
+use Rattle.ballots.specs.declared.Ballot.{Ballot}
+use Rattle.ballots.proofs.Laws as B
+use Rattle.tallies.specs.Tallies.{noVote, cast, voteIn, votesIn, winnerIs}
+use Rattle.tallies.specs.declared.Winner.{Winner}
+use Rattle.tallies.specs.declared.Winner.the-variants.{Entry, Nobody}
+use Rattle.tallies.proofs.Walks.{winner-some, winner-none}
+use Rattle.tallies.proofs.Cells.{vote-none, cast-vote, lost-for, lost-other, lost-none}
+use Rattle.frame.specs.State.{heldBy}
+use Rattle.frame.specs.Soundness.{Sound}
+use Rattle.frame.specs.Electing.{winnerOf}
+use Rattle.frame.specs.declared.Record.{Record}
+
+drop-replicate : {A : Type 0} (i n : ℕ) (a : A) → drop i (replicate n a) ≡ replicate (n - i) a
+drop-replicate zero n a = let e : n ≡ n - 0 = omega arith in ap (λ (k : ℕ). replicate k a) e
+drop-replicate (suc i) zero a = let e : 0 ≡ 0 - suc i = omega arith in ap (λ (k : ℕ). replicate k a) e
+drop-replicate (suc i) (suc n) a = let e : n - i ≡ suc n - suc i = omega arith in drop-replicate i n a ∙ ap (λ (k : ℕ). replicate k a) e
+
+-- ballots that are none cast no vote, and stay none when an entry is settled
+none-cast : (bs : List Ballot) → allB isNoBallot bs ≡ true → replicate (length bs) noVote ≡ map cast bs
+unfolding allB
+none-cast [] h = refl
+none-cast (b ∷ bs) h = ap₂ (λ (x : ℕ) (l : List ℕ). x ∷ l) (vote-none b (sym (eqb-true 0 (b .len) (both-0 _ _ h)))) (none-cast bs (both-1 _ _ h))
+
+-- "ballots starting with it lose that entry, all other ballots become none"
+abbrev pub lost : ℕ → Ballot → Ballot
+lost e b = ballotOf (lose e (tailOf b))
+
+none-lost : (n settled e : ℕ) (bs : List Ballot) → allB (ballotFine n settled) bs ≡ true → allB isNoBallot bs ≡ true → bs ≡ map (lost e) bs
+unfolding allB
+none-lost n settled e [] f h = refl
+none-lost n settled e (b ∷ bs) f h =
+    ap₂ (λ (x : Ballot) (l : List Ballot). x ∷ l)
+    (sym (B.held n settled b (B.fine n settled b (both-0 _ _ f))) ∙ ap ballotOf (lost-none e b (sym (eqb-true 0 (b .len) (both-0 _ _ h)))))
+    (none-lost n settled e bs (both-1 _ _ f) (both-1 _ _ h))
+
+lost-all : (e : ℕ) (bs : List Ballot) → map (lost e) bs ≡ map ballotOf (map (lose e) (map tailOf bs))
+lost-all e [] = refl
+lost-all e (b ∷ bs) = ap (λ (l : List Ballot). lost e b ∷ l) (lost-all e bs)
+
+-- after i turns of the first walk, and of the second
+abbrev pub Gathered : List Ballot → List ℕ → ℕ → Type 0
+Gathered bs vs i = vs ≡ filled (map cast bs) (replicate 8 noVote) i
+
+abbrev pub Settling : ℕ → List Ballot → List Ballot → ℕ → Type 0
+Settling e bs xs i = xs ≡ filled (map (lost e) bs) bs i
+
+-- the record with these ballots
+abbrev pub withBallots : Record → List Ballot → Record
+withBallots r bs = record { n = r .n; own = r .own; weights = r .weights; settled = r .settled; ballots = bs }
+
+-- a turn that makes xs of the ballots leaves the rest of the record
+pub next-turn : (r next out : Record) (e : ℕ) (bs : List Ballot) (k : ℕ) → next ≡ withBallots r (next .ballots) → (xs : List Ballot) → out ≡ withBallots next xs → Settling e bs xs k
+    → (out ≡ withBallots r (out .ballots)) × Settling e bs (out .ballots) k
+next-turn r next out e bs k p xs q s =
+    let made = q ∙ ap (λ (x : Record). withBallots x xs) p in
+    let same = ap (λ (x : Record). x .ballots) made in
+    (made ∙ ap (withBallots r) (sym same), same ∙ s)
+
+module _ (r : Record) (words : List ℕ) (S : Sound r words) where
+  -- ── the votes ──
+  pub votes-step : (vs : List ℕ) (i : ℕ) → Gathered (r .ballots) vs i → i < r .n → (v : ℕ) → v ≡ cast (getD (r .ballots) i offEnd) → Gathered (r .ballots) (set vs i v) (i + 1)
+  votes-step vs i inv h v q =
+      let m = S .head .most in
+      ap₂ (λ (l : List ℕ) (x : ℕ). set l i x) inv (q ∙ sym (getD-map cast offEnd (r .ballots) i)) ∙
+      front-step noVote (map cast (r .ballots)) (replicate 8 noVote) i (omega (arith, length-map (r .ballots) cast, S .eight)) (omega (arith, length-replicate {A = ℕ} 8 noVote))
+
+  votes-end : (vs : List ℕ) (i : ℕ) → Gathered (r .ballots) vs i → i ≡ r .n → vs ≡ map cast (r .ballots)
+  votes-end vs i inv e =
+      inv ∙ ap (filled (map cast (r .ballots)) (replicate 8 noVote)) e ∙
+      fill-rest (map cast (r .ballots)) (replicate 8 noVote) (r .n) (drop-replicate (r .n) 8 noVote ∙ ap (λ (k : ℕ). replicate k noVote) left ∙ none-cast (drop (r .n) (r .ballots)) (S .rest) ∙ sym (drop-map cast (r .n) (r .ballots)))
+    where
+      left : 8 - r .n ≡ length (drop (r .n) (r .ballots))
+      left = rw (length-drop, S .eight)
+
+  entries : allB (λ (b : Ballot). allB (isEntry (r .n)) (tailOf b)) (r .ballots) ≡ true
+  entries = all-mono (ballotFine (r .n) (r .settled)) (λ (b : Ballot). allB (isEntry (r .n)) (tailOf b)) (λ b f. B.fine (r .n) (r .settled) b f .entries) (r .ballots) (S .fine)
+
+  cast-votes : votesIn (map cast (r .ballots)) ≡ votes (heldBy r words)
+  unfolding allB
+  cast-votes = λ i k. same k i
+    where
+      same : (k : ℕ) → votesIn (map cast (r .ballots)) k ≡ votes (heldBy r words) k
+      same k =
+          ap voteIn (getD-map cast offEnd (r .ballots) k) ∙
+          cast-vote (r .n) (getD (r .ballots) k offEnd) (all-getD (λ (b : Ballot). allB (isEntry (r .n)) (tailOf b)) offEnd (r .ballots) k entries refl) ∙
+          ap first (sym (B.tail-at (r .ballots) k))
+
+  -- what the winner that is found by the gathered votes says
+  module _ (vs : List ℕ) (i : ℕ) (inv : Gathered (r .ballots) vs i) (e : i ≡ r .n) (w : Winner) (q : w ≡ winnerIs (winner (r .weights) ltb (votesIn vs))) where
+    winner-of : winnerIs (winnerOf r words) ≡ w
+    winner-of = sym (q ∙ ap (λ (v : Votes). winnerIs (winner (r .weights) ltb v)) (ap votesIn (votes-end vs i inv e) ∙ cast-votes))
+
+    pub won-by : (f : ℕ) → w ≡ Entry f → winnerOf r words ≡ some f
+    won-by f p = winner-some (winnerOf r words) f (winner-of ∙ p)
+
+    pub won-nobody : w ≡ Nobody → winnerOf r words ≡ none
+    won-nobody p = winner-none (winnerOf r words) (winner-of ∙ p)
+
+  -- ── the ballots when e is settled ──
+  module _ (e : ℕ) where
+    all-lost : length (map (lost e) (r .ballots)) ≡ 8
+    all-lost = length-map (r .ballots) (lost e) ∙ S .eight
+
+    module _ (bs : List Ballot) (i : ℕ) (inv : Settling e (r .ballots) bs i) (h : i < r .n) where
+      abbrev b : Ballot
+      b = getD (r .ballots) i offEnd
+
+      lost-here : getD bs i offEnd ≡ b
+      lost-here = let m = S .head .most in ap (λ (l : List Ballot). getD l i offEnd) inv ∙ fill-here offEnd (map (lost e) (r .ballots)) (r .ballots) i (omega (arith, all-lost)) (omega (arith, S .eight))
+
+      fine-here : ballotFine (r .n) (r .settled) (getD bs i offEnd) ≡ true
+      fine-here = let m = S .head .most in ap (ballotFine (r .n) (r .settled)) lost-here ∙ all-at (ballotFine (r .n) (r .settled)) offEnd (r .ballots) i (S .fine) (omega (arith, S .eight))
+
+      pub shape-here : ballotShape (getD bs i offEnd) ≡ true
+      unfolding ballotFine
+      shape-here = both-0 _ _ fine-here
+
+      cells-here : 0 < length (getD bs i offEnd .cells)
+      cells-here = omega (arith, B.fine (r .n) (r .settled) (getD bs i offEnd) fine-here .cells)
+
+      lost-write : (x : Ballot) → x ≡ lost e (getD bs i offEnd) → Settling e (r .ballots) (set bs i x) (i + 1)
+      lost-write x q =
+          let m = S .head .most in
+          ap₂ (λ (l : List Ballot) (y : Ballot). set l i y) inv (q ∙ ap (lost e) lost-here ∙ sym (getD-map (lost e) offEnd (r .ballots) i)) ∙
+          front-step noBallot (map (lost e) (r .ballots)) (r .ballots) i (omega (arith, all-lost)) (omega (arith, S .eight))
+
+      pub lost-first : 0 < getD bs i offEnd .len → (v : ℕ) → v ≡ cast (getD bs i offEnd) → v ≡ e → (x : Ballot) → x ≡ ballotOf (drop 1 (tailOf (getD bs i offEnd))) → Settling e (r .ballots) (set bs i x) (i + 1)
+      lost-first h v p q x t = lost-write x (t ∙ ap ballotOf (lost-for e (getD bs i offEnd) h cells-here (sym p ∙ q)))
+
+      pub lost-rival : 0 < getD bs i offEnd .len → (v : ℕ) → v ≡ cast (getD bs i offEnd) → (v ≡ e → ⊥) → (x : Ballot) → x ≡ noBallot → Settling e (r .ballots) (set bs i x) (i + 1)
+      lost-rival h v p q x t = lost-write x (t ∙ ap ballotOf (lost-other e (getD bs i offEnd) h cells-here (λ (c : cast (getD bs i offEnd) ≡ e). q (p ∙ c))))
+
+      pub lost-keep : getD bs i offEnd .len ≡ 0 → Settling e (r .ballots) bs (i + 1)
+      lost-keep q =
+          let x = getD bs i offEnd in
+          subst (λ (l : List Ballot). Settling e (r .ballots) l (i + 1)) (set-getD bs i offEnd)
+          (lost-write x (sym (B.held (r .n) (r .settled) x (B.fine (r .n) (r .settled) x fine-here)) ∙ ap ballotOf (lost-none e x q)))
+
+    pub lost-end : (bs : List Ballot) (i : ℕ) → Settling e (r .ballots) bs i → i ≡ r .n → bs ≡ map ballotOf (map (lose e) (map tailOf (r .ballots)))
+    lost-end bs i inv q =
+        inv ∙ ap (filled (map (lost e) (r .ballots)) (r .ballots)) q ∙
+        fill-rest (map (lost e) (r .ballots)) (r .ballots) (r .n) (none-lost (r .n) (r .settled) e (drop (r .n) (r .ballots)) (all-drop (ballotFine (r .n) (r .settled)) (r .n) (r .ballots) (S .fine)) (S .rest) ∙ sym (drop-map (lost e) (r .n) (r .ballots))) ∙
+        lost-all e (r .ballots)

@@ -1,0 +1,65 @@
+//! The second implementation's calls as C functions that take the record by value, as the engine's do: what the
+//! passing alone costs.
+
+use std::slice::{from_raw_parts, from_raw_parts_mut};
+
+use second::calls as plain;
+use second::record::Record;
+
+/// An answer that holds a record, laid out as the engine's.
+#[repr(C)]
+pub struct Answer {
+    number: u32,
+    count: usize,
+    record: Record,
+}
+
+impl Answer {
+    fn of((number, record): (u32, Record)) -> Answer {
+        Answer { number, count: 0, record }
+    }
+}
+
+// SAFETY of every function below: its pointers name as many elements as the number after them says, for as long as
+// the call lasts, and those that are written are lent to that call alone.
+
+#[inline(never)]
+pub unsafe extern "C" fn sound(record: Record, log: *const u32, words: usize) -> bool {
+    second::record::sound(&record, from_raw_parts(log, words))
+}
+
+#[inline(never)]
+pub unsafe extern "C" fn settled(record: Record, log: *const u32, words: usize) -> usize {
+    plain::settled(&record, from_raw_parts(log, words)).1.len()
+}
+
+#[inline(never)]
+pub unsafe extern "C" fn settled_frame(record: Record, log: *const u32, words: usize, line: u32) -> u32 {
+    plain::settled_frame(&record, from_raw_parts(log, words), line).1
+}
+
+#[inline(never)]
+pub unsafe extern "C" fn tentative_frame(record: Record, log: *const u32, words: usize, line: u32) -> u32 {
+    plain::tentative_frame(&record, from_raw_parts(log, words), line).1
+}
+
+#[inline(never)]
+pub unsafe extern "C" fn issue(record: Record, log: *const u32, words: usize, line: u32, code: u32) -> Answer {
+    Answer::of(plain::issue(record, from_raw_parts(log, words), line, code))
+}
+
+#[inline(never)]
+pub unsafe extern "C" fn send(record: Record, log: *const u32, words: usize, out: *mut u8, bytes: usize) -> usize {
+    second::message::send(&record, from_raw_parts(log, words), from_raw_parts_mut(out, bytes)).1
+}
+
+#[inline(never)]
+pub unsafe extern "C" fn elect(record: Record, log: *mut u32, words: usize) -> Answer {
+    let (number, count, record) = second::elect::elect(record, from_raw_parts_mut(log, words));
+    Answer { number, count, record }
+}
+
+#[inline(never)]
+pub unsafe extern "C" fn take(record: Record, log: *mut u32, words: usize, message: *const u8, bytes: usize) -> Answer {
+    Answer::of(second::take::take(record, from_raw_parts_mut(log, words), from_raw_parts(message, bytes)))
+}
