@@ -69,12 +69,10 @@ pub fn take_in(
 {
     let theirs = m.settled;
     let sender = m.sender;
-    let mut offers = m.ballots;
-    let from_sender = offers[sender];
-    offers[own] = from_sender;
+    let offers = m.ballots;
     let end = catch_up(log, settled, rest, theirs);
     let rebased = bring_past(ballots, &log[settled..end]);
-    let adopted = paths::adopt(rebased, offers, &log[theirs..end]);
+    let adopted = paths::adopt(rebased, offers, own, sender, &log[theirs..end]);
     Merged {
         settled: end,
         ballots: adopted,

@@ -6,7 +6,7 @@
 --     zeros-behind        the cells behind k filled ones
 --     tail-most, past-short, offer-short     what a tail leaves past words that are as long, and an offer that is too short to count
 --     fill-skip, past-at     a walk over the ballots that leaves one as it is, and one ballot of those past the words
---     adopted-at, adopted-length     one ballot of those that were offered another
+--     adopted-at, adopted-length     one ballot of those that were offered another; from-at whose offer that is
 -- Assumes nothing.
 use mathlib.Core.Path.{_≡_, refl, sym, ap, _∙_}
 use mathlib.Core.Bool.{Bool, true, false}
@@ -16,9 +16,9 @@ use native.Mathlib.Nat.{not-suc-le-zero, le-of-suc-le-suc}
 use native.Mathlib.Numerals.{add-one, unary-clauses}
 use native.Mathlib.Omega.{arith}
 use lib.Dec.{eqb}
-use lib.ListN.{length, getD, take, drop, replicate, drop-of-length-le, length-drop, length-take}
-use lib.Seq.{take-suc}
-use borrow.Author.Tests.{eq-eqb, ne-eqb}
+use lib.ListN.{length, getD, set, take, drop, replicate, drop-of-length-le, length-drop, length-take}
+use lib.Seq.{take-suc, getD-set-same, getD-set-other}
+use borrow.Author.Tests.{eq-eqb, ne-eqb, eqb-true, eqb-false}
 use Rattle.protocol.specs.Tests.{pick}
 use Rattle.protocol.specs.Beginning.{extends}
 use Rattle.protocol.proofs.Beginning.{⊏-length, extends-true}
@@ -148,3 +148,16 @@ adopted-at ws [] qs i h l = absurd (not-suc-le-zero h)
 adopted-at ws (b ∷ bs) [] i h l = absurd (not-suc-le-zero l)
 adopted-at ws (b ∷ bs) (q ∷ qs) zero h l = refl
 adopted-at ws (b ∷ bs) (q ∷ qs) (suc i) h l = adopted-at ws bs qs i (le-of-suc-le-suc h) (le-of-suc-le-suc l)
+
+-- the offer at a place, where the sender's stands at the own one
+pub from-at : (qs : List Ballot) (i own sender : ℕ) → i < length qs → (g : ℕ) → g ≡ pick (eqb i own) sender i → getD qs g offEnd ≡ getD (set qs own (getD qs sender offEnd)) i offEnd
+unfolding pick
+from-at qs i own sender h g q = go (eqb i own) refl
+  where
+    go : (t : Bool) → eqb i own ≡ t → getD qs g offEnd ≡ getD (set qs own (getD qs sender offEnd)) i offEnd
+    go true e =
+        let same = eqb-true i own e in
+        ap (λ (k : ℕ). getD qs k offEnd) (q ∙ ap (λ (t : Bool). pick t sender i) e) ∙
+        sym (ap (λ (k : ℕ). getD (set qs k (getD qs sender offEnd)) i offEnd) (sym same) ∙ getD-set-same qs i (getD qs sender offEnd) offEnd h)
+    go false e =
+        ap (λ (k : ℕ). getD qs k offEnd) (q ∙ ap (λ (t : Bool). pick t sender i) e) ∙ sym (getD-set-other qs own i (getD qs sender offEnd) offEnd (eqb-false i own e))

@@ -2,10 +2,12 @@
 // log is longer, so that no path is ever put together.
 ghost use mathlib.Core.Path.{_≡_};
 ghost use mathlib.Core.List.{map};
-ghost use Prim.Native.Nat.{_≤_};
-ghost use lib.ListN.{length};
+ghost use Prim.Native.Nat.{_≤_, _<_};
+ghost use lib.Dec.{eqb};
+ghost use lib.ListN.{length, getD, set};
+ghost use Rattle.protocol.specs.Tests.{pick};
 ghost use Rattle.protocol.specs.Beginning.{extends};
-ghost use Rattle.ballots.specs.Ballots.{tailOf, ballotOf};
+ghost use Rattle.ballots.specs.Ballots.{tailOf, ballotOf, offEnd};
 ghost use Rattle.paths.specs.Paths.{pastBallot, longerBallot, adopted};
 use ballots::Ballot;
 
@@ -107,17 +109,34 @@ pub fn rebase(ballots: [Ballot; 8], words: &[u32]) -> [Ballot; 8]
     next
 }
 
-// Every ballot after its offer, which stands beside a log that is shorter by the words. An offer that is not longer than
-// the words leaves the ballot.
-pub fn adopt(ballots: [Ballot; 8], offers: [Ballot; 8], words: &[u32]) -> [Ballot; 8]
-    ensures { λ r. ⌜ r ≡ adopted (now (words .entry)) ballots offers ⌝ }
+// Whose offer a place has: at the own place the sender's.
+fn from(i: usize, own: usize, sender: usize) -> usize
+    requires { ⌜ (i < 8) × (sender < 8) ⌝ }
+    ensures { λ r. ⌜ (r ≡ pick (eqb i own) sender i) × (r < 8) ⌝ }
+{
+    if i == own { sender } else { i }
+}
+
+// Every ballot after its offer, which stands beside a log that is shorter by the words: the offer of its own office, and at the own
+// place the sender's. An offer that is not longer than the words leaves the ballot. Public only for the crate above, which proves that
+// the sender has a place.
+pub fn adopt(
+    ballots: [Ballot; 8],
+    offers: [Ballot; 8],
+    own: usize,
+    sender: usize,
+    words: &[u32],
+) -> [Ballot; 8]
+    requires { ⌜ sender < 8 ⌝ }
+    ensures { λ r. ⌜ r ≡ adopted (now (words .entry)) ballots (set offers own (getD offers sender offEnd)) ⌝ }
 {
     let mut next = ballots;
     for i in 0..8 {
-        let len = offers[i].len;
+        let giver = from(i, own, sender);
+        let len = offers[giver].len;
         if len > words.len() {
             let b = ballots[i];
-            let offer = offers[i];
+            let offer = offers[giver];
             next[i] = offered(b, offer, words);
         }
     }

@@ -22,19 +22,19 @@ const LOG: u16 = 1024;
 
 // What the records after the head say: the ballots. The settled entries stay in the message.
 pub struct Records {
-    pub ok: bool,
     pub ballots: [Ballot; 8],
+    pub ok: bool,
 }
 
 // What a message says. Its settled entries stay in it, six bytes each after the head.
 pub struct Reading {
-    pub ok: bool,
     pub sender: usize,
     pub n: usize,
     pub weights: [u16; 8],
     pub settled: usize,
     pub head: usize,
     pub ballots: [Ballot; 8],
+    pub ok: bool,
 }
 
 // Whether k log records of entries under n offices stand at the start.

@@ -19,9 +19,9 @@ pub struct LogStep {
 
 // An office's ballot, and the position after it.
 pub struct BallotStep {
-    pub ok: bool,
     pub next: usize,
     pub ballot: Ballot,
+    pub ok: bool,
 }
 
 // The end, and the position after it.
