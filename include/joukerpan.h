@@ -73,14 +73,15 @@ typedef struct {
     uint16_t of[JOUKERPAN_OFFICES];
 } joukerpan_weights;
 
+/* The answers. A record stands in front of the number, so that it is copied from a whole word on. */
 typedef struct {
-    uint32_t number;
     joukerpan_record record;  /* all zero where the founding is refused */
+    uint32_t number;
 } joukerpan_founded;
 
 typedef struct {
-    uint32_t number;
     joukerpan_record record;
+    uint32_t number;
 } joukerpan_issued;
 
 typedef struct {
@@ -94,9 +95,9 @@ typedef struct {
 } joukerpan_framed;
 
 typedef struct {
+    joukerpan_record record;
     uint32_t number;
     size_t count;  /* entries settled; 0 where none won, and where refused */
-    joukerpan_record record;
 } joukerpan_elected;
 
 typedef struct {
@@ -105,8 +106,8 @@ typedef struct {
 } joukerpan_sent;
 
 typedef struct {
-    uint32_t number;
     joukerpan_record record;
+    uint32_t number;
 } joukerpan_taken;
 
 /* A fresh record: an empty log and no ballots. Refused: 1 (log size alone), 2. */
@@ -169,20 +170,20 @@ JOUKERPAN_ASSERT(offsetof(joukerpan_record, settled) == 32, "joukerpan_record: s
 JOUKERPAN_ASSERT(offsetof(joukerpan_record, ballots) == 40, "joukerpan_record: ballots");
 JOUKERPAN_ASSERT(sizeof(joukerpan_weights) == 16, "joukerpan_weights: size");
 JOUKERPAN_ASSERT(sizeof(joukerpan_founded) == 1136, "joukerpan_founded: size");
-JOUKERPAN_ASSERT(offsetof(joukerpan_founded, record) == 8, "joukerpan_founded: record");
+JOUKERPAN_ASSERT(offsetof(joukerpan_founded, number) == 1128, "joukerpan_founded: number");
 JOUKERPAN_ASSERT(sizeof(joukerpan_issued) == 1136, "joukerpan_issued: size");
-JOUKERPAN_ASSERT(offsetof(joukerpan_issued, record) == 8, "joukerpan_issued: record");
+JOUKERPAN_ASSERT(offsetof(joukerpan_issued, number) == 1128, "joukerpan_issued: number");
 JOUKERPAN_ASSERT(sizeof(joukerpan_part) == 16, "joukerpan_part: size");
 JOUKERPAN_ASSERT(offsetof(joukerpan_part, length) == 8, "joukerpan_part: length");
 JOUKERPAN_ASSERT(sizeof(joukerpan_framed) == 8, "joukerpan_framed: size");
 JOUKERPAN_ASSERT(offsetof(joukerpan_framed, code) == 4, "joukerpan_framed: code");
 JOUKERPAN_ASSERT(sizeof(joukerpan_elected) == 1144, "joukerpan_elected: size");
-JOUKERPAN_ASSERT(offsetof(joukerpan_elected, count) == 8, "joukerpan_elected: count");
-JOUKERPAN_ASSERT(offsetof(joukerpan_elected, record) == 16, "joukerpan_elected: record");
+JOUKERPAN_ASSERT(offsetof(joukerpan_elected, number) == 1128, "joukerpan_elected: number");
+JOUKERPAN_ASSERT(offsetof(joukerpan_elected, count) == 1136, "joukerpan_elected: count");
 JOUKERPAN_ASSERT(sizeof(joukerpan_sent) == 16, "joukerpan_sent: size");
 JOUKERPAN_ASSERT(offsetof(joukerpan_sent, length) == 8, "joukerpan_sent: length");
 JOUKERPAN_ASSERT(sizeof(joukerpan_taken) == 1136, "joukerpan_taken: size");
-JOUKERPAN_ASSERT(offsetof(joukerpan_taken, record) == 8, "joukerpan_taken: record");
+JOUKERPAN_ASSERT(offsetof(joukerpan_taken, number) == 1128, "joukerpan_taken: number");
 
 #undef JOUKERPAN_ASSERT
 

@@ -1,5 +1,5 @@
 // An office's record, and the calls of the shared coding frame on it. A call takes the record by value and its log as a lent slice;
-// its answer has the paper's number in front, 0 when it is done.
+// its answer has the paper's number, 0 when it is done, behind the next record where there is one.
 use ballots::Ballot;
 
 pub mod electing;

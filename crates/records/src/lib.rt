@@ -6,8 +6,8 @@ ghost use mathlib.Core.Path.{_≡_};
 ghost use Prim.Native.Nat.{_+_, _*_, _≤_};
 ghost use lib.ListN.{length, drop};
 ghost use Rattle.ballots.specs.Ballots.{ballotOf};
-ghost use Rattle.spelling.specs.Numbers.{be32, runAt, runOk};
-ghost use Rattle.spelling.specs.Reading.{valueHere, recordHere, recordAt, ballotNext, endOk};
+ghost use Rattle.spelling.specs.Numbers.{be32, runAt};
+ghost use Rattle.spelling.specs.Reading.{recordHere, recordAt, ballotNext, endOk};
 ghost use Rattle.records.specs.Steps.{badLog, logAt, entryAt, badBallot, ballotAt, endAt};
 
 // A log record, and the position after it.
@@ -102,33 +102,6 @@ pub fn entry_at(s: &[u8], at: usize) -> LogStep
     }
 }
 
-// Whether the value of an entry under n offices stands at a position.
-fn value_here(s: &[u8], at: usize, n: usize) -> bool
-    requires { ⌜ at ≤ length (now s) ⌝ }
-    ensures { λ r. ⌜ r ≡ valueHere n (drop at (now (s .entry))) ⌝ }
-{
-    if s.len() - at < 4 {
-        return false;
-    }
-    entries::is_entry(be32_at(s, at), n)
-}
-
-// Whether k such values stand at a position.
-fn values_ok(s: &[u8], from: usize, n: usize, k: usize) -> bool
-    requires { ⌜ from ≤ length (now s) ⌝ }
-    ensures { λ r. ⌜ r ≡ runOk 4 (valueHere n) k (drop from (now (s .entry))) ⌝ }
-{
-    let mut at = from;
-    for i in 0..k {
-        if value_here(s, at, n) {
-            at += 4;
-        } else {
-            return false;
-        }
-    }
-    true
-}
-
 // The k values at a position, as a ballot's cells.
 fn values_at(s: &[u8], from: usize, k: usize) -> [u32; 32]
     requires { ⌜ (k ≤ 32) × (from + 4 * k ≤ length (now s)) ⌝ }
@@ -189,8 +162,11 @@ pub fn ballot_at(s: &[u8], at: usize, n: usize, k: usize, o: usize) -> BallotSte
         if k > Ballot::PATH - len {
             return bad_ballot();
         }
-        if values_ok(s, at + 4, n, len) {
-            let cells = values_at(s, at + 4, len);
+        if s.len() - (at + 4) < 4 * len {
+            return bad_ballot();
+        }
+        let cells = values_at(s, at + 4, len);
+        if entries::all_entries(&cells[..len], n) {
             let ballot = Ballot { len, cells };
             BallotStep {
                 ok: true,

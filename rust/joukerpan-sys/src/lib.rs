@@ -59,20 +59,20 @@ pub struct Weights {
 #[repr(C)]
 #[derive(Clone, Copy, Debug, PartialEq, Eq)]
 pub struct Founded {
-    /// 0, or the refusal's number.
-    pub number: u32,
     /// The fresh record.
     pub record: Record,
+    /// 0, or the refusal's number.
+    pub number: u32,
 }
 
 /// Issue's answer.
 #[repr(C)]
 #[derive(Clone, Copy, Debug, PartialEq, Eq)]
 pub struct Issued {
-    /// 0, or the refusal's number.
-    pub number: u32,
     /// The next record; the one handed in where the call is refused.
     pub record: Record,
+    /// 0, or the refusal's number.
+    pub number: u32,
 }
 
 /// Settled's answer.
@@ -99,12 +99,12 @@ pub struct Framed {
 #[repr(C)]
 #[derive(Clone, Copy, Debug, PartialEq, Eq)]
 pub struct Elected {
+    /// The next record; the one handed in where the call is refused.
+    pub record: Record,
     /// 0, or the refusal's number.
     pub number: u32,
     /// Entries settled; 0 where the call is refused.
     pub count: usize,
-    /// The next record; the one handed in where the call is refused.
-    pub record: Record,
 }
 
 /// Send's answer.
@@ -121,10 +121,10 @@ pub struct Sent {
 #[repr(C)]
 #[derive(Clone, Copy, Debug, PartialEq, Eq)]
 pub struct Taken {
-    /// 0, or the refusal's number.
-    pub number: u32,
     /// The next record; the one handed in where the call is refused.
     pub record: Record,
+    /// 0, or the refusal's number.
+    pub number: u32,
 }
 
 // Each function asks what C asks: a pointer is aligned, not null, and names as many elements as the
@@ -173,11 +173,11 @@ const _: () = {
     assert!(offset_of!(Record, own) == 8 && offset_of!(Record, weights) == 16);
     assert!(offset_of!(Record, settled) == 32 && offset_of!(Record, ballots) == 40);
     assert!(size_of::<Weights>() == 16 && align_of::<Weights>() == 2);
-    assert!(size_of::<Founded>() == 1136 && offset_of!(Founded, record) == 8);
-    assert!(size_of::<Issued>() == 1136 && offset_of!(Issued, record) == 8);
+    assert!(size_of::<Founded>() == 1136 && offset_of!(Founded, number) == 1128);
+    assert!(size_of::<Issued>() == 1136 && offset_of!(Issued, number) == 1128);
     assert!(size_of::<Part>() == 16 && offset_of!(Part, length) == 8);
     assert!(size_of::<Framed>() == 8 && offset_of!(Framed, code) == 4);
-    assert!(size_of::<Elected>() == 1144 && offset_of!(Elected, count) == 8 && offset_of!(Elected, record) == 16);
+    assert!(size_of::<Elected>() == 1144 && offset_of!(Elected, number) == 1128 && offset_of!(Elected, count) == 1136);
     assert!(size_of::<Sent>() == 16 && offset_of!(Sent, length) == 8);
-    assert!(size_of::<Taken>() == 1136 && offset_of!(Taken, record) == 8);
+    assert!(size_of::<Taken>() == 1136 && offset_of!(Taken, number) == 1128);
 };
