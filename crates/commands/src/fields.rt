@@ -23,7 +23,7 @@ fn no_more() -> More
     }
 }
 
-// The numbers of the fields from `at` on; there is no field past the line's end.
+// The numbers of the fields from `start` on; there is no field past the line's end.
 pub fn more_of(bytes: &[u8], start: usize) -> More
     ensures { λ r. ⌜ r ≡ moreOf (fieldsFrom (now (bytes .entry)) start) ⌝ }
 {

@@ -52,12 +52,14 @@ fn no_line() -> Line
     }
 }
 
+// A number as a place.
 fn place(x: u16) -> usize
     ensures { λ r. ⌜ r ≡ x ⌝ }
 {
     x as usize
 }
 
+// A number, wider.
 fn wide(x: u16) -> u32
     ensures { λ r. ⌜ r ≡ x ⌝ }
 {

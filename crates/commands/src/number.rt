@@ -7,6 +7,7 @@ pub enum Number {
     Not,
 }
 
+// A byte, wider.
 fn wide(x: u8) -> u32
     ensures { λ r. ⌜ r ≡ x ⌝ }
 {

@@ -84,9 +84,6 @@ module _ (r : Record) (o : Office) (words : List ℕ) (H : Head (r .n) (r .own) 
     rest = rw (drop-map ballotOf (r .n) (o .tails)) (all-map isEmpty isNoBallot ballotOf B.empty-none (drop (r .n) (o .tails)) (F .rest));
   }
 
-  pub sound-true-of : soundB (holding r o) (wordsWith (o .log) words) ≡ true
-  sound-true-of = sound-true (holding r o) (wordsWith (o .log) words) sound-of
-
 -- ── soundness in two halves: the shape of the record and its words, and the protocol's limits of the state that they hold ──
 unfoldable pub shaped : Record → List ℕ → Bool
 shaped r words =

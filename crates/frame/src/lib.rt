@@ -7,8 +7,8 @@ pub mod founding;
 pub mod frames;
 pub mod issuing;
 pub mod sending;
-pub mod settling;
-pub mod soundness;
+mod settling;
+mod soundness;
 pub mod taking;
 
 // n offices with their weights, the own office, the settled length and each office's ballot. The settled entries are the log's first words.

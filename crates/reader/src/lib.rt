@@ -21,7 +21,7 @@ const OFFICES: usize = 8;
 const LOG: u16 = 1024;
 
 // What the records after the head say: the ballots. The settled entries stay in the message.
-pub struct Records {
+struct Records {
     pub ballots: [Ballot; 8],
     pub ok: bool,
 }

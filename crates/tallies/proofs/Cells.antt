@@ -6,16 +6,15 @@
 --     lost-for, lost-other, lost-none      what is left of a ballot when an entry is settled, by its vote
 -- Assumes nothing.
 use mathlib.Core.Path.{_≡_, refl, sym, ap, ap₂, _∙_}
-use mathlib.Core.Bool.{true, false}
+use mathlib.Core.Bool.{true}
 use mathlib.Core.List.{List, [], _∷_, _++_, append-assoc}
 use Prim.Native.Nat.{ℕ, zero, suc, _+_, _-_, _<_, _≤_}
 use native.Mathlib.Nat.{not-suc-le-zero}
 use native.Mathlib.Omega.{arith}
-use lib.Dec.{eqb}
 use lib.ListN.{length, getD, take, drop, set, replicate, length-drop, length-replicate, take-append-drop, replicate-append-replicate}
 use lib.Seq.{length-take-le, take-all, getD-drop}
 use borrow.Author.Tests.{eqb-true, leb-true, eq-eqb, ne-eqb}
-use Rattle.protocol.specs.Tests.{allB, both}
+use Rattle.protocol.specs.Tests.{allB}
 use Rattle.protocol.specs.Entry.{isEntry, codeOf}
 use Rattle.protocol.specs.Office.{first}
 use Rattle.protocol.specs.Elect.{lose}

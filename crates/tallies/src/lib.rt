@@ -62,14 +62,7 @@ fn is_above(a: u32, b: u32, entry: u32, other: u32) -> bool
 }
 
 // Whether the entry, with its weight te and the unheard weight u, beats the one that is voted for, if that is another.
-fn beats_vote(
-    votes: [u32; 8],
-    weights: [u16; 8],
-    te: u32,
-    u: u32,
-    entry: u32,
-    vote: u32,
-) -> bool
+fn beats_vote(votes: [u32; 8], weights: [u16; 8], te: u32, u: u32, entry: u32, vote: u32) -> bool
     requires { ⌜ (te ≡ tally weights (votesIn votes) entry) × (u ≡ unheard weights (votesIn votes)) × (u ≤ 524280) ⌝ }
     ensures { λ r. ⌜ r ≡ beatsVote weights (votesIn votes) entry (voteIn vote) ⌝ }
 {

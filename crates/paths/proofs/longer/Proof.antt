@@ -1,10 +1,8 @@
 -- The lent parts of the cells are the two tails.
 use native.Mathlib.Omega.{arith}
 use mathlib.Core.Path.{_≡_, sym, _∙_}
-use Prim.Native.Nat.{_-_}
 use lib.ListN.{length}
 use lib.Seq.{length-take-le}
-use Rattle.protocol.specs.Beginning.{extends}
 use Rattle.paths.proofs.Walks.{longer-yes, longer-no}
 use borrow.Author.Needs.{needs}
 use Rattle.paths.proofs.longer.Statement.{statement}

@@ -1,11 +1,9 @@
 -- The lent part of the cells is the tail; where it extends the words, the cells from there on are held anew.
 use native.Mathlib.Omega.{arith}
 use mathlib.Core.Path.{_≡_, sym, _∙_}
-use Prim.Native.Nat.{_-_}
 use lib.ListN.{length, length-take, length-drop}
 use lib.Seq.{length-take-le}
 use borrow.Author.Tests.{not-true, not-false}
-use Rattle.protocol.specs.Beginning.{extends}
 use Rattle.paths.proofs.Walks.{past-none, past-some, past-room}
 use borrow.Author.Needs.{needs}
 use Rattle.paths.proofs.past.Statement.{statement}

@@ -5,7 +5,7 @@ use Prim.Native.Nat.{_-_, _≤_}
 use lib.Dec.{ltb}
 use lib.ListN.{length, drop}
 use borrow.Author.Needs.{needs}
-use Rattle.protocol.specs.Vote.{supported, unheard, firstWinner, winner}
+use Rattle.protocol.specs.Vote.{supported, firstWinner, winner}
 use Rattle.tallies.specs.Tallies.{winnerIs, noVote, votesIn}
 use Rattle.tallies.proofs.Walks.{votesFrom, weight-none, winner-next, winner-stop, winner-done}
 use Rattle.tallies.proofs.find_winner.Statement.{statement}

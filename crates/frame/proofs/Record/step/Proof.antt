@@ -1,7 +1,7 @@
 -- Two walks up to place n: the first gathers the votes, by which nobody wins and nothing changes, or the winner is written behind the
 -- settled log, where a sound record has room, and the second makes of every ballot what the winner leaves of it.
 use native.Mathlib.Omega.{arith}
-use mathlib.Core.Path.{_≡_, refl, ap, _∙_}
+use mathlib.Core.Path.{_≡_, refl, _∙_}
 use mathlib.Core.Logic.{⊎-elim}
 use Prim.Native.Nat.{_+_, _-_, _≤_}
 use lib.ListN.{set}
