@@ -203,7 +203,7 @@ pub fn read(msg: &[u8]) -> Reading
 }
 
 // Whether the first k words of a log are the values of the first k log records. Public only for the crate above, which proves that
-// there are as many of both, here and below.
+// there are as many of both, here and below. So every record is there, but a walk that ends where one is not runs faster.
 pub fn same_log(log: &[u32], rest: &[u8], k: usize) -> bool
     requires { ⌜ (k ≤ length (now log)) × (6 * k ≤ length (now rest)) ⌝ }
     ensures { λ r. ⌜ r ≡ begins (take k (now (log .entry))) (runAt 6 recordAt k (now (rest .entry))) ⌝ }
@@ -211,6 +211,10 @@ pub fn same_log(log: &[u32], rest: &[u8], k: usize) -> bool
     let mut at: usize = 0;
     for i in 0..k {
         let step = read_entry(rest, at);
+        let ok = step.ok;
+        if !ok {
+            return false;
+        }
         if log[i] != step.value {
             return false;
         }

@@ -125,5 +125,9 @@ module _ (at : ℕ) (s : List ℕ) where
   end-bad e = rw e
 
 -- what the step of a log record says where there is room for it
-pub entry-step : (at : ℕ) (s : List ℕ) (r : LogStep) → at + 6 ≤ length s → r ≡ entryAt at s → (r .value ≡ recordAt (drop at s)) × (r .next ≡ at + 6)
-entry-step at s r h e = (ap (λ (x : LogStep). x .value) (e ∙ sym (entry-good at s h)), ap (λ (x : LogStep). x .next) (e ∙ sym (entry-good at s h)))
+module _ (at : ℕ) (s : List ℕ) (r : LogStep) (h : at + 6 ≤ length s) (e : r ≡ entryAt at s) where
+  pub entry-step : (r .value ≡ recordAt (drop at s)) × (r .next ≡ at + 6)
+  entry-step = (ap (λ (x : LogStep). x .value) (e ∙ sym (entry-good at s h)), ap (λ (x : LogStep). x .next) (e ∙ sym (entry-good at s h)))
+
+  pub entry-there : r .ok ≡ true
+  entry-there = ap (λ (x : LogStep). x .ok) (e ∙ sym (entry-good at s h))
