@@ -1,5 +1,5 @@
 -- The two walks of an election step over the ballots of a sound record, each up to place n, behind which every ballot is none.
---     votes-step                 a turn of the first, which gathers the votes
+--     votes-step                 a turn of the first, which gathers the votes; votes-silent there are none from place n on
 --     won-by, won-nobody         who wins by them
 --     shape-here                 the ballot that the second walk is at
 --     lost-first, lost-rival, lost-keep      a turn of it: a ballot for the settled entry, for another, and none
@@ -12,7 +12,7 @@ use mathlib.Core.List.{List, [], _∷_, map}
 use mathlib.Core.Option.{none, some}
 use Prim.Native.Nat.{ℕ, zero, suc, _+_, _-_, _<_}
 use native.Mathlib.Omega.{arith}
-use lib.Dec.{ltb}
+use lib.Dec.{ltb, eqb}
 use lib.ListN.{length, getD, drop, set, replicate, length-map, length-drop, length-replicate}
 use lib.Seq.{set-getD}
 use borrow.Author.Tests.{eqb-true}
@@ -21,12 +21,12 @@ use Rattle.protocol.specs.Entry.{isEntry}
 use Rattle.protocol.specs.Vote.{Votes, winner}
 use Rattle.protocol.specs.Office.{first, votes}
 use Rattle.protocol.specs.Elect.{lose}
-use Rattle.protocol.proofs.Tests.{both-0, both-1, all-at, all-getD, all-drop, all-mono, drop-map, getD-map}
+use Rattle.protocol.proofs.Tests.{both-0, both-1, both-true, all-at, all-getD, all-drop, all-mono, drop-map, getD-map}
 use Rattle.entries.proofs.Fill.{filled, front-step, fill-here, fill-rest}
 use Rattle.ballots.specs.Ballots.{tailOf, ballotOf, noBallot, offEnd, ballotShape, ballotFine, isNoBallot}
 use Rattle.ballots.specs.declared.Ballot.{Ballot}
 use Rattle.ballots.proofs.Laws as B
-use Rattle.tallies.specs.Tallies.{noVote, cast, voteIn, votesIn, winnerIs}
+use Rattle.tallies.specs.Tallies.{noVote, cast, voteIn, votesIn, SilentFrom, winnerIs}
 use Rattle.tallies.specs.declared.Winner.{Winner}
 use Rattle.tallies.specs.declared.Winner.the-variants.{Entry, Nobody}
 use Rattle.tallies.proofs.Walks.{winner-some, winner-none}
@@ -46,6 +46,11 @@ none-cast : (bs : List Ballot) → allB isNoBallot bs ≡ true → replicate (le
 unfolding allB
 none-cast [] h = refl
 none-cast (b ∷ bs) h = ap₂ (λ (x : ℕ) (l : List ℕ). x ∷ l) (vote-none b (sym (eqb-true 0 (b .len) (both-0 _ _ h)))) (none-cast bs (both-1 _ _ h))
+
+all-silent : (k : ℕ) → allB (eqb noVote) (replicate k noVote) ≡ true
+unfolding allB
+all-silent zero = refl
+all-silent (suc k) = both-true (eqb noVote noVote) (allB (eqb noVote) (replicate k noVote)) refl (all-silent k)
 
 -- "ballots starting with it lose that entry, all other ballots become none"
 abbrev pub lost : ℕ → Ballot → Ballot
@@ -97,6 +102,14 @@ module _ (r : Record) (words : List ℕ) (S : Sound r words) where
     where
       left : 8 - r .n ≡ length (drop (r .n) (r .ballots))
       left = rw (length-drop, S .eight)
+
+  -- the votes from place n on
+  pub votes-silent : (vs : List ℕ) (i : ℕ) → Gathered (r .ballots) vs i → i ≡ r .n → SilentFrom (r .n) vs
+  votes-silent vs i inv e = (
+    S .head .most,
+    ap (λ (l : List ℕ). allB (eqb noVote) (drop (r .n) l)) (votes-end vs i inv e) ∙
+    ap (allB (eqb noVote)) (drop-map cast (r .n) (r .ballots) ∙ sym (none-cast (drop (r .n) (r .ballots)) (S .rest))) ∙ all-silent (length (drop (r .n) (r .ballots))),
+  )
 
   entries : allB (λ (b : Ballot). allB (isEntry (r .n)) (tailOf b)) (r .ballots) ≡ true
   entries = all-mono (ballotFine (r .n) (r .settled)) (λ (b : Ballot). allB (isEntry (r .n)) (tailOf b)) (λ b f. B.fine (r .n) (r .settled) b f .entries) (r .ballots) (S .fine)

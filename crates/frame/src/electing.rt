@@ -30,7 +30,7 @@ impl Record {
             let b = next.ballots[i];
             votes[i] = tallies::vote(b);
         }
-        let w = tallies::find_winner(votes, weights);
+        let w = tallies::find_winner(votes, weights, n);
         match w {
             Winner::Nobody => next,
             Winner::Entry(e) => {

@@ -16,9 +16,11 @@ use native.Mathlib.Omega.{arith}
 use lib.Dec.{ltb, eqb}
 use lib.ListN.{length, getD, drop, drop-of-length-le}
 use Rattle.protocol.specs.Vote.{Votes, isFor, isNone, tally, unheard, and-also, supported, beats, beatsAll, wins, firstWinner}
+use Rattle.protocol.specs.Tests.{allB}
+use Rattle.protocol.proofs.Tests.{both-0, both-1}
 use Rattle.entries.proofs.Walk.{rest-step}
 use borrow.Author.Tests.{eq-eqb, ne-eqb, eqb-true, eqb-false, le-ltb, lt-ltb}
-use Rattle.tallies.specs.Tallies.{above, winnerIs, noVote, voteIn, votesIn, weightFor, beatsVote, voteWins}
+use Rattle.tallies.specs.Tallies.{above, winnerIs, noVote, voteIn, votesIn, SilentFrom, weightFor, beatsVote, voteWins}
 use Rattle.tallies.specs.declared.Winner.{Winner}
 use Rattle.tallies.specs.declared.Winner.the-variants.{Entry, Nobody}
 
@@ -92,9 +94,17 @@ supported-step : (xs ws : List ℕ) (i : ℕ) → i < length xs → i < length w
 unfolding supported
 supported-step xs ws i hx hw = from-step supported xs ws i hx hw
 
-supported-end : (xs ws : List ℕ) (i : ℕ) → length ws ≤ i → supported (drop i ws) (votesFrom i xs) ≡ []
-unfolding supported
-supported-end xs ws i h = ap (λ (w : List ℕ). supported w (votesFrom i xs)) (drop-of-length-le ws h)
+-- where all votes are none
+silent-none : (ws xs : List ℕ) → allB (eqb noVote) xs ≡ true → supported ws (votesIn xs) ≡ []
+unfolding supported allB
+silent-none [] xs h = refl
+silent-none (w ∷ ws) [] h = silent-none ws [] h
+silent-none (w ∷ ws) (x ∷ xs) h =
+    let e : eqb x noVote ≡ true = eq-eqb x noVote (sym (eqb-true noVote x (both-0 _ _ h))) in
+    ap (λ (b : Bool). and-also (cond b none (some x)) (supported ws (votesIn xs))) e ∙ silent-none ws xs (both-1 _ _ h)
+
+supported-end : (xs ws : List ℕ) (n i : ℕ) → SilentFrom n xs → i ≡ n → supported (drop i ws) (votesFrom i xs) ≡ []
+supported-end xs ws n i h e = silent-none (drop i ws) (drop i xs) (ap (λ (k : ℕ). allB (eqb noVote) (drop k xs)) e ∙ h .1)
 
 -- an entry against one vote and those behind it
 beats-also : (ws : List ℕ) (v : Votes) (e : ℕ) (x : Option ℕ) (fs : List ℕ) → beatsAll ws ltb v e (and-also x fs) ≡ (beatsVote ws v e x && beatsAll ws ltb v e fs)
@@ -136,8 +146,8 @@ module _ (all : Bool) (e : ℕ) (v : Votes) (vs xs ws : List ℕ) (i : ℕ) (inv
   pub beats-stop : i < length xs → i < length ws → (t : Bool) → t ≡ beatsVote vs v e (voteIn (getD xs i 0)) → t ≡ false → false ≡ all
   beats-stop hx hw t q p = sym (beats-step hx hw t q ∙ ap (λ (b : Bool). b && behind) p)
 
-  pub beats-done : length ws ≤ i → true ≡ all
-  beats-done h = sym (inv ∙ ap (beatsAll vs ltb v e) (supported-end xs ws i h))
+  pub beats-done : (n : ℕ) → SilentFrom n xs → i ≡ n → true ≡ all
+  beats-done n h q = sym (inv ∙ ap (beatsAll vs ltb v e) (supported-end xs ws n i h q))
 
 -- ── the winner ──
 -- whether a vote wins: none does not, and an entry by its T and U, and by all others
@@ -187,8 +197,8 @@ module _ (who : Winner) (v : Votes) (vs xs ws : List ℕ) (i : ℕ) (inv : who �
       sym (winner-step hx hw ∙ ap (λ (x : Option ℕ). winnerIs (firstWinner vs ltb v (and-also x rest))) q ∙
       ap (λ (b : Bool). winnerIs (cond b (some e) (firstWinner vs ltb v rest))) (sym (ap (voteWins vs v) q) ∙ p))
 
-  pub winner-done : length ws ≤ i → Nobody ≡ who
-  winner-done h = sym (inv ∙ ap (λ (fs : List ℕ). winnerIs (firstWinner vs ltb v fs)) (supported-end xs ws i h))
+  pub winner-done : (n : ℕ) → SilentFrom n xs → i ≡ n → Nobody ≡ who
+  winner-done n h q = sym (inv ∙ ap (λ (fs : List ℕ). winnerIs (firstWinner vs ltb v fs)) (supported-end xs ws n i h q))
 
 -- what the two answers say of the winner
 pub winner-some : (x : Option ℕ) (e : ℕ) → winnerIs x ≡ Entry e → x ≡ some e

@@ -1,10 +1,12 @@
 -- The votes that eight ballots cast, as words, and the answer of an election step by the paper's rule. Assumes nothing.
-use Prim.Native.Nat.{ℕ}
-use mathlib.Core.Bool.{Bool, false, _&&_, _||_, cond}
+use Prim.Native.Nat.{ℕ, _≤_}
+use mathlib.Core.Path.{_≡_}
+use mathlib.Core.Bool.{Bool, true, false, _&&_, _||_, cond}
 use mathlib.Core.List.{List, []}
 use mathlib.Core.Option.{Option, none, some}
 use lib.Dec.{ltb, eqb}
-use lib.ListN.{getD}
+use lib.ListN.{getD, drop}
+use Rattle.protocol.specs.Tests.{allB}
 use Rattle.protocol.specs.Vote.{Votes, tally, unheard, and-also, beatsAll, wins}
 use Rattle.protocol.specs.Office.{first}
 use Rattle.ballots.specs.Ballots.{tailOf}
@@ -35,6 +37,10 @@ voteIn x = cond (eqb x noVote) none (some x)
 
 abbrev pub votesIn : List ℕ → Votes
 votesIn xs k = voteIn (getD xs k noVote)
+
+-- the offices from place n on, of eight, cast no vote
+abbrev pub SilentFrom : ℕ → List ℕ → Type 0
+SilentFrom n xs = (n ≤ 8) × (allB (eqb noVote) (drop n xs) ≡ true)
 
 -- T of an entry, U of the word for no vote
 abbrev pub weightFor : List ℕ → Votes → ℕ → ℕ

@@ -7,7 +7,7 @@ ghost use lib.Dec.{ltb};
 ghost use lib.ListN.{drop};
 ghost use Rattle.protocol.specs.Vote.{tally, unheard, supported, beatsAll, winner};
 ghost use Rattle.ballots.specs.Ballots.{tailOf, ballotOf, ballotShape};
-ghost use Rattle.tallies.specs.Tallies.{winnerIs, cast, voteIn, votesIn, weightFor, above, beatsVote, voteWins};
+ghost use Rattle.tallies.specs.Tallies.{winnerIs, cast, voteIn, votesIn, SilentFrom, weightFor, above, beatsVote, voteWins};
 use ballots::Ballot;
 
 // Who wins an election step.
@@ -76,12 +76,13 @@ fn beats_vote(votes: [u32; 8], weights: [u16; 8], te: u32, u: u32, entry: u32, v
     is_above(te, t + u, entry, vote)
 }
 
-// Whether it beats every other supported entry.
-fn beats_all(votes: [u32; 8], weights: [u16; 8], te: u32, u: u32, entry: u32) -> bool
-    requires { ⌜ (te ≡ tally weights (votesIn votes) entry) × (u ≡ unheard weights (votesIn votes)) × (u ≤ 524280) ⌝ }
+// Whether it beats every other supported entry. The votes are walked to n, here and below: a walk of known length is unrolled, and
+// slower.
+fn beats_all(votes: [u32; 8], weights: [u16; 8], n: usize, te: u32, u: u32, entry: u32) -> bool
+    requires { ⌜ SilentFrom n votes × (te ≡ tally weights (votesIn votes) entry) × (u ≡ unheard weights (votesIn votes)) × (u ≤ 524280) ⌝ }
     ensures { λ r. ⌜ r ≡ beatsAll weights ltb (votesIn votes) entry (supported weights (votesIn votes)) ⌝ }
 {
-    for i in 0..8 {
+    for i in 0..n {
         let vote = votes[i];
         if !beats_vote(votes, weights, te, u, entry, vote) {
             return false;
@@ -91,8 +92,8 @@ fn beats_all(votes: [u32; 8], weights: [u16; 8], te: u32, u: u32, entry: u32) ->
 }
 
 // Whether the entry that is voted for wins, with the unheard weight u.
-fn vote_wins(votes: [u32; 8], weights: [u16; 8], u: u32, vote: u32) -> bool
-    requires { ⌜ (u ≡ unheard weights (votesIn votes)) × (u ≤ 524280) ⌝ }
+fn vote_wins(votes: [u32; 8], weights: [u16; 8], n: usize, u: u32, vote: u32) -> bool
+    requires { ⌜ SilentFrom n votes × (u ≡ unheard weights (votesIn votes)) × (u ≤ 524280) ⌝ }
     ensures { λ r. ⌜ r ≡ voteWins weights (votesIn votes) (voteIn vote) ⌝ }
 {
     if vote == NO_VOTE {
@@ -102,17 +103,18 @@ fn vote_wins(votes: [u32; 8], weights: [u16; 8], u: u32, vote: u32) -> bool
     if te <= u {
         return false;
     }
-    beats_all(votes, weights, te, u, vote)
+    beats_all(votes, weights, n, te, u, vote)
 }
 
-// The entry that wins the step, if any.
-pub fn find_winner(votes: [u32; 8], weights: [u16; 8]) -> Winner
+// The entry that wins the step, if any. Public only for the crate above, which proves what it requires.
+pub fn find_winner(votes: [u32; 8], weights: [u16; 8], n: usize) -> Winner
+    requires { ⌜ SilentFrom n votes ⌝ }
     ensures { λ r. ⌜ r ≡ winnerIs (winner weights ltb (votesIn votes)) ⌝ }
 {
     let u = weight_for(votes, weights, NO_VOTE);
-    for i in 0..8 {
+    for i in 0..n {
         let vote = votes[i];
-        if vote_wins(votes, weights, u, vote) {
+        if vote_wins(votes, weights, n, u, vote) {
             return Winner::Entry(vote);
         }
     }

@@ -7,7 +7,7 @@ use Prim.Native.Nat.{_+_, _-_, _≤_}
 use lib.ListN.{set}
 use borrow.Author.Needs.{needs}
 use Rattle.frame.proofs.Elect.{winning, step-won, step-nobody}
-use Rattle.frame.proofs.Steps.{Gathered, Settling, withBallots, votes-step, won-by, won-nobody, shape-here, lost-first, lost-rival, lost-keep, next-turn, lost-end}
+use Rattle.frame.proofs.Steps.{Gathered, Settling, withBallots, votes-step, votes-silent, won-by, won-nobody, shape-here, lost-first, lost-rival, lost-keep, next-turn, lost-end}
 use Rattle.frame.proofs.Record.step.Statement.{statement}
 use Rattle.frame.proofs.Record.step.Tie as tie
 
@@ -40,6 +40,9 @@ array-write-votes c = let S = c .before .before .before .before .before .before 
 
 loop-again : tie.Need-loop-again Inv-loop μ-loop Inv-loop2 μ-loop2
 loop-again c = let s = c .before .before .before .before .before .before in let l = c .before .before .before .loop in (omega arith, votes-step (s .args .self) (s .args .log .now) (s .pre) (l .votes) (l .i) (l .inv .1) (omega arith) (c .vote .result) (c .vote .ensures))
+
+find-winner-requires : tie.Need-find-winner-requires Inv-loop μ-loop Inv-loop2 μ-loop2
+find-winner-requires c κs = let s = c .before .before .before .before in let l = c .before .loop in votes-silent (s .args .self) (s .args .log .now) (s .pre) (l .votes) (l .i) (l .inv .1) (omega arith)
 
 slice-write-log : tie.Need-slice-write-log Inv-loop μ-loop Inv-loop2 μ-loop2
 slice-write-log c = let s = c .before .before .before .before .before .before .before .before in let S = s .pre in let room = S .room in let h = winning (s .args .self) (s .args .log .now) S (c .before .w .given .0 .0) (won-by (s .args .self) (s .args .log .now) (s .pre) (c .before .before .before .before .before .loop .votes) (c .before .before .before .before .before .loop .i) (c .before .before .before .before .before .loop .inv .1) (omega arith) (c .before .before .before .find-winner .result) (c .before .before .before .find-winner .ensures) (c .before .w .given .0 .0) (c .before .w .given .1)) .1 in omega arith
@@ -110,7 +113,7 @@ step-spec =
     (λ c. search needs)
     (λ c. search needs)
     loop-again
-    (λ c κs. search needs)
+    find-winner-requires
     (λ c. search needs)
     (λ c. search needs)
     (λ c. search needs)
