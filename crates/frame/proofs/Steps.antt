@@ -108,7 +108,7 @@ module _ (r : Record) (words : List ℕ) (S : Sound r words) where
   votes-silent vs i inv e = (
     S .head .most,
     ap (λ (l : List ℕ). allB (eqb noVote) (drop (r .n) l)) (votes-end vs i inv e) ∙
-    ap (allB (eqb noVote)) (drop-map cast (r .n) (r .ballots) ∙ sym (none-cast (drop (r .n) (r .ballots)) (S .rest))) ∙ all-silent (length (drop (r .n) (r .ballots))),
+        ap (allB (eqb noVote)) (drop-map cast (r .n) (r .ballots) ∙ sym (none-cast (drop (r .n) (r .ballots)) (S .rest))) ∙ all-silent (length (drop (r .n) (r .ballots))),
   )
 
   entries : allB (λ (b : Ballot). allB (isEntry (r .n)) (tailOf b)) (r .ballots) ≡ true
