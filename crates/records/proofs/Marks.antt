@@ -1,5 +1,5 @@
 -- The tests of a mark and of a record, from the facts that the code finds: a record stands at a position, or it does not. Assumes nothing.
-use Prim.Native.Nat.{ℕ, _+_, _-_, _≤_, _<_}
+use Prim.Native.Nat.{ℕ, _+_, _-_, _*_, _≤_, _<_}
 use mathlib.Core.Bool.{Bool, false, true}
 use mathlib.Core.List.{List}
 use mathlib.Core.Option.{some}
@@ -12,7 +12,7 @@ use lib.Seq.{drop-drop, getD-drop}
 use borrow.Author.Tests.{eq-eqb, eqb-true, le-leb, leb-true, lt-leb}
 use Rattle.protocol.specs.Entry.{isEntry}
 use Rattle.protocol.specs.Tests.{both, pick}
-use Rattle.spelling.specs.Numbers.{be32}
+use Rattle.spelling.specs.Numbers.{be16, be32}
 use Rattle.spelling.specs.Reading.{ballotNext, endOk, recordAt, recordHere}
 use Rattle.protocol.proofs.Tests.{both-0, both-1}
 use Rattle.spelling.proofs.Ballots.{by-test}
@@ -49,6 +49,11 @@ module _ (k a b at : ℕ) (s : List ℕ) (x : Bool) (some : 1 ≤ k) where
   mark-no f = marked ∙ by-test _ (both (leb k (length s - at)) (both (eqb (getD s at 0) a) (both (eqb (getD s (at + 1) 0) b) x))) (λ e. absurd (f (mark-facts e))) (λ e. e)
 
 -- ---- a log record
+
+-- the mark as one number
+pub mark-number : (at : ℕ) (s : List ℕ) (v : ℕ) → v ≡ be16 (drop at s) → v ≡ getD s at 0 * 256 + getD s (at + 1) 0
+unfolding be16
+mark-number at s v e = e ∙ simp (getD-drop, add-zero)
 
 module _ (n at : ℕ) (s : List ℕ) where
   pub log-no : (Mark 6 0x4C 0x47 at s → ⊥) → false ≡ recordHere n (drop at s)

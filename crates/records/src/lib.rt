@@ -1,5 +1,6 @@
 // One record of a message, read at a position: a log record, an office's ballot, the end.
 use ballots::Ballot;
+use spelling::be16_at;
 use spelling::be32_at;
 use spelling::wide;
 ghost use mathlib.Core.Path.{_≡_};
@@ -48,10 +49,7 @@ fn record_here(s: &[u8], at: usize, n: usize) -> bool
     if at > s.len() - 6 {
         return false;
     }
-    if s[at] != 0x4C {
-        return false;
-    }
-    if s[at + 1] != 0x47 {
+    if be16_at(s, at) != 0x4C47 {
         return false;
     }
     entries::is_entry(be32_at(s, at + 2), n)
