@@ -12,7 +12,7 @@ use native.Mathlib.Omega.{arith}
 use lib.Dec.{eqb}
 use lib.ListN.{length, take, drop, replicate}
 use lib.Seq.{take-append-seam, take-at}
-use borrow.Author.Tests.{eqb-true}
+use borrow.Author.Tests.{eqb-true, ne-eqb}
 use Rattle.protocol.specs.Tests.{pick}
 use Rattle.protocol.specs.Beginning.{begins}
 use Rattle.protocol.specs.Office.{Office, Message}
@@ -44,7 +44,7 @@ number-is r words s = refl
 -- ── the record after a call ──
 pub take-keeps : (r : Record) (words s : List ℕ) → (takeOf r words s .number ≡ 0 → ⊥) → (takeOf r words s .«record» ≡ r) × (takeWords r words s ≡ words)
 take-keeps r words s h =
-    let e = take-refused r words s (takeNumber r words s) refl (λ q. h (number-is r words s ∙ q)) in
+    let e = take-refused r words s (takeNumber r words s) refl (ne-eqb _ 0 (λ q. h (number-is r words s ∙ q))) _ refl in
     (ap (λ t. t .«record») (sym (e .0)), sym (e .1))
 
 -- an accepted message says a content; of bytes it is valid

@@ -6,6 +6,7 @@ pub mod Issue
 pub mod Places
 pub mod Promise
 pub mod Send
+pub mod Shown
 pub mod Sound
 pub mod State
 pub mod Steps

@@ -11,7 +11,7 @@ use native.Mathlib.Omega.{arith}
 use lib.Dec.{eqb, leb}
 use lib.ListN.{length}
 use lib.Seq.{getD-set-same}
-use borrow.Author.Tests.{eq-eqb, le-leb, eqb-true, eqb-false}
+use borrow.Author.Tests.{eq-eqb, eqb-true, eqb-false}
 use Rattle.protocol.specs.Tests.{pick}
 use Rattle.protocol.specs.Entry.{value, lineOf, codeOf}
 use Rattle.protocol.specs.Office.{Office, tail, path}
@@ -20,12 +20,13 @@ use Rattle.protocol.specs.Frames.{lastCode}
 use Rattle.protocol.proofs.Limits as Limits
 use Rattle.entries.proofs.Walk.{last-append}
 use Rattle.frame.specs.State.{heldBy}
-use Rattle.frame.specs.Soundness.{soundB, Sound}
+use Rattle.frame.specs.Soundness.{soundB}
 use Rattle.frame.specs.Issuing.{issueOf}
 use Rattle.frame.specs.Frames.{frameOf, settledFrameOf, tentativeFrameOf}
 use Rattle.frame.specs.declared.Record.{Record}
 use Rattle.frame.specs.declared.frames.Framed.{Framed}
 use Rattle.frame.proofs.Sound.{sound-true}
+use Rattle.frame.proofs.Shown.{frame-done}
 use Rattle.frame.proofs.State.{held-fine}
 use Rattle.frame.proofs.Issue.{issue-made, issue-sound, issue-state, issue-keeps}
 
@@ -41,10 +42,6 @@ last-issued office line code p l c =
     last-append line 0 p (value office line code ∷ []) ∙
     ap (λ (b : Bool). pick b (codeOf (value office line code)) (lastCode line 0 p)) (eq-eqb (lineOf (value office line code)) line here) ∙ shown
 
-frame-done : (r : Record) (words : List ℕ) (line : ℕ) (p : List ℕ) → Sound r words → line ≤ 63 → frameOf r words line p ≡ record { number = 0; code = lastCode line 0 p }
-unfolding frameOf pick
-frame-done r words line p S l = rw (sound-true r words S, le-leb line 63 l)
-
 pub edit-shows : (r : Record) (words : List ℕ) (line code : ℕ) → issueOf r words line code .number ≡ 0
     → tentativeFrameOf (issueOf r words line code .«record») words line ≡ record { number = 0; code = code }
 edit-shows r words line code q =
@@ -58,8 +55,7 @@ edit-shows r words line code q =
     let own : r' .own ≡ r .own = ap (λ (x : Record). x .own) (D .made) in
     let shown : path (heldBy r' words) (r' .own) ≡ path (heldBy r words) (r .own) ++ (e ∷ []) =
     ap₂ path (issue-state r words line code q) own ∙ own-path (r .own) e (heldBy r words) (omega (arith, F .eight, H .member, H .most)) in
-    frame-done r' words line (path (heldBy r' words) (r' .own)) (issue-sound r words line code q) (I .line-ok) ∙
-    ap (λ (c : ℕ). record { number = 0; code = c }) (ap (lastCode line 0) shown ∙ last-issued (r .own) line code (path (heldBy r words) (r .own)) (I .line-ok) (I .code-ok))
+    sym (frame-done r' words line (path (heldBy r' words) (r' .own)) (issue-sound r words line code q) (I .line-ok) code (sym (ap (lastCode line 0) shown ∙ last-issued (r .own) line code (path (heldBy r words) (r .own)) (I .line-ok) (I .code-ok))))
 
 frame-same : (r r' : Record) (words : List ℕ) (line : ℕ) (p p' : List ℕ) → soundB r' words ≡ soundB r words → p' ≡ p → frameOf r' words line p' ≡ frameOf r words line p
 unfolding frameOf

@@ -1,6 +1,7 @@
 -- Take: each way out of the call, and what an accepted message is made into.
 --     take-refused                      a refused call changes nothing
---     not-sound, not-read, other-count, other-weights, from-self, apart, accepts      the call's number, as the code finds it
+--     Heard, Alike                      what the call's tests have found so far
+--     not-sound, bad-message, other-count, other-weights, from-self, apart, accepts      the call's number, as the code finds it
 --     Accepted, accepted                what a message is that the call accepts
 --     ready, take-made                  the work on such a message may be done, and is what the definition says
 -- Assumes nothing.
@@ -44,9 +45,9 @@ use Rattle.frame.proofs.Sound.{sound, sound-true}
 abbrev pub Takes : Record → List ℕ → List ℕ → Taken → List ℕ → Type 0
 Takes r words s answer words' = (answer ≡ takeOf r words s) × (words' ≡ takeWords r words s)
 
-pub take-refused : (r : Record) (words s : List ℕ) (x : ℕ) → takeNumber r words s ≡ x → (x ≡ 0 → ⊥) → Takes r words s (refusedWith x r) words
+pub take-refused : (r : Record) (words s : List ℕ) (x : ℕ) → takeNumber r words s ≡ x → eqb x 0 ≡ false → (answer : Taken) → answer ≡ refusedWith x r → Takes r words s answer words
 unfolding takeOf takeWords pick
-take-refused r words s x e n = let d = ne-eqb x 0 n in (simp (e, d), simp (e, d))
+take-refused r words s x e d answer q = (q ∙ simp (e, d), simp (e, d))
 
 -- ── what is read ──
 -- the fields of a reading are what the message says
@@ -181,54 +182,70 @@ module _ (k : ℕ) (c : Content) (o : Office) where
   unfolding refuseTake asMessage
   number-0 n e = rw (ne-eqb (c .sender) k n, e)
 
-module _ (r : Record) (words s : List ℕ) (S : Sound r words) (m : Reading) (is : m ≡ readingOf (reading s)) where
-  pub bad-message : m .ok ≡ false → takeNumber r words s ≡ 7
-  bad-message h = not-read r words s S (read-none (reading s) (sym (ap (λ (x : Reading). x .ok) is) ∙ h))
+-- a sound record, and what its message is read as
+pub record Heard (r : Record) (words s : List ℕ) (m : Reading) : Type 0 where
+  pub sounds : Sound r words
+  pub is : m ≡ readingOf (reading s)
+  pub ok : m .ok ≡ true
 
-  module _ (ok : m .ok ≡ true) where
-    found : (c : Content) × (reading s ≡ some c)
-    found = read-some (reading s) (sym (ap (λ (x : Reading). x .ok) is) ∙ ok)
+-- and the message has the record's offices and weights
+pub record Alike (r : Record) (words s : List ℕ) (m : Reading) : Type 0 where
+  pub heard : Heard r words s m
+  pub n : m .n ≡ r .n
+  pub weights : same (m .weights) (r .weights) ≡ true
 
-    abbrev c : Content
-    c = found .0
+pub bad-message : (r : Record) (words s : List ℕ) → Sound r words → (m : Reading) → m ≡ readingOf (reading s) → m .ok ≡ false → takeNumber r words s ≡ 7
+bad-message r words s S m is h = not-read r words s S (read-none (reading s) (sym (ap (λ (x : Reading). x .ok) is) ∙ h))
 
-    says-c : Says m c
-    says-c = says m (reading s) c is (found .1)
+module _ {r : Record} {words s : List ℕ} {m : Reading} (H : Heard r words s m) where
+  found : (c : Content) × (reading s ≡ some c)
+  found = read-some (reading s) (sym (ap (λ (x : Reading). x .ok) (H .is)) ∙ H .ok)
 
-    layout-c : Layout c
-    layout-c = layout s c (found .1)
+  abbrev c : Content
+  c = found .0
 
-    pub other-count : (m .n ≡ r .n → ⊥) → takeNumber r words s ≡ 8
-    other-count h = other r words s S c (found .1) (differ r c (λ e. h (says-c .n ∙ e)))
+  says-c : Says m c
+  says-c = says m (reading s) c (H .is) (found .1)
 
-    pub log-room : 6 * m .settled ≤ length s - m .head
-    log-room = omega (arith, reading-room s c (found .1), says-c .settled, says-c .head)
+  layout-c : Layout c
+  layout-c = layout s c (found .1)
 
-    pub head-room : m .head ≤ length s
-    head-room = omega (arith, reading-room s c (found .1), says-c .head)
+  pub other-count : (m .n ≡ r .n → ⊥) → takeNumber r words s ≡ 8
+  other-count h = other r words s (H .sounds) c (found .1) (differ r c (λ e. h (says-c .n ∙ e)))
 
-    module _ (n : m .n ≡ r .n) where
-      offices : (b : Bool) → same (m .weights) (r .weights) ≡ b → sameOffices r c ≡ b
-      offices b p = same-offices r c words S (layout-c .weights) (sym (says-c .n) ∙ n) b (ap (λ (ws : List ℕ). same ws (r .weights)) (sym (says-c .weights)) ∙ p)
+  pub log-room : 6 * m .settled ≤ length s - m .head
+  log-room = omega (arith, reading-room s c (found .1), says-c .settled, says-c .head)
 
-      pub other-weights : same (m .weights) (r .weights) ≡ false → takeNumber r words s ≡ 8
-      other-weights h = other r words s S c (found .1) (offices false h)
+  pub head-room : m .head ≤ length s
+  head-room = omega (arith, reading-room s c (found .1), says-c .head)
 
-      module _ (w : same (m .weights) (r .weights) ≡ true) where
-        number : takeNumber r words s ≡ refuseTake (r .own) (asMessage c) (heldBy r words)
-        number = like r words s S c (found .1) (offices true w)
+  offices : m .n ≡ r .n → (b : Bool) → same (m .weights) (r .weights) ≡ b → sameOffices r c ≡ b
+  offices n b p = same-offices r c words (H .sounds) (layout-c .weights) (sym (says-c .n) ∙ n) b (ap (λ (ws : List ℕ). same ws (r .weights)) (sym (says-c .weights)) ∙ p)
 
-        pub from-self : m .sender ≡ r .own → takeNumber r words s ≡ 9
-        from-self h = number ∙ number-9 (r .own) c (heldBy r words) (sym (says-c .sender) ∙ h)
+  pub other-weights : m .n ≡ r .n → same (m .weights) (r .weights) ≡ false → takeNumber r words s ≡ 8
+  other-weights n h = other r words s (H .sounds) c (found .1) (offices n false h)
 
-        compared : either (take (r .settled) words) (logIn m s) ≡ either (take (r .settled) words) (c .log)
-        compared = ap (either (take (r .settled) words)) (log-in m s c says-c (found .1))
+module _ {r : Record} {words s : List ℕ} {m : Reading} (A : Alike r words s m) where
+  abbrev d : Content
+  d = c (A .heard)
 
-        pub apart : (m .sender ≡ r .own → ⊥) → either (take (r .settled) words) (logIn m s) ≡ false → takeNumber r words s ≡ 10
-        apart h e = number ∙ number-10 (r .own) c (heldBy r words) (λ q. h (says-c .sender ∙ q)) (sym compared ∙ e)
+  sender-d : m .sender ≡ d .sender
+  sender-d = says-c (A .heard) .sender
 
-        pub accepts : (m .sender ≡ r .own → ⊥) → either (take (r .settled) words) (logIn m s) ≡ true → takeNumber r words s ≡ 0
-        accepts h e = number ∙ number-0 (r .own) c (heldBy r words) (λ q. h (says-c .sender ∙ q)) (sym compared ∙ e)
+  number : takeNumber r words s ≡ refuseTake (r .own) (asMessage d) (heldBy r words)
+  number = like r words s (A .heard .sounds) d (found (A .heard) .1) (offices (A .heard) (A .n) true (A .weights))
+
+  compared : either (take (r .settled) words) (logIn m s) ≡ either (take (r .settled) words) (d .log)
+  compared = ap (either (take (r .settled) words)) (log-in m s d (says-c (A .heard)) (found (A .heard) .1))
+
+  pub from-self : m .sender ≡ r .own → takeNumber r words s ≡ 9
+  from-self h = number ∙ number-9 (r .own) d (heldBy r words) (sym sender-d ∙ h)
+
+  pub apart : (m .sender ≡ r .own → ⊥) → either (take (r .settled) words) (logIn m s) ≡ false → takeNumber r words s ≡ 10
+  apart h e = number ∙ number-10 (r .own) d (heldBy r words) (λ q. h (sender-d ∙ q)) (sym compared ∙ e)
+
+  pub accepts : (m .sender ≡ r .own → ⊥) → either (take (r .settled) words) (logIn m s) ≡ true → takeNumber r words s ≡ 0
+  accepts h e = number ∙ number-0 (r .own) d (heldBy r words) (λ q. h (sender-d ∙ q)) (sym compared ∙ e)
 
 -- ── an accepted message ──
 pub record Accepted (r : Record) (words s : List ℕ) : Type 0 where

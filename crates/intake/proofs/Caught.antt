@@ -5,7 +5,7 @@
 --     Caught, caught                     what the settled log has before it is the message's, and what it lacked
 -- Assumes nothing.
 use mathlib.Core.Path.{_≡_, refl, sym, ap, subst, _∙_}
-use mathlib.Core.Bool.{Bool, true, false, _||_}
+use mathlib.Core.Bool.{Bool, true, false, _||_, or-comm}
 use mathlib.Core.Logic.{_⊎_, inl, inr}
 use mathlib.Core.List.{List, [], _++_, append-nil}
 use Prim.Native.Nat.{ℕ, _-_, _<_, _≤_}
@@ -42,12 +42,7 @@ either-shorter a b h = go (begins a b) refl (begins b a) refl
     go false p true q = sym (begins-of a b (not-shorter b a (begins-true b a q) h)) ∙ p
 
 pub either-longer : (a b : List ℕ) → length b ≤ length a → either a b ≡ begins b a
-either-longer a b h = go (begins a b) refl (begins b a) refl
-  where
-    go : (x : Bool) → begins a b ≡ x → (y : Bool) → begins b a ≡ y → (x || y) ≡ y
-    go false p y q = refl
-    go true p true q = refl
-    go true p false q = sym (begins-of b a (not-shorter a b (begins-true a b p) h)) ∙ q
+either-longer a b h = or-comm (begins a b) (begins b a) ∙ either-shorter b a h
 
 -- ── the message's log where it stands: k log records in the rest of the message ──
 module _ (log rest : List ℕ) (settled k : ℕ) (room : settled ≤ length log) where

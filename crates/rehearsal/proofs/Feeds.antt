@@ -8,24 +8,43 @@ use Rattle.lines.specs.Parts.{partLength}
 use Rattle.lines.specs.Held.{cut}
 use Rattle.lines.proofs.Feeding.{FeedRest, feed-next}
 use Rattle.lines.specs.Feeding.{Said}
+use Rattle.commands.specs.declared.Line.{Line}
+use Rattle.commands.specs.Command.{lineOf}
 use Rattle.answers.specs.Answer.{printedOf}
+use Rattle.stage.specs.declared.aims.Aim.{Aim}
+use Rattle.stage.specs.Aims.{aimOf}
 use Rattle.stage.specs.World.{World}
-use Rattle.rehearsal.specs.Lines.{Answered, sayLine}
-use Rattle.rehearsal.proofs.Says.{say-short}
+use Rattle.rehearsal.specs.Lines.{Answered, aimed, sayLine}
+use Rattle.rehearsal.proofs.Says.{say-short, says-as}
 
 pub record FeedsRest (w₀ : World) (h₀ s out₀ : List ℕ) (w : World) (h out : List ℕ) (at printed : ℕ) : Type 0 where
   pub rest : FeedRest sayLine w₀ h₀ s out₀ w h out at printed
   pub logs : length (w .logs) ≡ 8192
   pub slots : length (w .slots) ≡ 28128
 
--- the line that ends at `end`, with its answer x
-module _ (w₀ : World) (h₀ s out₀ : List ℕ) (w : World) (h out : List ℕ) (at printed : ℕ) (inv : FeedsRest w₀ h₀ s out₀ w h out at printed) (end : ℕ) (there : end ≡ at + partLength 10 (drop at s)) (x : Answered)
-    (says : sayLine w (cut (h ++ take (end - at) (drop at s))) ≡ record { world = x .world; printed = printedOf (x .answer) }) where
-  pub feeds-next : (h′ out′ : List ℕ) (printed′ : ℕ) → h′ ≡ [] → end < length s → printed′ ≡ printed + length (printedOf (x .answer)) → out′ ≡ sets out printed (printedOf (x .answer)) → length (x .world .logs) ≡ 8192 → length (x .world .slots) ≡ 28128 → FeedsRest w₀ h₀ s out₀ (x .world) h′ out′ (end + 1) printed′
-  feeds-next h′ out′ printed′ eh l ep eo lg sl =
-      let p : sayLine w (cut (h ++ take (end - at) (drop at s))) .printed ≡ printedOf (x .answer) = ap (λ (f : Said World). f .printed) says in
-      record {
-        rest = rw eh (feed-next sayLine w₀ h₀ s out₀ w h out at printed (inv .rest) end there (x .world) out′ printed′ l (sym (ap (λ (f : Said World). f .world) says)) (ep ∙ ap (λ (b : List ℕ). printed + length b) (sym p)) (eo ∙ ap (λ (b : List ℕ). sets out printed b) (sym p)) (say-short w (cut (h ++ take (end - at) (drop at s)))));
-        logs = lg;
-        slots = sl;
-      }
+-- the line that ends at `end`: what it says, and its aim
+pub record Aimed (w₀ : World) (h₀ s out₀ : List ℕ) (w : World) (h out : List ℕ) (at printed end : ℕ) (h′ : List ℕ) (line : Line) (a : Aim) : Type 0 where
+  pub inv : FeedsRest w₀ h₀ s out₀ w h out at printed
+  pub there : end ≡ at + partLength 10 (drop at s)
+  pub inside : end < length s
+  pub empty : h′ ≡ []
+  pub read : line ≡ lineOf (cut (h ++ take (end - at) (drop at s)))
+  pub aim : a ≡ aimOf (w .stage .offices) (line .parsed)
+
+-- and its answer x
+module _ {w₀ : World} {h₀ s out₀ : List ℕ} {w : World} {h out : List ℕ} {at printed end : ℕ} {h′ : List ℕ} {line : Line} {a : Aim} (A : Aimed w₀ h₀ s out₀ w h out at printed end h′ line a) (x : Answered) (e : x ≡ aimed w (line .weights) a) where
+  says : sayLine w (cut (h ++ take (end - at) (drop at s))) ≡ record { world = x .world; printed = printedOf (x .answer) }
+  says = says-as w _ line a (A .read) (A .aim) x e
+
+  printed-by : sayLine w (cut (h ++ take (end - at) (drop at s))) .printed ≡ printedOf (x .answer)
+  printed-by = ap (λ (f : Said World). f .printed) says
+
+  pub feeds-next : (out′ : List ℕ) (printed′ : ℕ) → printed′ ≡ printed + length (printedOf (x .answer)) → out′ ≡ sets out printed (printedOf (x .answer)) → length (x .world .logs) ≡ 8192 → length (x .world .slots) ≡ 28128
+      → FeedsRest w₀ h₀ s out₀ (x .world) h′ out′ (end + 1) printed′
+  feeds-next out′ printed′ ep eo lg sl = record {
+    rest =
+        rw (A .empty)
+        (feed-next sayLine w₀ h₀ s out₀ w h out at printed (A .inv .rest) end (A .there) (x .world) out′ printed′ (A .inside) (sym (ap (λ (f : Said World). f .world) says)) (ep ∙ ap (λ (b : List ℕ). printed + length b) (sym printed-by)) (eo ∙ ap (λ (b : List ℕ). sets out printed b) (sym printed-by)) (say-short w (cut (h ++ take (end - at) (drop at s)))));
+    logs = lg;
+    slots = sl;
+  }

@@ -1,6 +1,6 @@
 -- What a line says, put together from what the calls promise.
 --     say-short      an answer takes at most 65 bytes
---     say-found, say-turn, say-nobody      a line by its aim
+--     says-as, say-found, say-turn, say-nobody      a line by its aim
 -- Assumes nothing.
 use mathlib.Core.Path.{_≡_, refl}
 use mathlib.Core.List.{List, _++_}
@@ -71,27 +71,25 @@ lentAnswer w k size t words slots =
       answer = t .answer;
     }
 
--- what was read of a line, and its aim
-module _ (w : World) (bytes held : List ℕ) (line : Line) (a : Aim) (eh : held ≡ bytes) (el : line ≡ lineOf held) (ea : a ≡ aimOf (w .stage .offices) (line .parsed)) where
-  abbrev pub SaysAs : Answered → Type 0
-  SaysAs x = sayLine w bytes ≡ record { world = x .world; printed = printedOf (x .answer) }
+-- a line by its aim
+pub says-as : (w : World) (bytes : List ℕ) (line : Line) (a : Aim) → line ≡ lineOf bytes → a ≡ aimOf (w .stage .offices) (line .parsed) → (x : Answered) → x ≡ aimed w (line .weights) a
+    → sayLine w bytes ≡ record { world = x .world; printed = printedOf (x .answer) }
+unfolding sayLine answerLine
+says-as w bytes line a el ea x e = rw (e, ea, el)
 
-  say-as : (x : Answered) → x ≡ aimed w (line .weights) a → SaysAs x
-  unfolding sayLine answerLine
-  say-as x e = rw (e, ea, el, eh)
-
-  pub say-found : (n : ℕ) (f : Founding) → a ≡ Everyone n → f ≡ founded (w .stage) n (line .weights) (w .logs) → SaysAs (foundAnswer w f)
+module _ (w : World) (ws : List ℕ) (a : Aim) where
+  pub say-found : (n : ℕ) (f : Founding) → a ≡ Everyone n → f ≡ founded (w .stage) n ws (w .logs) → foundAnswer w f ≡ aimed w ws a
   unfolding aimed
-  say-found n f e ef = say-as (foundAnswer w f) (rw (ef, e))
+  say-found n f e ef = rw (ef, e)
 
   -- the office's log is lent from k * 1024 on for `size` words
   pub say-turn : (k : ℕ) (c : Command) (size : ℕ) (t : Turn) (words slots : List ℕ) → a ≡ At k c → size ≡ 1024 →
       t ≡ turnOf c (recordAt (w .stage) k) (w .stage .lengths) (take size (drop (k * 1024) (w .logs))) (w .slots) →
       words ≡ turnWords c (recordAt (w .stage) k) (w .stage .lengths) (take size (drop (k * 1024) (w .logs))) (w .slots) →
-      slots ≡ turnSlots c (recordAt (w .stage) k) (take size (drop (k * 1024) (w .logs))) (w .slots) → SaysAs (lentAnswer w k size t words slots)
+      slots ≡ turnSlots c (recordAt (w .stage) k) (take size (drop (k * 1024) (w .logs))) (w .slots) → lentAnswer w k size t words slots ≡ aimed w ws a
   unfolding aimed
-  say-turn k c size t words slots e es et ew el = say-as (lentAnswer w k size t words slots) (rw (et, ew, el, es, e))
+  say-turn k c size t words slots e es et ew el = rw (et, ew, el, es, e)
 
-  pub say-nobody : (x : Answer) → a ≡ Nobody → x ≡ question → SaysAs (record { world = w; answer = x })
+  pub say-nobody : (x : Answer) → a ≡ Nobody → x ≡ question → record { world = w; answer = x } ≡ aimed w ws a
   unfolding aimed
-  say-nobody x e ex = say-as (record { world = w; answer = x }) (rw (ex, e))
+  say-nobody x e ex = rw (ex, e)

@@ -34,8 +34,7 @@ returns c =
 
 pub print-spec : {M : Type 1} → statement M
 print-spec =
-    tie.close
-    (tie.spec (λ c κs. search needs) (λ c. search needs) (λ c. search needs)
+    tie.close (tie.spec (λ c κs. search needs) (λ c. search needs) (λ c. search needs)
     (λ c κs. (rw (c .before .within .ensures) (min-le-right (c .before .before .before .before .args .answer .count) 3), simp length-set (omega arith)))
     (λ c. room c .1) (λ c. omega (arith, room c, c .before .before .before .before .before .before .before .good .0 .0))
     (λ c. let put = c .before .before .put-all in length-set (put .last .0) (put .result) 10 ∙ room c .0) returns)

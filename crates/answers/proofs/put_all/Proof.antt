@@ -26,9 +26,8 @@ loop-again c =
 
 pub put-all-spec : {M : Type 1} → statement M
 put-all-spec =
-    tie.close
-    (tie.spec Inv-loop μ-loop
+    tie.close (tie.spec Inv-loop μ-loop
     (λ c. spaced-begins (take (c .before .args .count) (c .before .args .t4)) (c .before .args .out .now) (c .before .args .at)) (λ c. omega arith)
-    (λ c. omega arith) (λ c κs. let l = c .before .before .loop in omega (arith, l .inv .room, l .inv .left .long)) (λ c. search needs) (λ c. search needs)
-    loop-again (λ c. c .before .loop .inv .left .long)
+    (λ c. omega arith) (λ c κs. let l = c .before .before .loop in omega (arith, l .inv .room, l .inv .left .long)) (λ c. search needs)
+    (λ c. search needs) loop-again (λ c. c .before .loop .inv .left .long)
     (λ c. spaced-ends (c .before .loop .inv) (omega (arith, counted (c .before .before .before)))))

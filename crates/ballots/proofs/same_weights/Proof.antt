@@ -15,31 +15,22 @@ Inv-loop weights others i₀ i = (i ≤ 8) × (same weights others ≡ same (dro
 abbrev μ-loop : tie.MeasureT-loop
 μ-loop weights others i₀ i = 8 - i
 
+eight : (s : tie.Start Inv-loop μ-loop) → (length (s .args .t1) ≡ 8) × (length (s .args .t2) ≡ 8)
+eight s = (search needs, search needs)
+
 loop-holds : tie.Need-loop-holds Inv-loop μ-loop
 loop-holds c = (search needs, refl)
 
 returns : tie.Need-returns Inv-loop μ-loop
-returns c = let l = c .before .before .loop in let a = c .before .before .before .args in let h : length (a .t1) ≡ 8 = search needs in let k : length (a .t2) ≡ 8 = search needs in sym (l .inv .1 ∙ same-stop (a .t1) (a .t2) (l .i) (omega arith) (omega arith) (c .if1 .taken))
+returns c = let l = c .before .before .loop in let a = c .before .before .before .args in let h = eight (c .before .before .before) in sym (l .inv .1 ∙ same-stop (a .t1) (a .t2) (l .i) (omega arith) (omega arith) (c .if1 .taken))
 
 loop-again : tie.Need-loop-again Inv-loop μ-loop
-loop-again c = let l = c .before .before .loop in let a = c .before .before .before .args in let h : length (a .t1) ≡ 8 = search needs in let k : length (a .t2) ≡ 8 = search needs in (search needs, l .inv .1 ∙ same-next (a .t1) (a .t2) (l .i) (omega arith) (omega arith) (c .if1 .left))
+loop-again c = let l = c .before .before .loop in let a = c .before .before .before .args in let h = eight (c .before .before .before) in (search needs, l .inv .1 ∙ same-next (a .t1) (a .t2) (l .i) (omega arith) (omega arith) (c .if1 .left))
 
 returns-2 : tie.Need-returns-2 Inv-loop μ-loop
-returns-2 c = let l = c .before .loop in let a = c .before .before .args in let h : length (a .t1) ≡ 8 = search needs in let k : length (a .t2) ≡ 8 = search needs in sym (l .inv .1 ∙ same-done (a .t1) (a .t2) (l .i) (omega arith) (omega arith))
+returns-2 c = let l = c .before .loop in let a = c .before .before .args in let h = eight (c .before .before) in sym (l .inv .1 ∙ same-done (a .t1) (a .t2) (l .i) (omega arith) (omega arith))
 
 pub same-weights-spec : {M : Type 1} → statement M
 same-weights-spec =
-    tie.close
-    (tie.spec
-    Inv-loop
-    μ-loop
-    loop-holds
-    (λ c. search needs)
-    (λ c. search needs)
-    (λ c. search needs)
-    (λ c. search needs)
-    returns
-    (λ c. search needs)
-    (λ c. search needs)
-    loop-again
-    returns-2)
+    tie.close (tie.spec Inv-loop μ-loop loop-holds (λ c. search needs) (λ c. search needs) (λ c. search needs) (λ c. search needs) returns
+    (λ c. search needs) (λ c. search needs) loop-again returns-2)

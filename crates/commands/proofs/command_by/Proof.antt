@@ -29,6 +29,5 @@ returns-5 c = let a = c .before .before .before .before .args in rw (ne-eqb (a .
 
 pub command-by-spec : {M : Type 1} → statement M
 command-by-spec =
-    tie.close
-    (tie.spec (λ c κs. search needs) returns (λ c κs. search needs) returns-2 (λ c. search needs) (λ c κs. search needs) returns-3 (λ c. search needs)
-    (λ c. search needs) (λ c κs. search needs) returns-4 returns-5)
+    tie.close (tie.spec (λ c κs. search needs) returns (λ c κs. search needs) returns-2 (λ c. search needs) (λ c κs. search needs) returns-3
+    (λ c. search needs) (λ c. search needs) (λ c κs. search needs) returns-4 returns-5)

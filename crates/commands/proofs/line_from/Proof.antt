@@ -24,8 +24,7 @@ returns-2 c =
 
 pub line-from-spec : {M : Type 1} → statement M
 line-from-spec =
-    tie.close
-    (tie.spec (λ c κs. search needs) (λ c. search needs) (λ c. search needs)
+    tie.close (tie.spec (λ c κs. search needs) (λ c. search needs) (λ c. search needs)
     (λ c. omega (arith, part-within 32 (c .before .before .args .bytes .now) 2 (omega arith))) (λ c κs. search needs) (λ c. search needs)
     (λ c. search needs) (λ c κs. search needs) returns
     (λ c. omega (arith, part-within 32 (c .before .before .before .before .before .before .before .args .bytes .now) 2 (omega arith)))

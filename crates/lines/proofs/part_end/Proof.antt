@@ -38,5 +38,4 @@ returns-2 c =
 
 pub part-end-spec : {M : Type 1} → statement M
 part-end-spec =
-    tie.close
-    (tie.spec Inv-loop μ-loop (λ c. refl) (λ c. search needs) returns (λ c. search needs) (λ c. search needs) loop-again returns-2)
+    tie.close (tie.spec Inv-loop μ-loop (λ c. refl) (λ c. search needs) returns (λ c. search needs) (λ c. search needs) loop-again returns-2)

@@ -16,5 +16,4 @@ returns-3 : tie.Need-returns-3
 returns-3 c = let s = c .before .before .before .before in let a = s .args in c .is-above .ensures ∙ beats-other (a .weights) (votesIn (a .votes)) (a .entry) (a .vote) (a .te) (a .u) (c .before .weight-for .result) (s .pre .0) (s .pre .1) (c .before .weight-for .ensures .0) (c .before .before .before .if1 .left) (c .before .before .if2 .left)
 
 pub beats-vote-spec : {M : Type 1} → statement M
-beats-vote-spec =
-    tie.close (tie.spec returns returns-2 (λ c κs. search needs) (λ c. search needs) (λ c κs. search needs) returns-3)
+beats-vote-spec = tie.close (tie.spec returns returns-2 (λ c κs. search needs) (λ c. search needs) (λ c κs. search needs) returns-3)

@@ -20,5 +20,4 @@ returns-3 : tie.Need-returns-3
 returns-3 c = let s = c .before .before .before .before in let a = s .args in wins-beats (a .weights) (votesIn (a .votes)) (a .vote) (c .before .before .weight-for .result) (a .u) (c .before .before .before .if1 .left) (c .before .before .weight-for .ensures .0) (s .pre .1) (omega arith) (c .beats-all .result) (c .beats-all .ensures)
 
 pub vote-wins-spec : {M : Type 1} → statement M
-vote-wins-spec =
-    tie.close (tie.spec returns (λ c κs. search needs) returns-2 beats-all-requires returns-3)
+vote-wins-spec = tie.close (tie.spec returns (λ c κs. search needs) returns-2 beats-all-requires returns-3)

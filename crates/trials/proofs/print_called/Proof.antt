@@ -8,6 +8,5 @@ use Rattle.trials.proofs.print_called.Tie as tie
 
 pub print-called-spec : {M : Type 1} → statement M
 print-called-spec =
-    tie.close
-    (tie.spec (λ c κs. search needs) (λ c κs. search needs) (λ c. sym (length-take-le _ _ (omega arith)))
+    tie.close (tie.spec (λ c κs. search needs) (λ c κs. search needs) (λ c. sym (length-take-le _ _ (omega arith)))
     (λ c. sym (length-take-le _ _ (omega arith))) (λ c κs. search needs) (λ c κs. search needs) (λ c. search needs))

@@ -45,8 +45,7 @@ loop-again c =
 
 pub more-of-spec : {M : Type 1} → statement M
 more-of-spec =
-    tie.close
-    (tie.spec Inv-loop μ-loop (λ c. (search needs, refl)) (λ c κs. search needs) returns (λ c κs. search needs) (λ c. search needs)
+    tie.close (tie.spec Inv-loop μ-loop (λ c. (search needs, refl)) (λ c κs. search needs) returns (λ c κs. search needs) (λ c. search needs)
     (λ c. search needs)
     (λ c. omega (arith, part-within 32 (c .before .before .before .before .before .args .bytes .now) (c .before .before .before .loop .at) (omega arith)))
     (λ c κs. search needs) (λ c. search needs) (λ c. search needs) (λ c κs. search needs) returns-2 (λ c. search needs) (λ c. search needs)

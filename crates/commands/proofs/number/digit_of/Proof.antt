@@ -31,5 +31,4 @@ returns-4 c =
 
 pub digit-of-spec : {M : Type 1} → statement M
 digit-of-spec =
-    tie.close
-    (tie.spec returns returns-2 (λ c. search needs) (λ c κs. search needs) (λ c. search needs) returns-3 (λ c. search needs) returns-4)
+    tie.close (tie.spec returns returns-2 (λ c. search needs) (λ c κs. search needs) (λ c. search needs) returns-3 (λ c. search needs) returns-4)

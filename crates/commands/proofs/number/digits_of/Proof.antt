@@ -25,7 +25,6 @@ loop-again c = let l = c .before .before .before .before .before .before .loop i
 
 pub digits-of-spec : {M : Type 1} → statement M
 digits-of-spec =
-    tie.close
-    (tie.spec Inv-loop μ-loop (λ c. (refl, search needs, refl)) (λ c. search needs) (λ c κs. search needs) (λ c. search needs) (λ c. search needs)
-    returns (λ c. search needs) (λ c. search needs) loop-again
+    tie.close (tie.spec Inv-loop μ-loop (λ c. (refl, search needs, refl)) (λ c. search needs) (λ c κs. search needs) (λ c. search needs)
+    (λ c. search needs) returns (λ c. search needs) (λ c. search needs) loop-again
     (λ c. let l = c .before .loop in let s = c .before .before .before .args .field .now in sym (sym (l .inv .2) ∙ digits-end (l .so-far) s (l .i) (omega arith))))

@@ -21,6 +21,4 @@ unfolding settledOf settledNumber pick
 returns-2 c = let q = sym (c .before .before .sound .ensures) ∙ not-false _ (c .before .if1 .left) in (simp q, simp q)
 
 pub settled-spec : {M : Type 1} → statement M
-settled-spec =
-    tie.close
-    (tie.spec (λ c κs. search needs) (λ c. search needs) returns slice-aggregate-result-2 returns-2)
+settled-spec = tie.close (tie.spec (λ c κs. search needs) (λ c. search needs) returns slice-aggregate-result-2 returns-2)

@@ -3,9 +3,11 @@
 use native.Mathlib.Omega.{arith}
 use mathlib.Core.Path.{_≡_, refl, _∙_}
 use mathlib.Core.Logic.{⊎-elim}
+use mathlib.Core.Option.{some}
 use Prim.Native.Nat.{_+_, _-_, _≤_}
 use lib.ListN.{set}
 use borrow.Author.Needs.{needs}
+use Rattle.frame.specs.Electing.{winnerOf}
 use Rattle.frame.proofs.Elect.{winning, step-won, step-nobody}
 use Rattle.frame.proofs.Steps.{Gathered, Settling, withBallots, votes-step, votes-silent, won-by, won-nobody, shape-here, lost-first, lost-rival, lost-keep, next-turn, lost-end}
 use Rattle.frame.proofs.Record.step.Statement.{statement}
@@ -23,56 +25,28 @@ Inv-loop2 log next₀ n settled none e i₀ next i = (i ≤ n) × (next ≡ with
 abbrev μ-loop2 : tie.MeasureT-loop2
 μ-loop2 log next₀ n settled none e i₀ next i = n - i
 
-loop-holds : tie.Need-loop-holds Inv-loop μ-loop Inv-loop2 μ-loop2
-loop-holds c = (omega arith, refl)
+-- n is at most 8, in either walk
+few : (s : tie.Start Inv-loop μ-loop Inv-loop2 μ-loop2) → s .args .self .n ≤ 8
+few s = s .pre .head .most
 
-mul-b : tie.Need-mul-b Inv-loop μ-loop Inv-loop2 μ-loop2
-mul-b c = let S = c .before .before .before .before .pre in let m = S .head .most in omega arith
+few2 : (c : tie.In-loop2 Inv-loop μ-loop Inv-loop2 μ-loop2) → c .before .before .before .before .before .before .before .before .before .before .args .self .n ≤ 8
+few2 c = few (c .before .before .before .before .before .before .before .before .before .before)
 
-element-copy-out-b : tie.Need-element-copy-out-b Inv-loop μ-loop Inv-loop2 μ-loop2
-element-copy-out-b c = let S = c .before .before .before .before .pre in let m = S .head .most in omega arith
-
-mul-votes : tie.Need-mul-votes Inv-loop μ-loop Inv-loop2 μ-loop2
-mul-votes c = let S = c .before .before .before .before .before .before .pre in let m = S .head .most in omega arith
-
-array-write-votes : tie.Need-array-write-votes Inv-loop μ-loop Inv-loop2 μ-loop2
-array-write-votes c = let S = c .before .before .before .before .before .before .pre in let m = S .head .most in omega arith
+-- the gathered votes have a winner
+won : (c : tie.After-w Inv-loop μ-loop Inv-loop2 μ-loop2) → winnerOf (c .before .before .before .before .before .before .before .args .self) (c .before .before .before .before .before .before .before .args .log .now) ≡ some (c .w .given .0 .0)
+won c = let l = c .before .before .before .before .loop in won-by _ _ (c .before .before .before .before .before .before .before .pre) (l .votes) (l .i) (l .inv .1) (omega arith) _ (c .before .before .find-winner .ensures) _ (c .w .given .1)
 
 loop-again : tie.Need-loop-again Inv-loop μ-loop Inv-loop2 μ-loop2
-loop-again c = let s = c .before .before .before .before .before .before in let l = c .before .before .before .loop in (omega arith, votes-step (s .args .self) (s .args .log .now) (s .pre) (l .votes) (l .i) (l .inv .1) (omega arith) (c .vote .result) (c .vote .ensures))
+loop-again c = let l = c .before .before .before .loop in (omega arith, votes-step _ _ (c .before .before .before .before .before .before .pre) (l .votes) (l .i) (l .inv .1) (omega arith) _ (c .vote .ensures))
 
 find-winner-requires : tie.Need-find-winner-requires Inv-loop μ-loop Inv-loop2 μ-loop2
-find-winner-requires c κs = let s = c .before .before .before .before in let l = c .before .loop in votes-silent (s .args .self) (s .args .log .now) (s .pre) (l .votes) (l .i) (l .inv .1) (omega arith)
+find-winner-requires c κs = let l = c .before .loop in votes-silent _ _ (c .before .before .before .before .pre) (l .votes) (l .i) (l .inv .1) (omega arith)
 
 slice-write-log : tie.Need-slice-write-log Inv-loop μ-loop Inv-loop2 μ-loop2
-slice-write-log c = let s = c .before .before .before .before .before .before .before .before in let S = s .pre in let room = S .room in let h = winning (s .args .self) (s .args .log .now) S (c .before .w .given .0 .0) (won-by (s .args .self) (s .args .log .now) (s .pre) (c .before .before .before .before .before .loop .votes) (c .before .before .before .before .before .loop .i) (c .before .before .before .before .before .loop .inv .1) (omega arith) (c .before .before .before .find-winner .result) (c .before .before .before .find-winner .ensures) (c .before .w .given .0 .0) (c .before .w .given .1)) .1 in omega arith
-
-add-next : tie.Need-add-next Inv-loop μ-loop Inv-loop2 μ-loop2
-add-next c = let s = c .before .before .before .before .before .before .before .before in let m = s .pre .most in omega arith
-
-loop2-holds : tie.Need-loop2-holds Inv-loop μ-loop Inv-loop2 μ-loop2
-loop2-holds c = (omega arith, refl, refl)
-
-mul-b-2 : tie.Need-mul-b-2 Inv-loop μ-loop Inv-loop2 μ-loop2
-mul-b-2 c = let S = c .before .before .before .before .before .before .before .before .before .before .pre in let m = S .head .most in omega arith
-
-element-copy-out-b-2 : tie.Need-element-copy-out-b-2 Inv-loop μ-loop Inv-loop2 μ-loop2
-element-copy-out-b-2 c = let S = c .before .before .before .before .before .before .before .before .before .before .pre in let m = S .head .most in omega arith
-
-mul-t35 : tie.Need-mul-t35 Inv-loop μ-loop Inv-loop2 μ-loop2
-mul-t35 c = let S = c .before .before .before .before .before .before .before .before .before .before .before .before .before .before .before .before .pre in let m = S .head .most in omega arith
-
-element-set-from-next : tie.Need-element-set-from-next Inv-loop μ-loop Inv-loop2 μ-loop2
-element-set-from-next c = let S = c .before .before .before .before .before .before .before .before .before .before .before .before .before .before .before .before .pre in let m = S .head .most in omega arith
-
-mul-t39 : tie.Need-mul-t39 Inv-loop μ-loop Inv-loop2 μ-loop2
-mul-t39 c = let S = c .before .before .before .before .before .before .before .before .before .before .before .before .before .before .before .before .pre in let m = S .head .most in omega arith
-
-element-set-from-next-2 : tie.Need-element-set-from-next-2 Inv-loop μ-loop Inv-loop2 μ-loop2
-element-set-from-next-2 c = let S = c .before .before .before .before .before .before .before .before .before .before .before .before .before .before .before .before .pre in let m = S .head .most in omega arith
+slice-write-log c = let S = c .before .before .before .before .before .before .before .before .pre in let room = S .room in let h = winning _ _ S _ (won (c .before)) .1 in omega arith
 
 without-first-requires : tie.Need-without-first-requires Inv-loop μ-loop Inv-loop2 μ-loop2
-without-first-requires c κs = let s = c .before .before .before .before .before .before .before .before .before .before .before .before .before .before .before in let l = c .before .before .before .before .before .before .loop2 in (shape-here (s .args .self) (s .args .log .now) (s .pre) (c .before .before .before .before .before .before .before .before .w .given .0 .0) (l .next .ballots) (l .i) (l .inv .2) (omega arith), omega arith)
+without-first-requires c κs = let l = c .before .before .before .before .before .before .loop2 in (shape-here _ _ (c .before .before .before .before .before .before .before .before .before .before .before .before .before .before .before .pre) (c .before .before .before .before .before .before .before .before .w .given .0 .0) (l .next .ballots) (l .i) (l .inv .2) (omega arith), omega arith)
 
 loop2-again : tie.Need-loop2-again Inv-loop μ-loop Inv-loop2 μ-loop2
 loop2-again c =
@@ -91,47 +65,22 @@ loop2-again c =
     (c .if1 .came)
 
 returns : tie.Need-returns Inv-loop μ-loop Inv-loop2 μ-loop2
-returns c = let s = c .before .before .before .before .before .before .before in step-nobody (s .args .self) (s .args .log .now) (won-nobody (s .args .self) (s .args .log .now) (s .pre) (c .before .before .before .before .loop .votes) (c .before .before .before .before .loop .i) (c .before .before .before .before .loop .inv .1) (omega arith) (c .before .before .find-winner .result) (c .before .before .find-winner .ensures) (c .enum-told .given .1))
+returns c = let l = c .before .before .before .before .loop in step-nobody _ _ (won-nobody _ _ (c .before .before .before .before .before .before .before .pre) (l .votes) (l .i) (l .inv .1) (omega arith) _ (c .before .before .find-winner .ensures) (c .enum-told .given .1))
 
 returns-2 : tie.Need-returns-2 Inv-loop μ-loop Inv-loop2 μ-loop2
-returns-2 c = let s = c .before .before .before .before .before .before .before .before .before .before in let l = c .before .loop2 in let e = c .before .before .before .w .given .0 .0 in let w = won-by (s .args .self) (s .args .log .now) (s .pre) (c .before .before .before .before .before .before .before .loop .votes) (c .before .before .before .before .before .before .before .loop .i) (c .before .before .before .before .before .before .before .loop .inv .1) (omega arith) (c .before .before .before .before .before .find-winner .result) (c .before .before .before .before .before .find-winner .ensures) (c .before .before .before .w .given .0 .0) (c .before .before .before .w .given .1) in let m = step-won (s .args .self) (s .args .log .now) (s .pre) e w (l .next .ballots) (lost-end (s .args .self) (s .args .log .now) (s .pre) e (l .next .ballots) (l .i) (l .inv .2) (omega arith)) in (l .inv .1 ∙ m .0, m .1)
+returns-2 c = let S = c .before .before .before .before .before .before .before .before .before .before .pre in let l = c .before .loop2 in let m = step-won _ _ S _ (won (c .before .before .before)) (l .next .ballots) (lost-end _ _ S _ (l .next .ballots) (l .i) (l .inv .2) (omega arith)) in (l .inv .1 ∙ m .0, m .1)
 
 pub step-spec : {M : Type 1} → statement M
 step-spec =
-    tie.close
-    (tie.spec
-    Inv-loop
-    μ-loop
-    Inv-loop2
-    μ-loop2
-    loop-holds
-    mul-b
-    element-copy-out-b
-    (λ c κs. search needs)
-    mul-votes
-    array-write-votes
-    (λ c. search needs)
-    (λ c. search needs)
-    loop-again
-    find-winner-requires
-    (λ c. search needs)
-    (λ c. search needs)
-    (λ c. search needs)
-    slice-write-log
-    add-next
-    loop2-holds
-    mul-b-2
-    element-copy-out-b-2
-    (λ c κs. search needs)
-    without-first-requires
-    mul-t35
-    element-set-from-next
-    (λ c κs. search needs)
-    mul-t39
-    element-set-from-next-2
-    (λ c. search needs)
-    (λ c. search needs)
-    loop2-again
-    returns
-    (λ c. search needs)
-    returns-2)
+    tie.close (tie.spec Inv-loop μ-loop Inv-loop2 μ-loop2 (λ c. (omega arith, refl)) (λ c. omega (arith, few (c .before .before .before .before)))
+    (λ c. omega (arith, few (c .before .before .before .before))) (λ c κs. search needs)
+    (λ c. omega (arith, few (c .before .before .before .before .before .before)))
+    (λ c. omega (arith, few (c .before .before .before .before .before .before))) (λ c. search needs) (λ c. search needs) loop-again
+    find-winner-requires (λ c. search needs) (λ c. search needs) (λ c. search needs) slice-write-log
+    (λ c. omega (arith, c .before .before .before .before .before .before .before .before .pre .most)) (λ c. (omega arith, refl, refl))
+    (λ c. omega (arith, few2 c)) (λ c. omega (arith, few2 c)) (λ c κs. search needs) without-first-requires
+    (λ c. omega (arith, few2 (c .before .before .before .before .before .before)))
+    (λ c. omega (arith, few2 (c .before .before .before .before .before .before))) (λ c κs. search needs)
+    (λ c. omega (arith, few2 (c .before .before .before .before .before .before)))
+    (λ c. omega (arith, few2 (c .before .before .before .before .before .before))) (λ c. search needs) (λ c. search needs) loop2-again returns
+    (λ c. search needs) returns-2)

@@ -3,19 +3,20 @@
 use borrow.Author.Needs.{needs}
 use borrow.Rule.Slice.PartMut.{same-len-mid}
 use mathlib.Core.Path.{_≡_, sym, ap, _∙_}
-use mathlib.Core.List.{List, _++_}
+use mathlib.Core.List.{List}
 use native.Mathlib.Omega.{arith}
 use Prim.Native.Nat.{ℕ, _+_, _-_, _*_, _<_, _≤_}
-use lib.ListN.{length, take, drop, length-take}
-use Rattle.lines.specs.Held.{lineHeld, cut}
+use lib.ListN.{length, length-take}
+use Rattle.lines.specs.Held.{lineHeld}
 use Rattle.lines.proofs.Parts.{part-within}
 use Rattle.lines.proofs.Feeding.{feed-begins, feed-ends}
+use Rattle.commands.specs.Command.{lineOf}
 use Rattle.stage.specs.declared.Stage.{Stage}
 use Rattle.stage.specs.World.{World}
 use Rattle.stage.proofs.Aiming.{aim-there}
-use Rattle.rehearsal.specs.Lines.{sayLine, foundAnswer}
-use Rattle.rehearsal.proofs.Says.{say-found, say-turn, lentAnswer, say-nobody}
-use Rattle.rehearsal.proofs.Feeds.{FeedsRest, feeds-next}
+use Rattle.rehearsal.specs.Lines.{sayLine}
+use Rattle.rehearsal.proofs.Says.{say-found, say-turn, say-nobody}
+use Rattle.rehearsal.proofs.Feeds.{FeedsRest, Aimed, feeds-next}
 use Rattle.rehearsal.proofs.feeding.feed_all.Statement.{statement}
 use Rattle.rehearsal.proofs.feeding.feed_all.Tie as tie
 
@@ -41,6 +42,19 @@ room c = let l = c .before .before .before .before .loop in omega (arith, l .inv
 -- the next line begins further on
 less : (c : tie.Else1 Inv-loop μ-loop) → length (c .before .before .before .before .before .before .before .before .before .before .before .args .chunk .now) - (c .before .before .before .part-end .result + 1) < length (c .before .before .before .before .before .before .before .before .before .before .before .args .chunk .now) - c .before .before .before .before .loop .at
 less c = omega (arith, c .before .before .before .part-end .ensures, c .if1 .left)
+
+-- what the line says, and its aim
+aimed : (c : tie.After-aim-of Inv-loop μ-loop) → let a = c .before .before .before .before .before .before .before .before .before .before .before .before .before .before .args in let l = c .before .before .before .before .before .before .before .loop in
+    Aimed (worldAt (a .logs .now) (a .slots .now) (a .r .stage)) (lineHeld (a .r .held)) (a .chunk .now) (a .out .now) (worldAt (l .logs) (l .slots) (l .stage)) (lineHeld (l .held)) (l .out) (l .at) (l .printed)
+    (c .before .before .before .before .before .before .part-end .result) (lineHeld (c .before .none .result)) (c .before .before .line-held .result) (c .aim-of .result)
+aimed c = record {
+  inv = c .before .before .before .before .before .before .before .loop .inv;
+  there = c .before .before .before .before .before .before .part-end .ensures;
+  inside = c .before .before .before .if1 .left;
+  empty = ap lineHeld (c .before .none .ensures);
+  read = c .before .before .line-held .ensures ∙ ap lineOf (c .before .before .before .before .with .ensures);
+  aim = c .aim-of .ensures;
+}
 
 loop-holds : tie.Need-loop-holds Inv-loop μ-loop
 loop-holds c =
@@ -85,14 +99,7 @@ loop-less : tie.Need-loop-less Inv-loop μ-loop
 loop-less c = less (c .before .before .before .before .before .before .before .before .before .before .before .before .before .before .before)
 
 loop-again : tie.Need-loop-again Inv-loop μ-loop
-loop-again c =
-    let l = c .before .before .before .before .before .before .before .before .before .before .before .before .before .before .before .before .before .before .before .loop in
-    let a = c .before .before .before .before .before .before .before .before .before .before .before .before .before .before .before .before .before .before .before .before .before .before .before .before .before .before .args in
-    let w = worldAt (l .logs) (l .slots) (l .stage) in
-    let end = c .before .before .before .before .before .before .before .before .before .before .before .before .before .before .before .before .before .before .part-end .result in
-    let bytes = cut (lineHeld (l .held) ++ take (end - l .at) (drop (l .at) (a .chunk .now))) in
-    feeds-next (worldAt (a .logs .now) (a .slots .now) (a .r .stage)) (lineHeld (a .r .held)) (a .chunk .now) (a .out .now) w (lineHeld (l .held)) (l .out) (l .at) (l .printed) (l .inv) end (c .before .before .before .before .before .before .before .before .before .before .before .before .before .before .before .before .before .before .part-end .ensures) (foundAnswer w (c .before .before .before .before .before .before .found .result)) (say-found w bytes (lineHeld (c .before .before .before .before .before .before .before .before .before .before .before .before .before .before .before .before .with .result)) (c .before .before .before .before .before .before .before .before .before .before .before .before .before .before .line-held .result) (c .before .before .before .before .before .before .before .before .before .before .before .before .aim-of .result) (c .before .before .before .before .before .before .before .before .before .before .before .before .before .before .before .before .with .ensures) (c .before .before .before .before .before .before .before .before .before .before .before .before .before .before .line-held .ensures) (c .before .before .before .before .before .before .before .before .before .before .before .before .aim-of .ensures) (c .before .before .before .before .before .before .before .before .before .before .aim .given .0 .0) (c .before .before .before .before .before .before .found .result) (c .before .before .before .before .before .before .before .before .before .before .aim .given .1) (c .before .before .before .before .before .before .found .ensures))
-    (lineHeld (c .before .before .before .before .before .before .before .before .before .before .before .before .before .none .result)) (c .before .before .print .last .0) (c .before .before .print .result) (ap lineHeld (c .before .before .before .before .before .before .before .before .before .before .before .before .before .none .ensures)) (c .before .before .before .before .before .before .before .before .before .before .before .before .before .before .before .if1 .left) (c .before .before .print .ensures .0) (c .before .before .print .ensures .1) (l .inv .logs) (l .inv .slots)
+loop-again c = let l = c .before .before .before .before .before .before .before .before .before .before .before .before .before .before .before .before .before .before .before .loop in let p = c .before .before .print .ensures in feeds-next (aimed (c .before .before .before .before .before .before .before .before .before .before .before .before)) _ (say-found _ _ _ _ _ (c .before .before .before .before .before .before .before .before .before .before .aim .given .1) (c .before .before .before .before .before .before .found .ensures)) _ _ (p .0) (p .1) (l .inv .logs) (l .inv .slots)
 
 mul-from : tie.Need-mul-from Inv-loop μ-loop
 mul-from c = omega (arith, below (c .before))
@@ -130,19 +137,14 @@ loop-less-2 c = less (c .before .before .before .before .before .before .before 
 loop-again-2 : tie.Need-loop-again-2 Inv-loop μ-loop
 loop-again-2 c =
     let l = c .before .before .before .before .before .before .before .before .before .before .before .before .before .before .before .before .before .before .before .before .before .before .before .before .before .before .loop in
-    let a = c .before .before .before .before .before .before .before .before .before .before .before .before .before .before .before .before .before .before .before .before .before .before .before .before .before .before .before .before .before .before .before .before .before .args in
-    let w = worldAt (l .logs) (l .slots) (l .stage) in
-    let end = c .before .before .before .before .before .before .before .before .before .before .before .before .before .before .before .before .before .before .before .before .before .before .before .before .before .part-end .result in
-    let bytes = cut (lineHeld (l .held) ++ take (end - l .at) (drop (l .at) (a .chunk .now))) in
     let k = c .before .before .before .before .before .before .before .before .before .before .before .before .before .before .before .before .before .aim2 .given .0 .0 in
     let size = k * 1024 + 1024 - k * 1024 in
     let whole : size ≡ 1024 = omega arith in
-    let t = c .before .before .before .before .before .before .before .before .before .before .before .turn-at .result in
-    let words = c .before .before .before .before .before .before .before .before .before .before .before .turn-at .last .1 .1 .0 in
-    let slots = c .before .before .before .before .before .before .before .before .before .before .before .turn-at .last .1 .1 .1 .0 in
-    let e = c .before .before .before .before .before .before .before .before .before .before .before .turn-at .ensures in
-    feeds-next (worldAt (a .logs .now) (a .slots .now) (a .r .stage)) (lineHeld (a .r .held)) (a .chunk .now) (a .out .now) w (lineHeld (l .held)) (l .out) (l .at) (l .printed) (l .inv) end (c .before .before .before .before .before .before .before .before .before .before .before .before .before .before .before .before .before .before .before .before .before .before .before .before .before .part-end .ensures) (lentAnswer w k size t words slots) (say-turn w bytes (lineHeld (c .before .before .before .before .before .before .before .before .before .before .before .before .before .before .before .before .before .before .before .before .before .before .before .with .result)) (c .before .before .before .before .before .before .before .before .before .before .before .before .before .before .before .before .before .before .before .before .before .line-held .result) (c .before .before .before .before .before .before .before .before .before .before .before .before .before .before .before .before .before .before .before .aim-of .result) (c .before .before .before .before .before .before .before .before .before .before .before .before .before .before .before .before .before .before .before .before .before .before .before .with .ensures) (c .before .before .before .before .before .before .before .before .before .before .before .before .before .before .before .before .before .before .before .before .before .line-held .ensures) (c .before .before .before .before .before .before .before .before .before .before .before .before .before .before .before .before .before .before .before .aim-of .ensures) k (c .before .before .before .before .before .before .before .before .before .before .before .before .before .before .before .before .before .aim2 .given .0 .1 .0) size t words slots (c .before .before .before .before .before .before .before .before .before .before .before .before .before .before .before .before .before .aim2 .given .1) whole (e .0) (e .1 .0) (e .1 .1))
-    (lineHeld (c .before .before .before .before .before .before .before .before .before .before .before .before .before .before .before .before .before .before .before .before .none .result)) (c .before .before .print2 .last .0) (c .before .before .print2 .result) (ap lineHeld (c .before .before .before .before .before .before .before .before .before .before .before .before .before .before .before .before .before .before .before .before .none .ensures)) (c .before .before .before .before .before .before .before .before .before .before .before .before .before .before .before .before .before .before .before .before .before .before .if1 .left) (c .before .before .print2 .ensures .0) (c .before .before .print2 .ensures .1) (same-len-mid (k * 1024) size (l .logs) words (c .before .before .before .before .before .before .before .before .before .before .before .turn-at .kept .1 .1 .0) ∙ l .inv .logs) (c .before .before .before .before .before .before .before .before .before .before .before .turn-at .kept .1 .1 .1 .0 ∙ l .inv .slots)
+    let t = c .before .before .before .before .before .before .before .before .before .before .before .turn-at in
+    let e = t .ensures in
+    let p = c .before .before .print2 .ensures in
+    feeds-next (aimed (c .before .before .before .before .before .before .before .before .before .before .before .before .before .before .before .before .before .before .before)) _ (say-turn _ _ _ k _ size _ _ _ (c .before .before .before .before .before .before .before .before .before .before .before .before .before .before .before .before .before .aim2 .given .1) whole (e .0) (e .1 .0) (e .1 .1)) _ _ (p .0) (p .1)
+    (same-len-mid (k * 1024) size (l .logs) (t .last .1 .1 .0) (t .kept .1 .1 .0) ∙ l .inv .logs) (t .kept .1 .1 .1 .0 ∙ l .inv .slots)
 
 print-requires-3 : tie.Need-print-requires-3 Inv-loop μ-loop
 print-requires-3 c κs = room (c .before .before .before .before .before .before .before)
@@ -151,57 +153,12 @@ loop-less-3 : tie.Need-loop-less-3 Inv-loop μ-loop
 loop-less-3 c = less (c .before .before .before .before .before .before .before .before .before .before)
 
 loop-again-3 : tie.Need-loop-again-3 Inv-loop μ-loop
-loop-again-3 c =
-    let l = c .before .before .before .before .before .before .before .before .before .before .before .before .before .before .loop in
-    let a = c .before .before .before .before .before .before .before .before .before .before .before .before .before .before .before .before .before .before .before .before .before .args in
-    let w = worldAt (l .logs) (l .slots) (l .stage) in
-    let end = c .before .before .before .before .before .before .before .before .before .before .before .before .before .part-end .result in
-    let bytes = cut (lineHeld (l .held) ++ take (end - l .at) (drop (l .at) (a .chunk .now))) in
-    feeds-next (worldAt (a .logs .now) (a .slots .now) (a .r .stage)) (lineHeld (a .r .held)) (a .chunk .now) (a .out .now) w (lineHeld (l .held)) (l .out) (l .at) (l .printed) (l .inv) end (c .before .before .before .before .before .before .before .before .before .before .before .before .before .part-end .ensures) (record { world = w; answer = c .before .before .before .ask .result }) (say-nobody w bytes (lineHeld (c .before .before .before .before .before .before .before .before .before .before .before .with .result)) (c .before .before .before .before .before .before .before .before .before .line-held .result) (c .before .before .before .before .before .before .before .aim-of .result) (c .before .before .before .before .before .before .before .before .before .before .before .with .ensures) (c .before .before .before .before .before .before .before .before .before .line-held .ensures) (c .before .before .before .before .before .before .before .aim-of .ensures) (c .before .before .before .ask .result) (c .before .before .before .before .before .enum-told .given .1) (c .before .before .before .ask .ensures))
-    (lineHeld (c .before .before .before .before .before .before .before .before .none .result)) (c .before .before .print3 .last .0) (c .before .before .print3 .result) (ap lineHeld (c .before .before .before .before .before .before .before .before .none .ensures)) (c .before .before .before .before .before .before .before .before .before .before .if1 .left) (c .before .before .print3 .ensures .0) (c .before .before .print3 .ensures .1) (l .inv .logs) (l .inv .slots)
+loop-again-3 c = let l = c .before .before .before .before .before .before .before .before .before .before .before .before .before .before .loop in let p = c .before .before .print3 .ensures in feeds-next (aimed (c .before .before .before .before .before .before .before)) _ (say-nobody _ _ _ _ (c .before .before .before .before .before .enum-told .given .1) (c .before .before .before .ask .ensures)) _ _ (p .0) (p .1) (l .inv .logs) (l .inv .slots)
 
 pub feed-all-spec : {M : Type 1} → statement M
 feed-all-spec =
-    tie.close
-    (tie.spec
-    Inv-loop
-    μ-loop
-    loop-holds
-    (λ c κs. search needs)
-    sub-with
-    (λ c. search needs)
-    part-with-end
-    (λ c κs. search needs)
-    same-length
-    same-length-2
-    same-length-3
-    returns
-    (λ c κs. search needs)
-    (λ c κs. search needs)
-    (λ c. omega arith)
-    (λ c κs. search needs)
-    (λ c. search needs)
-    found-requires
-    print-requires
-    loop-less
-    loop-again
-    (λ c. search needs)
-    mul-from
-    add-to
-    mul-record
-    element-copy-out-record
-    mul-turn-at
-    (λ c. search needs)
-    (λ c. search needs)
-    part-turn-at-end
-    turn-at-requires
-    mul-next
-    element-set-from-next
-    print-requires-2
-    loop-less-2
-    loop-again-2
-    (λ c. search needs)
-    (λ c κs. search needs)
-    print-requires-3
-    loop-less-3
-    loop-again-3)
+    tie.close (tie.spec Inv-loop μ-loop loop-holds (λ c κs. search needs) sub-with (λ c. search needs) part-with-end (λ c κs. search needs)
+    same-length same-length-2 same-length-3 returns (λ c κs. search needs) (λ c κs. search needs) (λ c. omega arith) (λ c κs. search needs)
+    (λ c. search needs) found-requires print-requires loop-less loop-again (λ c. search needs) mul-from add-to mul-record element-copy-out-record
+    mul-turn-at (λ c. search needs) (λ c. search needs) part-turn-at-end turn-at-requires mul-next element-set-from-next print-requires-2 loop-less-2
+    loop-again-2 (λ c. search needs) (λ c κs. search needs) print-requires-3 loop-less-3 loop-again-3)

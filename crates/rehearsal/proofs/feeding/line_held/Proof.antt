@@ -20,11 +20,4 @@ returns : tie.Need-returns
 returns c = let a = c .before .before .before .before .args .held in let h : length (a .bytes) ≡ 129 = search needs in c .line-of .ensures ∙ ap lineOf (ap (λ (k : ℕ). take k (a .bytes)) (c .before .before .within .ensures) ∙ take-within (a .length) 129 (a .bytes) h)
 
 pub line-held-spec : {M : Type 1} → statement M
-line-held-spec =
-    tie.close
-    (tie.spec
-    (λ c κs. search needs)
-    array-share-prefix-bytes
-    slice-aggregate-line-of
-    (λ c κs. search needs)
-    returns)
+line-held-spec = tie.close (tie.spec (λ c κs. search needs) array-share-prefix-bytes slice-aggregate-line-of (λ c κs. search needs) returns)

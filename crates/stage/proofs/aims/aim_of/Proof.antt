@@ -14,5 +14,4 @@ unfolding aimOf
 returns-2 c = c .command-aim .ensures ∙ rw (c .before .before .parsed .given .1)
 
 pub aim-of-spec : {M : Type 1} → statement M
-aim-of-spec =
-    tie.close (tie.spec (λ c. search needs) (λ c. search needs) returns (λ c κs. search needs) returns-2)
+aim-of-spec = tie.close (tie.spec (λ c. search needs) (λ c. search needs) returns (λ c κs. search needs) returns-2)

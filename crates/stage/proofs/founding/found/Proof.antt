@@ -11,18 +11,10 @@ slice-aggregate-found : tie.Need-slice-aggregate-found
 slice-aggregate-found c = sym (length-take-le 1024 (c .before .before .args .logs .now) (omega arith))
 
 returns : tie.Need-returns
-returns c = let a = c .before .before .before .before .before .before .args in found-refused (a .stage) (a .n) (a .weights) (a .logs .now) (c .before .before .before .found .result) (c .before .before .says-one .result) (c .before .before .before .found .ensures) (c .before .before .says-one .ensures) (c .if1 .taken)
+returns c = found-refused _ _ _ _ _ _ (c .before .before .before .found .ensures) (c .before .before .says-one .ensures) (c .if1 .taken)
 
 returns-2 : tie.Need-returns-2
-returns-2 c = let a = c .before .before .before .before .before .before .before .before .args in found-done (a .stage) (a .n) (a .weights) (a .logs .now) (c .before .before .before .before .before .found .result) (c .before .before .before .before .says-one .result) (c .before .before .before .before .before .found .ensures) (c .before .before .before .before .says-one .ensures) (c .fresh-all .result) (c .before .before .if1 .left) (c .fresh-all .ensures)
+returns-2 c = found-done _ _ _ _ _ _ (c .before .before .before .before .before .found .ensures) (c .before .before .before .before .says-one .ensures) _ (c .before .before .if1 .left) (c .fresh-all .ensures)
 
 pub found-spec : {M : Type 1} → statement M
-found-spec =
-    tie.close
-    (tie.spec
-    slice-aggregate-found
-    (λ c κs. search needs)
-    (λ c κs. search needs)
-    returns
-    (λ c κs. search needs)
-    returns-2)
+found-spec = tie.close (tie.spec slice-aggregate-found (λ c κs. search needs) (λ c κs. search needs) returns (λ c κs. search needs) returns-2)

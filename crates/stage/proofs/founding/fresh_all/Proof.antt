@@ -32,15 +32,5 @@ returns c = let a = c .before .before .before .args in let l = c .before .loop i
 
 pub fresh-all-spec : {M : Type 1} → statement M
 fresh-all-spec =
-    tie.close
-    (tie.spec
-    Inv-loop
-    μ-loop
-    loop-holds
-    fresh-at-requires
-    (λ c. search needs)
-    (λ c. search needs)
-    (λ c. search needs)
-    (λ c. search needs)
-    loop-again
-    returns)
+    tie.close (tie.spec Inv-loop μ-loop loop-holds fresh-at-requires (λ c. search needs) (λ c. search needs) (λ c. search needs) (λ c. search needs)
+    loop-again returns)

@@ -9,7 +9,6 @@ use Rattle.trials.proofs.printing.write.Tie as tie
 
 pub write-spec : {M : Type 1} → statement M
 write-spec =
-    tie.close
-    (tie.spec (λ c. search needs) (λ c. let h : length (c .before .before .args .line .bytes) ≡ 129 = search needs in omega arith)
+    tie.close (tie.spec (λ c. search needs) (λ c. let h : length (c .before .before .args .line .bytes) ≡ 129 = search needs in omega arith)
     (λ c. let h : length (c .before .before .before .args .line .bytes) ≡ 129 = search needs in sym (length-take-le _ _ (omega arith)))
     (λ c κs. search needs) (λ c. search needs))

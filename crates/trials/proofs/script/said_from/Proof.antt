@@ -19,8 +19,7 @@ add-at c =
 
 pub said-from-spec : {M : Type 1} → statement M
 said-from-spec =
-    tie.close
-    (tie.spec Inv-loop μ-loop (λ c. search needs) (λ c κs. search needs) (λ c. search needs) (λ c κs. search needs) (λ c. search needs)
+    tie.close (tie.spec Inv-loop μ-loop (λ c. search needs) (λ c κs. search needs) (λ c. search needs) (λ c κs. search needs) (λ c. search needs)
     (λ c. search needs)
     (λ c. omega (arith, part-within 32 (c .before .before .before .before .before .args .bytes .now) (c .before .before .before .loop .at) (omega arith)))
     (λ c κs. search needs) (λ c. search needs) (λ c. search needs) (λ c κs. search needs) (λ c. search needs) (λ c. search needs) (λ c. search needs)
