@@ -18,25 +18,24 @@ Inv-loop weights n te u entry votes i₀ i = (i ≤ n) × (beatsAll weights ltb 
 abbrev μ-loop : tie.MeasureT-loop
 μ-loop weights n te u entry votes i₀ i = n - i
 
+-- n is at most 8, the length of both arrays
+fits : (s : tie.Start Inv-loop μ-loop) → (s .args .n ≤ 8) × (length (s .args .t1) ≡ 8) × (length (s .args .weights) ≡ 8)
+fits s = (s .pre .0 .0, search needs, search needs)
+
 loop-holds : tie.Need-loop-holds Inv-loop μ-loop
 loop-holds c = (search needs, refl)
 
-mul-vote : tie.Need-mul-vote Inv-loop μ-loop
-mul-vote c = let m = c .before .before .pre .0 .0 in omega arith
-
-array-read-vote : tie.Need-array-read-vote Inv-loop μ-loop
-array-read-vote c = let m = c .before .before .pre .0 .0 in omega arith
-
 returns : tie.Need-returns Inv-loop μ-loop
-returns c = let s = c .before .before .before .before in let l = c .before .before .before .loop in let a = s .args in let m = s .pre .0 .0 in let hx : length (a .t1) ≡ 8 = search needs in let hw : length (a .weights) ≡ 8 = search needs in beats-stop _ (a .entry) (votesIn (a .t1)) (a .weights) (a .t1) (a .weights) (l .i) (l .inv .1) (omega arith) (omega arith) (c .before .beats-vote .result) (c .before .beats-vote .ensures) (not-true _ (c .if1 .taken))
+returns c = let l = c .before .before .before .loop in let a = c .before .before .before .before .args in let h = fits (c .before .before .before .before) in beats-stop _ (a .entry) (votesIn (a .t1)) (a .weights) (a .t1) (a .weights) (l .i) (l .inv .1) (omega arith) (omega arith) _ (c .before .beats-vote .ensures) (not-true _ (c .if1 .taken))
 
 loop-again : tie.Need-loop-again Inv-loop μ-loop
-loop-again c = let s = c .before .before .before .before in let l = c .before .before .before .loop in let a = s .args in let m = s .pre .0 .0 in let hx : length (a .t1) ≡ 8 = search needs in let hw : length (a .weights) ≡ 8 = search needs in (omega arith, beats-next _ (a .entry) (votesIn (a .t1)) (a .weights) (a .t1) (a .weights) (l .i) (l .inv .1) (omega arith) (omega arith) (c .before .beats-vote .result) (c .before .beats-vote .ensures) (not-false _ (c .if1 .left)))
+loop-again c = let l = c .before .before .before .loop in let a = c .before .before .before .before .args in let h = fits (c .before .before .before .before) in (omega arith, beats-next _ (a .entry) (votesIn (a .t1)) (a .weights) (a .t1) (a .weights) (l .i) (l .inv .1) (omega arith) (omega arith) _ (c .before .beats-vote .ensures) (not-false _ (c .if1 .left)))
 
 returns-2 : tie.Need-returns-2 Inv-loop μ-loop
 returns-2 c = let l = c .before .loop in let s = c .before .before in let a = s .args in beats-done _ (a .entry) (votesIn (a .t1)) (a .weights) (a .t1) (a .weights) (l .i) (l .inv .1) (a .n) (s .pre .0) (omega arith)
 
 pub beats-all-spec : {M : Type 1} → statement M
 beats-all-spec =
-    tie.close
-    (tie.spec Inv-loop μ-loop loop-holds mul-vote array-read-vote (λ c κs. search needs) returns (λ c. search needs) (λ c. search needs) loop-again returns-2)
+    tie.close (tie.spec Inv-loop μ-loop loop-holds (λ c. let h = fits (c .before .before) in omega arith)
+    (λ c. let h = fits (c .before .before) in omega arith) (λ c κs. search needs) returns (λ c. search needs) (λ c. search needs) loop-again
+    returns-2)

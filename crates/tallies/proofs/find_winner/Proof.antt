@@ -17,29 +17,28 @@ Inv-loop weights n votes u i₀ i = (i ≤ n) × (winnerIs (winner weights ltb (
 abbrev μ-loop : tie.MeasureT-loop
 μ-loop weights n votes u i₀ i = n - i
 
+-- n is at most 8, the length of both arrays
+fits : (s : tie.Start Inv-loop μ-loop) → (s .args .n ≤ 8) × (length (s .args .t1) ≡ 8) × (length (s .args .weights) ≡ 8)
+fits s = (s .pre .0, search needs, search needs)
+
 loop-holds : tie.Need-loop-holds Inv-loop μ-loop
 unfolding winner
 loop-holds c = (search needs, refl)
-
-mul-vote : tie.Need-mul-vote Inv-loop μ-loop
-mul-vote c = let m = c .before .before .before .pre .0 in omega arith
-
-array-read-vote : tie.Need-array-read-vote Inv-loop μ-loop
-array-read-vote c = let m = c .before .before .before .pre .0 in omega arith
 
 vote-wins-requires : tie.Need-vote-wins-requires Inv-loop μ-loop
 vote-wins-requires c κs = let s = c .before .before .before in let a = s .args in let u = c .before .before .weight-for in (s .pre, u .ensures .0 ∙ weight-none (a .weights) (votesIn (a .t1)) noVote refl, u .ensures .1)
 
 returns : tie.Need-returns Inv-loop μ-loop
-returns c = let s = c .before .before .before .before .before in let l = c .before .before .before .loop in let a = s .args in let m = s .pre .0 in let hx : length (a .t1) ≡ 8 = search needs in let hw : length (a .weights) ≡ 8 = search needs in winner-stop _ (votesIn (a .t1)) (a .weights) (a .t1) (a .weights) (l .i) (l .inv .1) (omega arith) (omega arith) (sym (c .before .vote-wins .ensures) ∙ c .if1 .taken)
+returns c = let l = c .before .before .before .loop in let a = c .before .before .before .before .before .args in let h = fits (c .before .before .before .before .before) in winner-stop _ (votesIn (a .t1)) (a .weights) (a .t1) (a .weights) (l .i) (l .inv .1) (omega arith) (omega arith) (sym (c .before .vote-wins .ensures) ∙ c .if1 .taken)
 
 loop-again : tie.Need-loop-again Inv-loop μ-loop
-loop-again c = let s = c .before .before .before .before .before in let l = c .before .before .before .loop in let a = s .args in let m = s .pre .0 in let hx : length (a .t1) ≡ 8 = search needs in let hw : length (a .weights) ≡ 8 = search needs in (omega arith, winner-next _ (votesIn (a .t1)) (a .weights) (a .t1) (a .weights) (l .i) (l .inv .1) (omega arith) (omega arith) (sym (c .before .vote-wins .ensures) ∙ c .if1 .left))
+loop-again c = let l = c .before .before .before .loop in let a = c .before .before .before .before .before .args in let h = fits (c .before .before .before .before .before) in (omega arith, winner-next _ (votesIn (a .t1)) (a .weights) (a .t1) (a .weights) (l .i) (l .inv .1) (omega arith) (omega arith) (sym (c .before .vote-wins .ensures) ∙ c .if1 .left))
 
 returns-2 : tie.Need-returns-2 Inv-loop μ-loop
 returns-2 c = let l = c .before .loop in let s = c .before .before .before in let a = s .args in winner-done _ (votesIn (a .t1)) (a .weights) (a .t1) (a .weights) (l .i) (l .inv .1) (a .n) (s .pre) (omega arith)
 
 pub find-winner-spec : {M : Type 1} → statement M
 find-winner-spec =
-    tie.close
-    (tie.spec Inv-loop μ-loop (λ c κs. search needs) loop-holds mul-vote array-read-vote vote-wins-requires returns (λ c. search needs) (λ c. search needs) loop-again returns-2)
+    tie.close (tie.spec Inv-loop μ-loop (λ c κs. search needs) loop-holds (λ c. let h = fits (c .before .before .before) in omega arith)
+    (λ c. let h = fits (c .before .before .before) in omega arith) vote-wins-requires returns (λ c. search needs) (λ c. search needs) loop-again
+    returns-2)

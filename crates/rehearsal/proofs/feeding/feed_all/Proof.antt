@@ -33,7 +33,7 @@ abbrev μ-loop : tie.MeasureT-loop
 
 -- an office at which a line is aimed is one of the eight
 below : (c : tie.After-aim2 Inv-loop μ-loop) → c .aim2 .given .0 .0 < 8
-below c = aim-there (c .before .before .before .before .before .before .before .before .before .loop .stage .offices) (c .before .before .before .before .line-held .result .parsed) (c .aim2 .given .0 .0) (c .aim2 .given .0 .1 .0) (sym (c .before .before .aim-of .ensures) ∙ c .aim2 .given .1)
+below c = aim-there _ _ _ _ (sym (c .before .before .aim-of .ensures) ∙ c .aim2 .given .1)
 
 -- each byte of the chunk has room for an answer
 room : (c : tie.Else1 Inv-loop μ-loop) → c .before .before .before .before .loop .printed + 65 ≤ length (c .before .before .before .before .loop .out)
@@ -66,9 +66,6 @@ loop-holds c =
       slots = c .before .before .before .before .before .before .pre .1;
     }
 
-sub-with : tie.Need-sub-with Inv-loop μ-loop
-sub-with c = omega (arith, c .part-end .ensures)
-
 part-with-end : tie.Need-part-with-end Inv-loop μ-loop
 part-with-end c = omega (arith, c .part-end .ensures, part-within 10 (c .before .before .before .before .before .before .before .before .args .chunk .now) (c .before .loop .at) (c .before .loop .inv .rest .within))
 
@@ -77,9 +74,6 @@ same-length c = c .before .before .before .before .loop .inv .logs ∙ sym (c .b
 
 same-length-2 : tie.Need-same-length-2 Inv-loop μ-loop
 same-length-2 c = c .before .before .before .before .loop .inv .slots ∙ sym (c .before .before .before .before .before .before .before .before .before .before .before .pre .1)
-
-same-length-3 : tie.Need-same-length-3 Inv-loop μ-loop
-same-length-3 c = c .before .before .before .before .loop .inv .rest .left .long
 
 returns : tie.Need-returns Inv-loop μ-loop
 returns c =
@@ -100,21 +94,6 @@ loop-less c = less (c .before .before .before .before .before .before .before .b
 
 loop-again : tie.Need-loop-again Inv-loop μ-loop
 loop-again c = let l = c .before .before .before .before .before .before .before .before .before .before .before .before .before .before .before .before .before .before .before .loop in let p = c .before .before .print .ensures in feeds-next (aimed (c .before .before .before .before .before .before .before .before .before .before .before .before)) _ (say-found _ _ _ _ _ (c .before .before .before .before .before .before .before .before .before .before .aim .given .1) (c .before .before .before .before .before .before .found .ensures)) _ _ (p .0) (p .1) (l .inv .logs) (l .inv .slots)
-
-mul-from : tie.Need-mul-from Inv-loop μ-loop
-mul-from c = omega (arith, below (c .before))
-
-add-to : tie.Need-add-to Inv-loop μ-loop
-add-to c = omega (arith, below (c .before))
-
-mul-record : tie.Need-mul-record Inv-loop μ-loop
-mul-record c = omega (arith, below (c .before))
-
-element-copy-out-record : tie.Need-element-copy-out-record Inv-loop μ-loop
-element-copy-out-record c = below (c .before)
-
-mul-turn-at : tie.Need-mul-turn-at Inv-loop μ-loop
-mul-turn-at c = omega (arith, below (c .before .before .before))
 
 part-turn-at-end : tie.Need-part-turn-at-end Inv-loop μ-loop
 part-turn-at-end c = omega (arith, below (c .before .before .before), c .before .before .before .before .before .before .before .before .before .before .before .before .loop .inv .logs)
@@ -146,19 +125,16 @@ loop-again-2 c =
     feeds-next (aimed (c .before .before .before .before .before .before .before .before .before .before .before .before .before .before .before .before .before .before .before)) _ (say-turn _ _ _ k _ size _ _ _ (c .before .before .before .before .before .before .before .before .before .before .before .before .before .before .before .before .before .aim2 .given .1) whole (e .0) (e .1 .0) (e .1 .1)) _ _ (p .0) (p .1)
     (same-len-mid (k * 1024) size (l .logs) (t .last .1 .1 .0) (t .kept .1 .1 .0) ∙ l .inv .logs) (t .kept .1 .1 .1 .0 ∙ l .inv .slots)
 
-print-requires-3 : tie.Need-print-requires-3 Inv-loop μ-loop
-print-requires-3 c κs = room (c .before .before .before .before .before .before .before)
-
-loop-less-3 : tie.Need-loop-less-3 Inv-loop μ-loop
-loop-less-3 c = less (c .before .before .before .before .before .before .before .before .before .before)
-
 loop-again-3 : tie.Need-loop-again-3 Inv-loop μ-loop
 loop-again-3 c = let l = c .before .before .before .before .before .before .before .before .before .before .before .before .before .before .loop in let p = c .before .before .print3 .ensures in feeds-next (aimed (c .before .before .before .before .before .before .before)) _ (say-nobody _ _ _ _ (c .before .before .before .before .before .enum-told .given .1) (c .before .before .before .ask .ensures)) _ _ (p .0) (p .1) (l .inv .logs) (l .inv .slots)
 
 pub feed-all-spec : {M : Type 1} → statement M
 feed-all-spec =
-    tie.close (tie.spec Inv-loop μ-loop loop-holds (λ c κs. search needs) sub-with (λ c. search needs) part-with-end (λ c κs. search needs)
-    same-length same-length-2 same-length-3 returns (λ c κs. search needs) (λ c κs. search needs) (λ c. omega arith) (λ c κs. search needs)
-    (λ c. search needs) found-requires print-requires loop-less loop-again (λ c. search needs) mul-from add-to mul-record element-copy-out-record
-    mul-turn-at (λ c. search needs) (λ c. search needs) part-turn-at-end turn-at-requires mul-next element-set-from-next print-requires-2 loop-less-2
-    loop-again-2 (λ c. search needs) (λ c κs. search needs) print-requires-3 loop-less-3 loop-again-3)
+    tie.close (tie.spec Inv-loop μ-loop loop-holds (λ c κs. search needs) (λ c. omega (arith, c .part-end .ensures)) (λ c. search needs) part-with-end
+    (λ c κs. search needs) same-length same-length-2 (λ c. c .before .before .before .before .loop .inv .rest .left .long) returns
+    (λ c κs. search needs) (λ c κs. search needs) (λ c. omega arith) (λ c κs. search needs) (λ c. search needs) found-requires print-requires
+    loop-less loop-again (λ c. search needs) (λ c. omega (arith, below (c .before))) (λ c. omega (arith, below (c .before)))
+    (λ c. omega (arith, below (c .before))) (λ c. below (c .before)) (λ c. omega (arith, below (c .before .before .before))) (λ c. search needs)
+    (λ c. search needs) part-turn-at-end turn-at-requires mul-next element-set-from-next print-requires-2 loop-less-2 loop-again-2 (λ c. search needs)
+    (λ c κs. search needs) (λ c κs. room (c .before .before .before .before .before .before .before))
+    (λ c. less (c .before .before .before .before .before .before .before .before .before .before)) loop-again-3)
