@@ -35,27 +35,20 @@ impl Record {
     pub fn issue(self, log: &[u32], line: u32, code: u32) -> Issued
         ensures { λ r. ⌜ r ≡ issueOf self (now (log .entry)) line code ⌝ }
     {
-        if !self.sound(log) {
-            return Issued {
-                number: 1,
-                record: self,
-            };
-        }
-        let own = self.own;
-        let b = self.ballots[own];
-        let number = refusal(line, code, self.settled, b.len);
-        if number != 0 {
-            return Issued {
-                number: number,
-                record: self,
-            };
-        }
-        let grown = b.push(entries::pack(own as u8, line as u8, code as u16));
         let mut next = self;
-        next.ballots[own] = grown;
+        let own = next.own;
+        let mut number: u32 = 1;
+        if next.sound(log) {
+            let b = next.ballots[own];
+            number = refusal(line, code, next.settled, b.len);
+            if number == 0 {
+                let grown = b.push(entries::pack(own as u8, line as u8, code as u16));
+                next.ballots[own] = grown;
+            }
+        }
         Issued {
-            number: 0,
             record: next,
+            number: number,
         }
     }
 }

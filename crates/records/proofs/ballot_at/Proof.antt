@@ -1,5 +1,5 @@
 -- The tests go in the order of the definition; each failing one answers a bad step. The values are read before they are tested.
-use Prim.Native.Nat.{_*_, _+_, _≤_}
+use Prim.Native.Nat.{_+_, _≤_}
 use mathlib.Core.Bool.{true}
 use mathlib.Core.Path.{_∙_, _≡_, sym}
 use native.Mathlib.Omega.{arith}
