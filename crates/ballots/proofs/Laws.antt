@@ -1,10 +1,11 @@
 -- What a fine ballot is, and what the operations on one do to the tail that it holds.
---     fine, fine-of             what the test `ballotFine` says where it passes, and the ballot of a fine tail passes it
+--     fine                      what the test `ballotFine` says where it passes
 --     tail-fine, fine-tail      a ballot is fine as its cells are in shape and its tail is fine
 --     held, held-all            a fine ballot is the one that holds its tail
 --     tail-of, tails-of         the tail of the ballot that holds a tail
 --     push-held                 an entry more in the cells is an entry more in the tail
 --     none-empty, empty-none    no ballot is the empty tail
+--     too-long, too-far, not-zero, none-tested, all-tested     each way out of the test
 -- Assumes nothing.
 use mathlib.Core.Path.{_≡_, refl, sym, ap, ap₂, _∙_}
 use mathlib.Core.Bool.{Bool, true, false}

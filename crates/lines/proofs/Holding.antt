@@ -1,5 +1,5 @@
 -- The loop that puts more bytes behind a held line.
---     held-begins, held-next, held-full, held-ends
+--     held-next, held-full, held-ends
 -- Assumes nothing.
 use mathlib.Core.Path.{_≡_, refl, sym, ap, _∙_}
 use mathlib.Core.List.{List, [], _∷_, _++_, append-assoc, append-nil}

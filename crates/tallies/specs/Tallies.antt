@@ -19,7 +19,7 @@ abbrev pub winnerIs : Option ℕ → Winner
 winnerIs none = Nobody
 winnerIs (some e) = Entry e
 
--- the word of an office with no ballot; no entry has this value (law `entry-vote`)
+-- the word of an office with no ballot; no entry has this value (law `cast-vote`)
 abbrev pub noVote : ℕ
 noVote = 4294967295
 
