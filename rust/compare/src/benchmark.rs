@@ -117,12 +117,7 @@ impl Case {
             ratios.push(proved / plain);
             by_value.push(proved / value);
         }
-        Time {
-            engine: median(engine),
-            second: median(second),
-            ratio: median(ratios),
-            ratio_by_value: median(by_value),
-        }
+        Time { engine: median(engine), second: median(second), ratio: median(ratios), ratio_by_value: median(by_value) }
     }
 }
 
