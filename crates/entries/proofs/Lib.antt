@@ -1,5 +1,6 @@
 -- Laws that belong to no one function.
 
+pub mod Carries
 pub mod Fill
 pub mod Walk
 pub mod Word

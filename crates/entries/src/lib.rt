@@ -5,6 +5,7 @@ ghost use lib.Dec.{eqb, leb};
 ghost use Rattle.protocol.specs.Tests.{allB, pick};
 ghost use Rattle.protocol.specs.Entry.{value, isEntry};
 ghost use Rattle.protocol.specs.Frames.{lastCode};
+ghost use Rattle.entries.specs.Carries.{raised, noCarry};
 
 // The value of the entry (office, line, code).
 pub fn pack(office: u8, line: u8, code: u16) -> u32
@@ -37,16 +38,31 @@ pub fn is_entry(word: u32, n: usize) -> bool
     tests(word, offices(n))
 }
 
+// The word's office, the upper two bits of its line and half its code, each raised so that a number past its limit carries into a bit
+// that is else 0: the office's into bit 31, the code's into bit 15; the line's two bits stand at bits 21 and 22 and must be 0 themselves.
+pub fn raised(word: u32, n: usize) -> u32
+    ensures { λ r. ⌜ r ≡ raised n word ⌝ }
+{
+    let fields = word / 16777216 * 8388608 + (word / 4194304 % 4 * 2097152 + word % 65536 / 2);
+    fields + ((256 - offices(n)) * 8388608 + 27768)
+}
+
+// Whether no raised number carried, of one word or of several that were joined by `|`.
+pub fn no_carry(bits: u32) -> bool
+    ensures { λ r. ⌜ r ≡ noCarry bits ⌝ }
+{
+    (bits / 32768 % 2 == 0) & ((bits / 2097152 % 4 == 0) & (bits < 2147483648))
+}
+
 // Whether every word is the value of an entry for n offices.
 pub fn all_entries(words: &[u32], n: usize) -> bool
     ensures { λ r. ⌜ r ≡ allB (isEntry n) (now (words .entry)) ⌝ }
 {
-    let most = offices(n);
-    let mut good = true;
+    let mut bits: u32 = 0;
     for i in 0..words.len() {
-        good = good & tests(words[i], most);
+        bits = bits | raised(words[i], n);
     }
-    good
+    no_carry(bits)
 }
 
 // Whether every word is zero.

@@ -1,32 +1,43 @@
--- A walk from the front that makes every test: what was found so far and what is left of the words answer as all of them do.
+-- A walk from the front that joins every raised word: what was joined so far and what is left of the words answer as all of them do.
 use borrow.Author.Needs.{needs}
-use mathlib.Core.Path.{refl}
-use Prim.Native.Nat.{_-_, _≤_}
-use lib.ListN.{length}
+use mathlib.Core.Path.{sym, ap, _∙_}
+use Prim.Native.Nat.{_-_, _≤_, _<_}
+use native.Mathlib.Omega.{arith}
+use lib.ListN.{length, getD}
 use Rattle.protocol.specs.Tests.{allB, both}
 use Rattle.protocol.specs.Entry.{isEntry}
-use Rattle.entries.proofs.Walk.{AllWith, with-next, with-done}
+use Rattle.entries.specs.Carries.{noCarry}
+use Rattle.entries.proofs.Walk.{AllWith, with-next, with-done, and-both}
+use Rattle.entries.proofs.Carries.{no-carry-raised, no-carry-or, no-carry-zero}
 use Rattle.entries.proofs.all_entries.Statement.{statement}
 use Rattle.entries.proofs.all_entries.Tie as tie
 
 abbrev Inv-loop : tie.InvT-loop
-Inv-loop words n most good₀ i₀ i-end good i = (i ≤ length words) × AllWith (allB (isEntry n) words) (isEntry n) words good i
+Inv-loop words n bits₀ i₀ i-end bits i = (i ≤ length words) × AllWith (allB (isEntry n) words) (isEntry n) words (noCarry bits) i
 
 abbrev μ-loop : tie.MeasureT-loop
-μ-loop words n most good₀ i₀ i-end good i = length words - i
+μ-loop words n bits₀ i₀ i-end bits i = length words - i
 
 loop-holds : tie.Need-loop-holds Inv-loop μ-loop
 unfolding both
-loop-holds c = (search needs, refl)
+loop-holds c = (search needs, rw no-carry-zero)
 
 loop-again : tie.Need-loop-again Inv-loop μ-loop
 loop-again c =
     let l = c .before .before .before .loop in
-    let a = c .before .before .before .before .before .before .args in
-    (search needs, with-next (isEntry (a .n)) 0 (a .words .now) (l .good) (l .i) (l .inv .1) (search needs) _ (c .tests .ensures (a .n) (c .before .before .before .before .offices .ensures)))
+    let a = c .before .before .before .before .before .args in
+    let w = getD (a .words .now) (l .i) 0 in
+    let r = c .raised .result in
+    let fits : w < 4294967296 = omega (arith, c .before .before .before .before .shared-slice-known .given (l .i)) in
+    let one = ap noCarry (c .raised .ensures) ∙ no-carry-raised (a .n) w fits in
+    let joined = and-both (noCarry (l .bits)) (noCarry r) ∙ sym (no-carry-or (l .bits) r) in
+    (search needs, rw joined at (with-next (isEntry (a .n)) 0 (a .words .now) (noCarry (l .bits)) (l .i) (l .inv .1) (search needs) (noCarry r) one))
 
 returns : tie.Need-returns Inv-loop μ-loop
-returns c = let l = c .before .loop in let a = c .before .before .before .before .args in with-done (isEntry (a .n)) 0 (a .words .now) (l .good) (l .i) (l .inv .1) (search needs)
+returns c =
+    let l = c .before .before .loop in
+    let a = c .before .before .before .before .args in
+    c .no-carry .ensures ∙ with-done (isEntry (a .n)) 0 (a .words .now) (noCarry (l .bits)) (l .i) (l .inv .1) (search needs)
 
 pub all-entries-spec : {M : Type 1} → statement M
 all-entries-spec =
@@ -34,7 +45,6 @@ all-entries-spec =
     (tie.spec
     Inv-loop
     μ-loop
-    (λ c κs. search needs)
     loop-holds
     (λ c. search needs)
     (λ c. search needs)
@@ -42,4 +52,5 @@ all-entries-spec =
     (λ c. search needs)
     (λ c. search needs)
     loop-again
+    (λ c κs. search needs)
     returns)
