@@ -1,26 +1,35 @@
--- One turn of the loops that read the log records and the ballots, and their exits. Assumes nothing.
+-- One turn of the loops that read the log records and the ballots, and their exits.
+--     leftAt, log-..    the log records: their marks one by one, their values joined
+--     Left, again ..    the ballots and the end
+-- Assumes nothing.
 use Prim.Native.Nat.{ℕ, _+_, _-_, _<_, _≤_, suc, zero}
-use mathlib.Core.Bool.{false, true}
+use mathlib.Core.Bool.{Bool, false, true}
 use mathlib.Core.List.{List, [], _∷_, map, map-append}
 use mathlib.Core.Path.{_∙_, _≡_, ap, refl, sym}
 use native.Mathlib.Nat.{sub-zero}
 use native.Mathlib.Numerals.{add-one}
 use native.Mathlib.Omega.{arith}
 use lib.ListN.{drop, length, length-map, replicate, set}
+use lib.Bits.{bitOr}
 use lib.Seq.{drop-drop, sets}
 use Rattle.ballots.specs.Ballots.{ballotOf, noBallot}
 use Rattle.ballots.specs.declared.Ballot.{Ballot}
+use Rattle.entries.specs.Carries.{noCarry, raised}
+use Rattle.protocol.specs.Entry.{isEntry}
 use Rattle.protocol.specs.Tests.{both, pick}
-use Rattle.records.specs.Steps.{badBallot, badLog, ballotAt, endAt, logAt}
+use Rattle.records.specs.Steps.{badBallot, badLog, ballotAt, endAt, logAt, markHere}
 use Rattle.records.specs.declared.BallotStep.{BallotStep}
 use Rattle.records.specs.declared.EndStep.{EndStep}
 use Rattle.records.specs.declared.LogStep.{LogStep}
 use Rattle.spelling.specs.Content.{eightTails}
 use Rattle.spelling.specs.Numbers.{runOk}
-use Rattle.spelling.specs.Reading.{afterBallot, ballotOk, ballotsOk, endOk, recordHere, sizeAt, tailAt, tailsAt}
+use Rattle.spelling.specs.Reading.{afterBallot, ballotOk, ballotsOk, endOk, recordAt, recordHere, sizeAt, tailAt, tailsAt}
+use Rattle.entries.proofs.Carries.{no-carry-or, no-carry-raised, no-carry-zero}
+use Rattle.protocol.proofs.Tests.{both-false-0, both-false-1}
 use Rattle.spelling.proofs.Ballots.{by-test, tailsAt-length}
 use Rattle.spelling.proofs.Numbers.{sets-alike}
-use Rattle.spelling.proofs.Steps.{test-fails, test-step}
+use Rattle.spelling.proofs.Steps.{test-end, test-fails, test-step}
+use Rattle.records.proofs.Marks.{record-parts}
 use Rattle.reader.specs.Read.{badRecords, ballotsAt, ballotsOf}
 
 module _ (n k o at : ℕ) (s : List ℕ) where
@@ -84,21 +93,61 @@ end-step-ok : (at : ℕ) (s : List ℕ) → endAt at s .ok ≡ endOk (drop at s)
 unfolding endAt pick
 end-step-ok at s = by-test _ (endOk (drop at s)) (λ e. rw e) (λ e. rw e)
 
--- what a log record's step says, in a turn of the loop over the log records
-module _ (n k i at : ℕ) (s : List ℕ) (r : LogStep) (h : i < k) (e : r ≡ logAt n at s) where
-  log-step-ok : recordHere n (drop at s) ≡ r .ok
-  unfolding logAt pick badLog
-  log-step-ok = rw e (by-test _ (recordHere n (drop at s)) (λ t. rw t) (λ t. rw t))
+-- ---- the loop over the log records: what was found so far, and what is left to test from position at on
 
-  log-step-next : recordHere n (drop at s) ≡ true → r .next ≡ at + 6
-  unfolding logAt pick
-  log-step-next t = rw (e, t)
+-- a test b that was joined to what was found, where it is the first of what was left
+joined : (a b c d : Bool) → (b ≡ true → c ≡ d) → (b ≡ false → c ≡ false) → both (both a b) d ≡ both a c
+unfolding both
+joined true true c d f g = sym (f refl)
+joined true false c d f g = sym (g refl)
+joined false b c d f g = refl
 
-  pub log-turn : r .ok ≡ true → runOk 6 (recordHere n) (k - (i + 1)) (drop (r .next) s) ≡ runOk 6 (recordHere n) (k - i) (drop at s)
-  log-turn t = rw (log-step-next (log-step-ok ∙ t)) (sym (test-step 6 (recordHere n) k i at s h (log-step-ok ∙ t)))
+-- the values joined so far, and the records that are left at turn i
+abbrev pub leftAt : ℕ → ℕ → ℕ → ℕ → ℕ → List ℕ → Bool
+leftAt n k bits at i s = both (noCarry bits) (runOk 6 (recordHere n) (k - i) (drop at s))
 
-  pub log-fails : r .ok ≡ false → false ≡ runOk 6 (recordHere n) (k - i) (drop at s)
-  log-fails t = sym (test-fails 6 (recordHere n) k i (drop at s) h (log-step-ok ∙ t))
+module _ (n k bits at i : ℕ) (s : List ℕ) where
+  -- what a log record's step says
+  module _ (r : LogStep) (h : i < k) (e : r ≡ logAt at s) where
+    -- it answers whether the mark stands there
+    mark-tested : markHere (drop at s) ≡ r .ok
+    unfolding logAt pick badLog
+    mark-tested = rw e (by-test _ (markHere (drop at s)) (λ t. rw t) (λ t. rw t))
+
+    -- no mark: the loop is left
+    pub log-fails : r .ok ≡ false → false ≡ leftAt n k bits at i s
+    log-fails t = sym (both-false-1 (noCarry bits) _ (test-fails 6 (recordHere n) k i (drop at s) h (record-parts n (drop at s) ∙ both-false-0 (markHere (drop at s)) _ (mark-tested ∙ t))))
+
+    module _ (t : r .ok ≡ true) (fits : r .value < 4294967296) where
+      -- else its value and the position after it
+      step-value : r .value ≡ recordAt (drop at s)
+      unfolding logAt pick
+      step-value = rw (e, mark-tested ∙ t)
+
+      step-after : r .next ≡ at + 6
+      unfolding logAt pick
+      step-after = rw (e, mark-tested ∙ t)
+
+      -- the mark stands there, so the value decides
+      value-tested : noCarry (raised n (r .value)) ≡ recordHere n (drop at s)
+      unfolding both
+      value-tested = no-carry-raised n (r .value) fits ∙ ap (isEntry n) step-value ∙ sym (record-parts n (drop at s) ∙ rw (mark-tested ∙ t))
+
+      -- and the loop goes on with the value joined
+      pub log-turn : (v : ℕ) → v ≡ raised n (r .value) → leftAt n k (bitOr bits v) (r .next) (i + 1) s ≡ leftAt n k bits at i s
+      log-turn v q =
+          rw (q, no-carry-or bits (raised n (r .value)), value-tested, step-after)
+          (joined (noCarry bits) (recordHere n (drop at s)) _ _ (test-step 6 (recordHere n) k i at s h) (test-fails 6 (recordHere n) k i (drop at s) h))
+
+  -- no record is left
+  pub log-ends : k ≤ i → noCarry bits ≡ leftAt n k bits at i s
+  unfolding both
+  log-ends h = by-test _ (noCarry bits) (λ e. rw (e, test-end 6 (recordHere n) k i (drop at s) h)) (λ e. rw e)
+
+-- all are left
+pub log-begins : (n k : ℕ) (s : List ℕ) → leftAt n k 0 0 0 s ≡ runOk 6 (recordHere n) k s
+unfolding both
+log-begins n k s = rw (no-carry-zero, sub-zero)
 
 -- ---- the loop's invariant: what is left to test, and to store, from office o at position at, is what there was to test and to store at first
 

@@ -37,21 +37,22 @@ pub struct Reading {
     pub ok: bool,
 }
 
-// Whether k log records of entries under n offices stand at the start.
+// Whether k log records of entries under n offices stand at the start: their marks one by one, their values together.
 fn log_ok(rest: &[u8], n: usize, k: usize) -> bool
     ensures { λ r. ⌜ r ≡ runOk 6 (recordHere n) k (now (rest .entry)) ⌝ }
 {
     let mut at: usize = 0;
+    let mut bits: u32 = 0;
     for i in 0..k {
-        let step = read_log(rest, at, n);
+        let step = read_log(rest, at);
         let ok = step.ok;
-        if ok {
-            at = step.next;
-        } else {
+        if !ok {
             return false;
         }
+        bits = bits | entries::raised(step.value, n);
+        at = step.next;
     }
-    true
+    entries::no_carry(bits)
 }
 
 // No ballots.

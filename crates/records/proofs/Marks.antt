@@ -1,14 +1,18 @@
--- The tests of a mark and of a record, from the facts that the code finds: a record stands at a position, or it does not. Assumes nothing.
+-- The tests of a mark and of a record, from the facts that the code finds: a record stands at a position, or it does not.
+--     Mark                               a mark stands at a position, with room for what follows it
+--     record-parts                       a log record's test is that of its mark and that of its value
+--     log-.., entry-.., next-.., end-..  a log record, one without its tests, a ballot's start, the end
+-- Assumes nothing.
 use Prim.Native.Nat.{ℕ, _+_, _-_, _*_, _≤_, _<_}
 use mathlib.Core.Bool.{Bool, false, true}
 use mathlib.Core.List.{List}
 use mathlib.Core.Option.{some}
-use mathlib.Core.Path.{_∙_, _≡_, sym, ap}
+use mathlib.Core.Path.{_∙_, _≡_, refl, sym, ap}
 use native.Mathlib.Nat.{add-zero}
 use native.Mathlib.Omega.{arith}
 use lib.Dec.{eqb, leb}
 use lib.ListN.{drop, getD, length, length-drop}
-use lib.Seq.{drop-drop, getD-drop}
+use lib.Seq.{getD-drop}
 use borrow.Author.Tests.{eq-eqb, eqb-true, le-leb, leb-true, lt-leb}
 use Rattle.protocol.specs.Entry.{isEntry}
 use Rattle.protocol.specs.Tests.{both, pick}
@@ -16,7 +20,7 @@ use Rattle.spelling.specs.Numbers.{be16, be32}
 use Rattle.spelling.specs.Reading.{ballotNext, endOk, recordAt, recordHere}
 use Rattle.protocol.proofs.Tests.{both-0, both-1}
 use Rattle.spelling.proofs.Ballots.{by-test}
-use Rattle.records.specs.Steps.{badLog, endAt, logAt, entryAt}
+use Rattle.records.specs.Steps.{badLog, endAt, entryAt, logAt, markHere}
 use Rattle.records.specs.declared.LogStep.{LogStep}
 
 -- k bytes stand at the position, and the first two are the mark
@@ -55,24 +59,44 @@ pub mark-number : (at : ℕ) (s : List ℕ) (v : ℕ) → v ≡ be16 (drop at s)
 unfolding be16
 mark-number at s v e = e ∙ simp (getD-drop, add-zero)
 
-module _ (n at : ℕ) (s : List ℕ) where
-  pub log-no : (Mark 6 0x4C 0x47 at s → ⊥) → false ≡ recordHere n (drop at s)
-  unfolding recordHere
-  log-no f = sym (mark-no 6 0x4C 0x47 at s (isEntry n (be32 (drop 2 (drop at s)))) (omega arith) f)
+-- the test of a mark, with nothing after it
+mark-alone : (s : List ℕ) → markHere s ≡ both (leb 6 (length s)) (both (eqb (getD s 0 0) 0x4C) (both (eqb (getD s 1 0) 0x47) true))
+unfolding markHere both
+mark-alone s = by-test _ (eqb (getD s 1 0) 0x47) (λ e. rw e) (λ e. rw e)
 
-  pub log-yes : Mark 6 0x4C 0x47 at s → isEntry n (be32 (drop (at + 2) s)) ≡ recordHere n (drop at s)
-  unfolding recordHere
-  log-yes m = sym (mark-yes 6 0x4C 0x47 at s (isEntry n (be32 (drop 2 (drop at s)))) (omega arith) m ∙ rw drop-drop)
+-- a record stands there where its mark does and its value is an entry
+pub record-parts : (n : ℕ) (s : List ℕ) → recordHere n s ≡ both (markHere s) (isEntry n (recordAt s))
+unfolding recordHere markHere recordAt both
+record-parts n s = grouped (leb 6 (length s)) (eqb (getD s 0 0) 0x4C) (eqb (getD s 1 0) 0x47) (isEntry n (be32 (drop 2 s)))
+  where
+    grouped : (a b c d : Bool) → both a (both b (both c d)) ≡ both (both a (both b c)) d
+    grouped true true c d = refl
+    grouped true false c d = refl
+    grouped false b c d = refl
 
-  pub log-good : (v : ℕ) → recordHere n (drop at s) ≡ true → v ≡ recordAt (drop at s) → record { ok = true; value = v; next = at + 6 } ≡ logAt n at s
+module _ (at : ℕ) (s : List ℕ) where
+  -- the mark does not stand there, or it does
+  pub log-no : (Mark 6 0x4C 0x47 at s → ⊥) → false ≡ markHere (drop at s)
+  log-no f = sym (mark-alone (drop at s) ∙ mark-no 6 0x4C 0x47 at s true (omega arith) f)
+
+  pub log-yes : Mark 6 0x4C 0x47 at s → true ≡ markHere (drop at s)
+  log-yes m = sym (mark-alone (drop at s) ∙ mark-yes 6 0x4C 0x47 at s true (omega arith) m)
+
+  -- where the mark stands there is room for the record
+  pub log-room : markHere (drop at s) ≡ true → at + 6 ≤ length s
+  unfolding markHere
+  log-room e = omega (arith, length-drop at s, leb-true 6 (length (drop at s)) (both-0 _ _ e))
+
+  -- the step by its mark
+  pub log-good : (v : ℕ) → markHere (drop at s) ≡ true → v ≡ recordAt (drop at s) → record { ok = true; value = v; next = at + 6 } ≡ logAt at s
   unfolding logAt pick
   log-good v e q = rw (e, q)
 
-  pub log-bad : recordHere n (drop at s) ≡ false → badLog ≡ logAt n at s
+  pub log-bad : markHere (drop at s) ≡ false → badLog ≡ logAt at s
   unfolding logAt pick
   log-bad e = rw e
 
-module _ (at : ℕ) (s : List ℕ) where
+  -- the step by its room
   pub entry-good : at + 6 ≤ length s → record { ok = true; value = recordAt (drop at s); next = at + 6 } ≡ entryAt at s
   unfolding entryAt pick
   entry-good h = let l : 6 ≤ length (drop at s) = rw length-drop (omega arith) in rw (le-leb 6 (length (drop at s)) l)

@@ -8,8 +8,8 @@ ghost use Prim.Native.Nat.{_+_, _*_, _≤_};
 ghost use lib.ListN.{length, drop};
 ghost use Rattle.ballots.specs.Ballots.{ballotOf};
 ghost use Rattle.spelling.specs.Numbers.{be32, runAt};
-ghost use Rattle.spelling.specs.Reading.{recordHere, recordAt, ballotNext, endOk};
-ghost use Rattle.records.specs.Steps.{badLog, logAt, entryAt, badBallot, ballotAt, endAt};
+ghost use Rattle.spelling.specs.Reading.{recordAt, ballotNext, endOk};
+ghost use Rattle.records.specs.Steps.{markHere, badLog, logAt, entryAt, badBallot, ballotAt, endAt};
 
 // A log record, and the position after it.
 pub struct LogStep {
@@ -39,9 +39,9 @@ fn record_at(s: &[u8], at: usize) -> u32
     be32_at(s, at + 2)
 }
 
-// Whether a log record of an entry under n offices stands at a position.
-fn record_here(s: &[u8], at: usize, n: usize) -> bool
-    ensures { λ r. ⌜ r ≡ recordHere n (drop at (now (s .entry))) ⌝ }
+// Whether there is room for a log record at a position, and its mark stands there.
+fn mark_here(s: &[u8], at: usize) -> bool
+    ensures { λ r. ⌜ r ≡ markHere (drop at (now (s .entry))) ⌝ }
 {
     if s.len() < 6 {
         return false;
@@ -52,7 +52,7 @@ fn record_here(s: &[u8], at: usize, n: usize) -> bool
     if be16_at(s, at) != 0x4C47 {
         return false;
     }
-    entries::is_entry(be32_at(s, at + 2), n)
+    true
 }
 
 // No log record.
@@ -66,11 +66,11 @@ fn bad_log() -> LogStep
     }
 }
 
-// The log record at a position.
-pub fn log_at(s: &[u8], at: usize, n: usize) -> LogStep
-    ensures { λ r. ⌜ r ≡ logAt n at (now (s .entry)) ⌝ }
+// The log record at a position, by its mark. The value is not tested: a caller tests those of all records together.
+pub fn log_at(s: &[u8], at: usize) -> LogStep
+    ensures { λ r. ⌜ r ≡ logAt at (now (s .entry)) ⌝ }
 {
-    if record_here(s, at, n) {
+    if mark_here(s, at) {
         let value = record_at(s, at);
         LogStep {
             ok: true,

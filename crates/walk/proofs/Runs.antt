@@ -1,4 +1,4 @@
--- What the code of the two shapes does, at m of 0, 1 and 3: it calls, and no more. The one copies the reader's fields into two locals and
+-- What the code of the two shapes does, at m of 0 and 3: it calls, and no more. The one copies the reader's fields into two locals and
 -- passes these before the numbers; the other has a reader made in its last local, and passes it before the numbers. Assumes nothing but `Given`.
 use mathlib.Core.Path.{_≡_, refl}
 use Prim.Native.Nat.{ℕ, _+_, _<_, _^_, suc, zero}
@@ -86,16 +86,6 @@ module _ {M : Type 1} (𝓤 : URA M) (H : Heap 𝓤) (A : Atoms 𝓤) (W : Given
       await ! tt $ learn ! (λ t. land ! (from ! (stop !)) (init ! 7 refl t) $ returns ! (look ! 7 refl) $
       move ! (7 ∷ 8 ∷ 5 ∷ 6 ∷ 3 ∷ 4 ∷ 1 ∷ 2 ∷ []) $ gone ! $ gone ! $ gone ! $ gone ! $ free0 ! $ done !))))))
 
-  pub calls₁ : Calling 𝓤 H 1 τ C Λ g
-  calls₁ κs d xs wt fit Q =
-      qed W (raw (C g (sliceVal (d .src .ptr) (length (d .src .now)) ∷ vint w64 (d .at) ∷ vint w64 (xs .0) ∷ []) (typed 𝓤 H τ Q)) ∷ []) ∵ enter ! C Λ (taking 1 τ g) (T′.lowered d ∷ vint w64 (xs .0) ∷ []) Q $
-      alloc1 ! (λ l₀. alloc1 ! (λ l₁. alloc1 ! (λ l₂. alloc1 ! (λ l₃. alloc1 ! (λ l₄. alloc0 ! $ params1 ! $ pass1 ! (init ! 6 refl wt) $ pass1 ! (init ! 4 refl (tt, record { fits = fit .0 .1 })) $ pass0 ! $
-      assigns ! (of-opd ! (load ! (from ! (fld ! refl (stop !))) (look-in ! 6 (sub ! 0 refl (whole !))))) (from ! (stop !)) (init ! 2 refl (tt, wt .1 .0)) $
-      assigns ! (of-opd ! (load ! (from ! (fld ! refl (stop !))) (look-in ! 6 (sub ! 1 refl (whole !))))) (from ! (stop !)) (init ! 0 refl (tt, wt .1 .1 .0)) $
-      move ! (10 ∷ []) $ calls ! fm (then τ Q) (and-then ! (held ! 3 refl) (and-then ! (held ! 1 refl) (and-then ! (held ! 5 refl) (no-more !)))) (λ u.
-      await ! tt $ learn ! (λ t. land ! (from ! (stop !)) (init ! 9 refl t) $ returns ! (look ! 9 refl) $
-      move ! (9 ∷ 10 ∷ 7 ∷ 8 ∷ 5 ∷ 6 ∷ 3 ∷ 4 ∷ 1 ∷ 2 ∷ []) $ gone ! $ gone ! $ gone ! $ gone ! $ gone ! $ free0 ! $ done !)))))))
-
   pub calls₃ : Calling 𝓤 H 3 τ C Λ g
   calls₃ κs d xs wt fit Q =
       qed W (raw (C g (sliceVal (d .src .ptr) (length (d .src .now)) ∷ vint w64 (d .at) ∷ vint w64 (xs .0) ∷ vint w64 (xs .1 .0) ∷ vint w64 (xs .1 .1 .0) ∷ []) (typed 𝓤 H τ Q)) ∷ []) ∵ enter ! C Λ (taking 3 τ g) (T′.lowered d ∷ vint w64 (xs .0) ∷ vint w64 (xs .1 .0) ∷ vint w64 (xs .1 .1 .0) ∷ []) Q $
@@ -117,14 +107,6 @@ module _ {M : Type 1} (𝓤 : URA M) (H : Heap 𝓤) (A : Atoms 𝓤) (W : Given
       move ! (8 ∷ []) $ calls ! fm (then ρ (second ([]) Q)) (and-then ! (held ! 5 refl) (and-then ! (held ! 3 refl) (no-more !))) (λ r. await ! tt $ learn ! (λ t. land ! (from ! (stop !)) (init ! 1 refl t) $
       calls ! fm (then τ Q) (and-then ! (held ! 1 refl) (no-more !)) (λ u. await ! tt $ learn ! (λ t′. land ! (from ! (stop !)) (init ! 7 refl t′) $ returns ! (look ! 7 refl) $
       move ! (7 ∷ 8 ∷ 5 ∷ 6 ∷ 3 ∷ 4 ∷ 1 ∷ 2 ∷ []) $ gone ! $ gone ! $ gone ! $ gone ! $ free0 ! $ done !))))))))
-
-  pub makes₁ : Making 𝓤 H 1 τ σ ρ C Λ n g
-  makes₁ κs v i xs wt fits fit Q =
-      qed W (raw (C n (v ∷ vint w64 i ∷ []) (typed 𝓤 H ρ (second (vint w64 (xs .0) ∷ []) Q))) ∷ []) ∵ enter ! C Λ (making 1 τ σ ρ n g) (v ∷ vint w64 i ∷ vint w64 (xs .0) ∷ []) Q $
-      alloc1 ! (λ l₀. alloc1 ! (λ l₁. alloc1 ! (λ l₂. alloc1 ! (λ l₃. alloc1 ! (λ l₄. alloc0 ! $ params1 ! $ pass1 ! (init ! 6 refl wt) $ pass1 ! (init ! 4 refl (tt, record { fits = fits })) $ pass1 ! (init ! 2 refl (tt, record { fits = fit .0 .1 })) $ pass0 ! $
-      move ! (10 ∷ []) $ calls ! fm (then ρ (second (vint w64 (xs .0) ∷ []) Q)) (and-then ! (held ! 7 refl) (and-then ! (held ! 5 refl) (no-more !))) (λ r. await ! tt $ learn ! (λ t. land ! (from ! (stop !)) (init ! 1 refl t) $
-      calls ! fm (then τ Q) (and-then ! (held ! 1 refl) (and-then ! (held ! 3 refl) (no-more !))) (λ u. await ! tt $ learn ! (λ t′. land ! (from ! (stop !)) (init ! 9 refl t′) $ returns ! (look ! 9 refl) $
-      move ! (9 ∷ 10 ∷ 7 ∷ 8 ∷ 5 ∷ 6 ∷ 3 ∷ 4 ∷ 1 ∷ 2 ∷ []) $ gone ! $ gone ! $ gone ! $ gone ! $ gone ! $ free0 ! $ done !)))))))))
 
   pub makes₃ : Making 𝓤 H 3 τ σ ρ C Λ n g
   makes₃ κs v i xs wt fits fit Q =

@@ -23,11 +23,11 @@ pub fn reader_at<'a>(src: &'a [u8], at: usize) -> Reader<'a>
     Reader { src, at }
 }
 
-// The log record at the reader's position.
-pub fn log_record<'a>(r: Reader<'a>, n: usize) -> LogStep
-    ensures { λ s. ⌜ s ≡ logAt n (r .entry .at) (now (r .entry .src)) ⌝ }
+// The log record at the reader's position, by its mark.
+pub fn log_record<'a>(r: Reader<'a>) -> LogStep
+    ensures { λ s. ⌜ s ≡ logAt (r .entry .at) (now (r .entry .src)) ⌝ }
 {
-    log_at(r.src, r.at, n)
+    log_at(r.src, r.at)
 }
 
 // The log record at the reader's position, of a message that was read already: its value, without the tests of it.
@@ -51,11 +51,11 @@ pub fn end<'a>(r: Reader<'a>) -> EndStep
     end_at(r.src, r.at)
 }
 
-// The log record at a position.
-pub fn read_log(s: &[u8], at: usize, n: usize) -> LogStep
-    ensures { λ r. ⌜ r ≡ logAt n at (now (s .entry)) ⌝ }
+// The log record at a position, by its mark.
+pub fn read_log(s: &[u8], at: usize) -> LogStep
+    ensures { λ r. ⌜ r ≡ logAt at (now (s .entry)) ⌝ }
 {
-    log_record(reader_at(s, at), n)
+    log_record(reader_at(s, at))
 }
 
 // The log record at a position of a message that was read already.

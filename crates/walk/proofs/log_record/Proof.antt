@@ -4,7 +4,7 @@ use Rattle.records.proofs.LogStep as S
 use Rattle.records.proofs.LogStep.Laws as S′
 use Rattle.records.proofs.log_at.Met as callee
 use Rattle.walk.proofs.Apart.{over-reader}
-use Rattle.walk.proofs.Runs.{calls₁}
+use Rattle.walk.proofs.Runs.{calls₀}
 use Rattle.walk.proofs.log_record.Key.{name}
 use Rattle.walk.proofs.log_record.Statement as stated
 use Rattle.walk.proofs.log_record.Code as code
@@ -12,4 +12,4 @@ use Rattle.walk.proofs.log_record.Code as code
 pub log-record-spec : {M : Type 1} → stated.statement M
 unfolding code.routine
 log-record-spec 𝓤 H 𝓜 𝓖 𝓡 =
-    over-reader 𝓤 H 𝓜 𝓖 𝓡 1 S.the-type S′.the-laws (λ _ xs. logAt (xs .0)) code.env name _ _ code.calls-records·log-at (code.unfolded 𝓤 H 𝓜 𝓡) (calls₁ 𝓤 H) (callee.met 𝓤 H 𝓜 𝓖 𝓡)
+    over-reader 𝓤 H 𝓜 𝓖 𝓡 0 S.the-type S′.the-laws (λ _ _. logAt) code.env name _ _ code.calls-records·log-at (code.unfolded 𝓤 H 𝓜 𝓡) (calls₀ 𝓤 H) (callee.met 𝓤 H 𝓜 𝓖 𝓡)

@@ -4,7 +4,7 @@ use Rattle.records.proofs.LogStep as S
 use Rattle.records.proofs.LogStep.Laws as S′
 use Rattle.walk.proofs.log_record.Met as callee
 use Rattle.walk.proofs.Made.{over-slice}
-use Rattle.walk.proofs.Runs.{makes₁}
+use Rattle.walk.proofs.Runs.{makes₀}
 use Rattle.walk.proofs.read_log.Key.{name}
 use Rattle.walk.proofs.read_log.Statement as stated
 use Rattle.walk.proofs.read_log.Code as code
@@ -12,4 +12,4 @@ use Rattle.walk.proofs.read_log.Code as code
 pub read-log-spec : {M : Type 1} → stated.statement M
 unfolding code.routine
 read-log-spec 𝓤 H 𝓜 𝓖 𝓡 =
-    over-slice 𝓤 H 𝓜 𝓖 𝓡 1 S.the-type S′.the-laws (λ _ xs. logAt (xs .0)) code.env name _ _ code.calls-walk·log-record code.calls-walk·reader-at (code.unfolded 𝓤 H 𝓜 𝓡) (makes₁ 𝓤 H) (callee.met 𝓤 H 𝓜 𝓖 𝓡)
+    over-slice 𝓤 H 𝓜 𝓖 𝓡 0 S.the-type S′.the-laws (λ _ _. logAt) code.env name _ _ code.calls-walk·log-record code.calls-walk·reader-at (code.unfolded 𝓤 H 𝓜 𝓡) (makes₀ 𝓤 H) (callee.met 𝓤 H 𝓜 𝓖 𝓡)
