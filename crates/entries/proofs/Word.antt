@@ -1,14 +1,13 @@
--- The test of a word as the code makes it: all three parts, and with at most 256 offices. Assumes nothing.
-use mathlib.Core.Path.{_≡_, refl, ap, _∙_}
-use mathlib.Core.Bool.{_&&_, false}
-use Prim.Native.Nat.{ℕ, _<_, _/_, _%_}
+-- The test of a word with at most 256 offices. Assumes nothing.
+use mathlib.Core.Path.{_≡_, refl}
+use mathlib.Core.Bool.{false}
+use Prim.Native.Nat.{ℕ, _<_, _/_}
 use native.Mathlib.Omega.{arith}
 use lib.Dec.{leb, ltb}
 use borrow.Author.Tests.{leb-false, lt-ltb}
-use Rattle.protocol.specs.Tests.{both, pick}
+use Rattle.protocol.specs.Tests.{pick}
 use Rattle.protocol.specs.Entry.{isEntry}
 use Rattle.protocol.proofs.Tests.{pick-cases}
-use Rattle.entries.proofs.Walk.{and-both}
 
 -- a word's office is below 256, so a limit above that tests as 256 does
 pub few-offices : (n v : ℕ) → v < 4294967296 → isEntry (pick (leb n 256) n 256) v ≡ isEntry n v
@@ -17,8 +16,3 @@ few-offices n v h = pick-cases (λ (m : ℕ). isEntry m v ≡ isEntry n v) (leb 
   where
     few : leb n 256 ≡ false → v / 16777216 < n
     few e = let g : 256 < n = leb-false n 256 e in omega (arith, g)
-
--- the three tests as the code makes them
-pub tests-made : (m v : ℕ) → (ltb (v / 16777216) m && (leb (v / 65536 % 256) 63 && leb (v % 65536) 9999)) ≡ isEntry m v
-unfolding isEntry
-tests-made m v = and-both _ _ ∙ ap (both (ltb (v / 16777216) m)) (and-both _ _)

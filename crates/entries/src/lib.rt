@@ -1,6 +1,5 @@
 // Entries as 32-bit words: packing, the test of a word, and walks over a slice of words.
 ghost use mathlib.Core.Path.{_≡_};
-ghost use Prim.Native.Nat.{ℕ};
 ghost use lib.Dec.{eqb, leb};
 ghost use Rattle.protocol.specs.Tests.{allB, pick};
 ghost use Rattle.protocol.specs.Entry.{value, isEntry};
@@ -22,20 +21,6 @@ fn offices(n: usize) -> u32
         return 256;
     }
     n as u32
-}
-
-// Whether a word is the value of an entry for n offices, any n that `offices` stands for. No branch, so that a loop of it runs on vectors.
-fn tests(word: u32, most: u32) -> bool
-    ensures { λ r. ⌜ ((n : ℕ) → most ≡ pick (leb n 256) n 256 → r ≡ isEntry n word) ⌝ }
-{
-    (word / 16777216 < most) & ((word / 65536 % 256 <= 63) & (word % 65536 <= 9999))
-}
-
-// Whether a word is the value of an entry for n offices.
-pub fn is_entry(word: u32, n: usize) -> bool
-    ensures { λ r. ⌜ r ≡ isEntry n word ⌝ }
-{
-    tests(word, offices(n))
 }
 
 // The word's office, the upper two bits of its line and half its code, each raised so that a number past its limit carries into a bit

@@ -6,7 +6,6 @@ use mathlib.Core.Path.{_≡_, _∙_, sym}
 use native.Mathlib.Nat.{add-zero, mul-zero, sub-zero}
 use native.Mathlib.Numerals.{add-one}
 use native.Mathlib.Omega.{arith}
-use lib.Dec.{leb}
 use lib.ListN.{length, getD, take, drop, set, length-drop, length-take, drop-of-length-le, replicate}
 use lib.Seq.{sets, drop-drop, drop-cons, getD-take, length-take-le}
 use borrow.Author.Tests.{leb-true}
@@ -30,14 +29,6 @@ unfolding runOk both
 test-fails w p k i s h e =
     let q : k - i ≡ suc (k - (i + 1)) = omega arith in
     rw (q, e)
-
-pub record-room : (n at : ℕ) (s : List ℕ) → recordHere n (drop at s) ≡ true → at + 6 ≤ length s
-unfolding recordHere
-record-room n at s e = let h : 6 ≤ length s - at = leb-true _ _ (rw length-drop at (both-0 (leb 6 (length (drop at s))) _ e)) in omega arith
-
-pub value-room : (n at : ℕ) (s : List ℕ) → valueHere n (drop at s) ≡ true → at + 4 ≤ length s
-unfolding valueHere
-value-room n at s e = let h : 4 ≤ length s - at = leb-true _ _ (rw length-drop at (both-0 (leb 4 (length (drop at s))) _ e)) in omega arith
 
 -- writing: what is left to store of the first k of xs at turn i, from place p on
 pub store-step : (w : ℕ) (f : ℕ → List ℕ) → ((v : ℕ) → length (f v) ≡ w) → (l xs : List ℕ) (p i k : ℕ) → i < k → k ≤ length xs
