@@ -85,15 +85,10 @@ module _ (words : List ℕ) (settled : ℕ) (ballots : List Ballot) (own : ℕ) 
       taking .ballots
       ∙ ap₂ (λ (bs qs : List Ballot). adopted (part new (m .settled) endOf) (map (pastBallot (part new settled endOf)) bs) qs) (R .held) offers-made
 
-  pub merged : (k : ℕ) (ws : List ℕ) (bs bs' : List Ballot) → k ≡ endOf → ws ≡ new
-      → bs ≡ map (pastBallot (part ws settled k)) ballots
-      → bs' ≡ adopted (part ws (m .settled) k) bs offered
-      → (_≡_ {A = Merged} (record { settled = k; ballots = bs' }) (mergedOf (withTake own (messageIn rest m) (officeIn words settled ballots))))
+  pub merged : (k : ℕ) (ws : List ℕ) (bs : List Ballot) → k ≡ endOf → ws ≡ new → bs ≡ adoptedBy ws k
+      → (_≡_ {A = Merged} (record { settled = k; ballots = bs }) (mergedOf (withTake own (messageIn rest m) (officeIn words settled ballots))))
       × (ws ≡ wordsWith (withTake own (messageIn rest m) (officeIn words settled ballots) .log) words)
-  merged k ws bs bs' ek ew eb ea = (
-    (λ i. record { settled = (ek ∙ sym (ap length (taking .log) ∙ caught-up .long)) i; ballots = (all ∙ sym ballots-made) i }),
+  merged k ws bs ek ew eb = (
+    (λ i. record { settled = (ek ∙ sym (ap length (taking .log) ∙ caught-up .long)) i; ballots = (eb ∙ ap₂ adoptedBy ew ek ∙ sym ballots-made) i }),
     ew ∙ sym (ap (λ (l : List ℕ). wordsWith l words) (taking .log) ∙ caught-up .kept),
   )
-    where
-      all : bs' ≡ adoptedBy new endOf
-      all = ea ∙ ap (λ (x : List Ballot). adopted (part ws (m .settled) k) x offered) eb ∙ ap₂ adoptedBy ew ek

@@ -1,12 +1,10 @@
 // Take's work on a log and eight ballots, from a message that was read: the two logs compared, the log caught up, the ballots brought past
 // it and offered the message's. Public only for the crate above, which proves what the functions require.
 ghost use mathlib.Core.Path.{_≡_};
-ghost use mathlib.Core.List.{_++_, map};
+ghost use mathlib.Core.List.{_++_};
 ghost use Prim.Native.Nat.{_*_, _≤_};
 ghost use lib.ListN.{length, take, drop};
 ghost use Rattle.protocol.specs.Take.{withTake};
-ghost use Rattle.ballots.specs.Ballots.{tailOf, ballotOf};
-ghost use Rattle.paths.specs.Paths.{pastBallot};
 ghost use Rattle.spelling.specs.Numbers.{runAt};
 ghost use Rattle.spelling.specs.Reading.{recordAt};
 ghost use Rattle.intake.specs.Intake.{officeIn, messageIn, mergedOf, either, caughtLength, caughtWords, Ready};
@@ -42,17 +40,6 @@ fn catch_up(log: &mut [u32], settled: usize, rest: &[u8], k: usize) -> usize
     k
 }
 
-// Every ballot brought past the words by which the log grew; where it did not grow, each stays as it is.
-fn bring_past(ballots: [Ballot; 8], words: &[u32]) -> [Ballot; 8]
-    requires { ⌜ map ballotOf (map tailOf ballots) ≡ ballots ⌝ }
-    ensures { λ r. ⌜ r ≡ map (pastBallot (now (words .entry))) ballots ⌝ }
-{
-    if words.len() == 0 {
-        return ballots;
-    }
-    paths::rebase(ballots, words)
-}
-
 // Takes a message whose log is comparable with the settled one: the log catches up, every ballot is brought past the entries that this
 // settled, and each is offered the message's ballot of its office, the own one the sender's. Later words keep their contents.
 pub fn take_in(
@@ -71,10 +58,16 @@ pub fn take_in(
     let sender = m.sender;
     let offers = m.ballots;
     let end = catch_up(log, settled, rest, theirs);
-    let rebased = bring_past(ballots, &log[settled..end]);
-    let adopted = paths::adopt(rebased, offers, own, sender, &log[theirs..end]);
+    let next = paths::merge(
+        ballots,
+        offers,
+        own,
+        sender,
+        &log[settled..end],
+        &log[theirs..end],
+    );
     Merged {
         settled: end,
-        ballots: adopted,
+        ballots: next,
     }
 }

@@ -7,7 +7,6 @@ use mathlib.Core.Bool.{Bool, true, false, cond}
 use mathlib.Core.Logic.{_⊎_, inl, inr}
 use mathlib.Core.List.{List, [], _∷_, _++_, map, append-assoc, append-nil}
 use Prim.Native.Nat.{ℕ}
-use native.Mathlib.Omega.{arith}
 use lib.ListN.{length, drop}
 use borrow.Author.Tests.{eq-eqb}
 use Rattle.protocol.specs.Tests.{pick}
@@ -16,7 +15,7 @@ use Rattle.protocol.specs.Office.{Office, Message}
 use Rattle.protocol.specs.Take.{rebased, rebase, catchUp, adopt, adopts, offers, withTake}
 use Rattle.protocol.proofs.Beginning.{⊏-⊑, ⊑-⊏-trans, ⊏-irrefl, ⊑-append, ⊑-rest, ⊏-cons, extends-true, extends-of, extends-false}
 use Rattle.ballots.specs.declared.Ballot.{Ballot}
-use Rattle.ballots.specs.Ballots.{tailOf, ballotOf}
+use Rattle.ballots.specs.Ballots.{ballotOf}
 use Rattle.ballots.proofs.Laws.{tail-of}
 use Rattle.paths.specs.Paths.{restPast, pastBallot, longerTail, longerBallot, adopted}
 
@@ -93,16 +92,6 @@ adopts-held m x (t ∷ ts) (q ∷ qs) =
     ap₂ (λ (b : Ballot) (bs : List Ballot). b ∷ bs)
     (ap ballotOf (adopt-past m x t q) ∙ sym (ap (longerBallot (ballotOf t)) (past-held x q) ∙ longer-held t (restPast x q)))
     (adopts-held m x ts qs)
-
--- ballots that hold their tails stay as they are beside a log that is not longer
-pub kept-past : (ws : List ℕ) (bs : List Ballot) → length ws ≡ 0 → map ballotOf (map tailOf bs) ≡ bs → bs ≡ map (pastBallot ws) bs
-unfolding pastBallot
-kept-past [] bs h e = sym (go bs ∙ e)
-  where
-    go : (cs : List Ballot) → map (pastBallot []) cs ≡ map ballotOf (map tailOf cs)
-    go [] = refl
-    go (b ∷ cs) = ap₂ (λ (x : Ballot) (xs : List Ballot). x ∷ xs) (ap ballotOf (rest-past-nil (tailOf b))) (go cs)
-kept-past (y ∷ ws) bs h e = absurd (omega arith)
 
 -- ── an office that catches up ──
 rebased-all : (l x : List ℕ) (ts : List (List ℕ)) → map (rebased l (l ++ x)) ts ≡ map (restPast x) ts

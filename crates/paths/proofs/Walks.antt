@@ -5,30 +5,25 @@
 --     past-none, past-some, past-room, longer-yes, longer-no     a ballot past the words, and the longer of two, by the tests on those parts
 --     zeros-behind        the cells behind k filled ones
 --     tail-most, past-short, offer-short     what a tail leaves past words that are as long, and an offer that is too short to count
---     fill-skip, past-at     a walk over the ballots that leaves one as it is, and one ballot of those past the words
---     adopted-at, adopted-length     one ballot of those that were offered another; from-at whose offer that is
 -- Assumes nothing.
 use mathlib.Core.Path.{_≡_, refl, sym, ap, _∙_}
 use mathlib.Core.Bool.{Bool, true, false}
-use mathlib.Core.List.{List, [], _∷_, _++_, map, append-assoc}
+use mathlib.Core.List.{List, [], _∷_}
 use Prim.Native.Nat.{ℕ, zero, suc, _+_, _-_, _<_, _≤_}
-use native.Mathlib.Nat.{not-suc-le-zero, le-of-suc-le-suc}
-use native.Mathlib.Numerals.{add-one, unary-clauses}
+use native.Mathlib.Numerals.{unary-clauses}
 use native.Mathlib.Omega.{arith}
 use lib.Dec.{eqb}
-use lib.ListN.{length, getD, set, take, drop, replicate, drop-of-length-le, length-drop, length-take}
-use lib.Seq.{take-suc, getD-set-same, getD-set-other}
-use borrow.Author.Tests.{eq-eqb, ne-eqb, eqb-true, eqb-false}
+use lib.ListN.{length, getD, take, drop, replicate, drop-of-length-le, length-drop, length-take}
+use borrow.Author.Tests.{eq-eqb, ne-eqb}
 use Rattle.protocol.specs.Tests.{pick}
 use Rattle.protocol.specs.Beginning.{extends}
 use Rattle.protocol.proofs.Beginning.{⊏-length, extends-true}
 use Rattle.protocol.proofs.Tests.{pick-cases, zeros, all-zeros, all-drop}
 use Rattle.entries.proofs.Walk.{rest-step}
-use Rattle.entries.proofs.Fill.{filled}
 use Rattle.ballots.specs.declared.Ballot.{Ballot}
-use Rattle.ballots.specs.Ballots.{tailOf, ballotOf, noBallot, offEnd}
+use Rattle.ballots.specs.Ballots.{tailOf, ballotOf, noBallot}
 use Rattle.ballots.proofs.Laws.{tail-of}
-use Rattle.paths.specs.Paths.{restPast, pastBallot, longerBallot, adopted}
+use Rattle.paths.specs.Paths.{restPast, pastBallot, longerBallot}
 
 -- a list that is not longer extends nothing
 pub not-longer : (t ws : List ℕ) → length t ≤ length ws → extends t ws ≡ false
@@ -122,42 +117,3 @@ offer-short ws b q h = rw (tail-of (restPast ws (tailOf q)), not-longer (restPas
     short : length (restPast ws (tailOf q)) ≤ length (tailOf b)
     short = pick-cases (λ (l : List ℕ). length l ≤ length (tailOf b)) (extends (tailOf q) ws) (drop (length ws) (tailOf q)) []
         (λ t. simp length-drop (omega arith)) (λ t. omega arith)
-
--- a walk that overwrites the list xs by the list ys passes a place where they are the same
-pub fill-skip : (ys xs : List Ballot) → length ys ≡ length xs → (i : ℕ) → i < length xs → getD xs i offEnd ≡ getD ys i offEnd → filled ys xs i ≡ filled ys xs (i + 1)
-fill-skip ys xs same i h e =
-    rw (rest-step offEnd xs i h, e, add-one)
-    (sym (ap (λ (l : List Ballot). l ++ drop (suc i) xs) (take-suc ys i offEnd (omega arith)) ∙ append-assoc (take i ys) (getD ys i offEnd ∷ []) (drop (suc i) xs)))
-
--- one of the ballots past the words
-pub past-at : (ws : List ℕ) (bs : List Ballot) (i : ℕ) → i < length bs → getD (map (pastBallot ws) bs) i offEnd ≡ pastBallot ws (getD bs i offEnd)
-past-at ws [] i h = absurd (not-suc-le-zero h)
-past-at ws (b ∷ bs) zero h = refl
-past-at ws (b ∷ bs) (suc i) h = past-at ws bs i (le-of-suc-le-suc h)
-
-pub adopted-length : (ws : List ℕ) (bs qs : List Ballot) → length (adopted ws bs qs) ≡ length bs
-unfolding adopted
-adopted-length ws [] qs = refl
-adopted-length ws (b ∷ bs) [] = refl
-adopted-length ws (b ∷ bs) (q ∷ qs) = ap suc (adopted-length ws bs qs)
-
-pub adopted-at : (ws : List ℕ) (bs qs : List Ballot) (i : ℕ) → i < length bs → i < length qs
-    → getD (adopted ws bs qs) i offEnd ≡ longerBallot (getD bs i offEnd) (pastBallot ws (getD qs i offEnd))
-unfolding adopted
-adopted-at ws [] qs i h l = absurd (not-suc-le-zero h)
-adopted-at ws (b ∷ bs) [] i h l = absurd (not-suc-le-zero l)
-adopted-at ws (b ∷ bs) (q ∷ qs) zero h l = refl
-adopted-at ws (b ∷ bs) (q ∷ qs) (suc i) h l = adopted-at ws bs qs i (le-of-suc-le-suc h) (le-of-suc-le-suc l)
-
--- the offer at a place, where the sender's stands at the own one
-pub from-at : (qs : List Ballot) (i own sender : ℕ) → i < length qs → (g : ℕ) → g ≡ pick (eqb i own) sender i → getD qs g offEnd ≡ getD (set qs own (getD qs sender offEnd)) i offEnd
-unfolding pick
-from-at qs i own sender h g q = go (eqb i own) refl
-  where
-    go : (t : Bool) → eqb i own ≡ t → getD qs g offEnd ≡ getD (set qs own (getD qs sender offEnd)) i offEnd
-    go true e =
-        let same = eqb-true i own e in
-        ap (λ (k : ℕ). getD qs k offEnd) (q ∙ ap (λ (t : Bool). pick t sender i) e) ∙
-        sym (ap (λ (k : ℕ). getD (set qs k (getD qs sender offEnd)) i offEnd) (sym same) ∙ getD-set-same qs i (getD qs sender offEnd) offEnd h)
-    go false e =
-        ap (λ (k : ℕ). getD qs k offEnd) (q ∙ ap (λ (t : Bool). pick t sender i) e) ∙ sym (getD-set-other qs own i (getD qs sender offEnd) offEnd (eqb-false i own e))

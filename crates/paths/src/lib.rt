@@ -93,22 +93,6 @@ fn offered(b: Ballot, offer: Ballot, words: &[u32]) -> Ballot
     longer(b, past(offer, words))
 }
 
-// Every ballot beside a log that is longer by the words. A tail that is not longer than the words cannot extend them.
-pub fn rebase(ballots: [Ballot; 8], words: &[u32]) -> [Ballot; 8]
-    ensures { λ r. ⌜ r ≡ map (pastBallot (now (words .entry))) ballots ⌝ }
-{
-    let none = Ballot::none();
-    let mut next = [none; 8];
-    for i in 0..8 {
-        let len = ballots[i].len;
-        if len > words.len() {
-            let b = ballots[i];
-            next[i] = past(b, words);
-        }
-    }
-    next
-}
-
 // Whose offer a place has: at the own place the sender's.
 fn from(i: usize, own: usize, sender: usize) -> usize
     requires { ⌜ (i < 8) × (sender < 8) ⌝ }
@@ -117,27 +101,33 @@ fn from(i: usize, own: usize, sender: usize) -> usize
     if i == own { sender } else { i }
 }
 
-// Every ballot after its offer, which stands beside a log that is shorter by the words: the offer of its own office, and at the own
-// place the sender's. An offer that is not longer than the words leaves the ballot. Public only for the crate above, which proves that
-// the sender has a place.
-pub fn adopt(
+// Every ballot brought past the words by which the log grew, and then after its offer, which stands beside a log that is shorter by the
+// words between: the offer of its own office, and at the own place the sender's. An offer that is not longer than those words leaves the
+// ballot, and where the log did not grow each ballot stays as it is. Public only for the crate above, which proves what it requires.
+pub fn merge(
     ballots: [Ballot; 8],
     offers: [Ballot; 8],
     own: usize,
     sender: usize,
-    words: &[u32],
+    grown: &[u32],
+    between: &[u32],
 ) -> [Ballot; 8]
-    requires { ⌜ sender < 8 ⌝ }
-    ensures { λ r. ⌜ r ≡ adopted (now (words .entry)) ballots (set offers own (getD offers sender offEnd)) ⌝ }
+    requires { ⌜ (sender < 8) × (map ballotOf (map tailOf ballots) ≡ ballots) ⌝ }
+    ensures { λ r. ⌜ r ≡ adopted (now (between .entry)) (map (pastBallot (now (grown .entry))) ballots) (set offers own (getD offers sender offEnd)) ⌝ }
 {
     let mut next = ballots;
     for i in 0..8 {
+        let len = next[i].len;
+        if (len > 0) & (grown.len() > 0) {
+            let b = next[i];
+            next[i] = past(b, grown);
+        }
         let giver = from(i, own, sender);
-        let len = offers[giver].len;
-        if len > words.len() {
-            let b = ballots[i];
+        let offer_len = offers[giver].len;
+        if offer_len > between.len() {
+            let b = next[i];
             let offer = offers[giver];
-            next[i] = offered(b, offer, words);
+            next[i] = offered(b, offer, between);
         }
     }
     next

@@ -15,12 +15,12 @@ inside : (c : tie.After-catch-up) → c .catch-up .result ≤ length (c .catch-u
 inside c = omega (arith, within _ _ _ _ _ _ (c .before .before .before .before .before .pre), c .catch-up .ensures .0, c .catch-up .kept .0)
 
 returns : tie.Need-returns
-returns c = let u = c .before .before .before .before .before .before .before .before .catch-up in merged _ _ _ _ _ _ (c .before .before .before .before .before .before .before .before .before .before .before .before .before .pre) _ _ _ _ (u .ensures .0) (u .ensures .1) (c .before .before .before .bring-past .ensures) (c .adopt .ensures)
+returns c = let u = c .before .before .before .before .before .before .catch-up in merged _ _ _ _ _ _ (c .before .before .before .before .before .before .before .before .before .before .before .pre) _ _ _ (u .ensures .0) (u .ensures .1) (c .merge .ensures)
 
 pub take-in-spec : {M : Type 1} → statement M
 take-in-spec =
     tie.close (tie.spec (λ c κs. search needs) (λ c. search needs) (λ c. let p = past-both (c .before .before) in omega arith)
     (λ c. let p = past-both (c .before .before .before) in search needs) (λ c. let p = inside (c .before .before .before) in search needs)
-    (λ c κs. search needs) (λ c. search needs) (λ c. let p = past-both (c .before .before .before .before .before) in omega arith)
-    (λ c. let p = past-both (c .before .before .before .before .before .before) in search needs)
-    (λ c. let p = inside (c .before .before .before .before .before .before) in search needs) (λ c κs. search needs) (λ c. search needs) returns)
+    (λ c. search needs) (λ c. let p = past-both (c .before .before .before .before) in omega arith)
+    (λ c. let p = past-both (c .before .before .before .before) in search needs)
+    (λ c. let p = inside (c .before .before .before .before) in search needs) (λ c κs. search needs) (λ c. search needs) returns)
