@@ -6,12 +6,12 @@ use Prim.Native.Nat.{ℕ, _+_, _-_, _<_, _≤_, suc, zero}
 use mathlib.Core.Bool.{Bool, false, true}
 use mathlib.Core.List.{List, [], _∷_, map, map-append}
 use mathlib.Core.Path.{_∙_, _≡_, ap, refl, sym}
-use native.Mathlib.Nat.{sub-zero}
+use native.Mathlib.Nat.{le-of-eq, not-suc-le-zero, sub-zero}
 use native.Mathlib.Numerals.{add-one}
 use native.Mathlib.Omega.{arith}
-use lib.ListN.{drop, length, length-map, replicate, set}
+use lib.ListN.{drop, getD, length, length-map, replicate, set}
 use lib.Bits.{bitOr}
-use lib.Seq.{drop-drop, sets}
+use lib.Seq.{drop-drop, getD-set-other, set-getD, sets}
 use Rattle.ballots.specs.Ballots.{ballotOf, noBallot}
 use Rattle.ballots.specs.declared.Ballot.{Ballot}
 use Rattle.entries.specs.Carries.{noCarry, raised}
@@ -30,7 +30,7 @@ use Rattle.spelling.proofs.Ballots.{by-test, tailsAt-length}
 use Rattle.spelling.proofs.Numbers.{sets-alike}
 use Rattle.spelling.proofs.Steps.{test-end, test-fails, test-step}
 use Rattle.records.proofs.Marks.{record-parts}
-use Rattle.reader.specs.Read.{badRecords, ballotsAt, ballotsOf}
+use Rattle.reader.specs.Read.{ballotsOf}
 
 module _ (n k o at : ℕ) (s : List ℕ) where
   pub step-ok : ballotAt n k o at s .ok ≡ ballotOk n k o (drop at s)
@@ -68,10 +68,6 @@ module _ (n k o at : ℕ) (s : List ℕ) where
   unfolding ballotsOk
   end-test h = let q : n - o ≡ 0 = omega arith in rw q
 
-pub all-bad : (n k at : ℕ) (s : List ℕ) → ballotsOk n k 0 n (drop at s) ≡ false → ballotsAt n k at s ≡ badRecords
-unfolding ballotsAt pick
-all-bad n k at s e = rw e
-
 -- eight ballots of which the first n are stored
 stored-all : (n : ℕ) (ts : List (List ℕ)) → length ts ≡ n → n ≤ 8 → sets (replicate 8 noBallot) 0 (map ballotOf ts) ≡ ballotsOf n ts
 unfolding ballotsOf eightTails
@@ -82,11 +78,6 @@ stored-all n ts e h =
     map-alike : (k : ℕ) → map ballotOf (replicate k []) ≡ replicate k noBallot
     map-alike zero = refl
     map-alike (suc k) = ap (λ (bs : List Ballot). noBallot ∷ bs) (map-alike k)
-
-pub all-good : (n k at : ℕ) (s : List ℕ) (l : List Ballot) → n ≤ 8 → ballotsOk n k 0 n (drop at s) ≡ true → l ≡ sets (replicate 8 noBallot) 0 (map ballotOf (tailsAt 0 n (drop at s)))
-    → record { ok = true; ballots = l } ≡ ballotsAt n k at s
-unfolding ballotsAt pick
-all-good n k at s l h e q = rw (e, q, stored-all n (tailsAt 0 n (drop at s)) (tailsAt-length 0 n (drop at s)) h)
 
 -- what the end's step says
 end-step-ok : (at : ℕ) (s : List ℕ) → endAt at s .ok ≡ endOk (drop at s)
@@ -149,36 +140,63 @@ pub log-begins : (n k : ℕ) (s : List ℕ) → leftAt n k 0 0 0 s ≡ runOk 6 (
 unfolding both
 log-begins n k s = rw (no-carry-zero, sub-zero)
 
--- ---- the loop's invariant: what is left to test, and to store, from office o at position at, is what there was to test and to store at first
+-- ---- the loop over the ballots: what is left to test, and to store, from office o at position at, is what there was to test and to store
+-- at first, and no ballot is stored yet from office o on
 
 pub record Left (s : List ℕ) (from n k : ℕ) (l : List Ballot) (at o : ℕ) : Type 0 where
   pub few : o ≤ n
   pub tests : ballotsOk n k o (n - o) (drop at s) ≡ ballotsOk n k 0 n (drop from s)
   pub stores : sets l o (map ballotOf (tailsAt o (n - o) (drop at s))) ≡ sets (replicate 8 noBallot) 0 (map ballotOf (tailsAt 0 n (drop from s)))
+  pub blank : (i : ℕ) → o ≤ i → getD l i noBallot ≡ noBallot
+
+-- a ballot of no entries is none
+none-empty : (t : List ℕ) → ballotOf t .len ≡ 0 → ballotOf t ≡ noBallot
+none-empty [] e = refl
+none-empty (x ∷ t) e = absurd (not-suc-le-zero (le-of-eq e))
 
 module _ {s : List ℕ} {from n k : ℕ} {l : List Ballot} {at o : ℕ} (inv : Left s from n k l at o) where
   module _ {r : BallotStep} (h : o < n) (e : r ≡ ballotAt n k o at s) where
-    pub again : r .ok ≡ true → Left s from n k (set l o (r .ballot)) (r .next) (o + 1)
-    again t =
-        let q : ballotOk n k o (drop at s) ≡ true = sym (step-ok n k o at s) ∙ ap (λ (x : BallotStep). x .ok) (sym e) ∙ t in
-        rw (e, step-next n k o at s q, step-ballot n k o at s q)
-        (record { few = omega arith; tests = sym (turn-ok n k o at s q h) ∙ inv .tests; stores = turn-tails n k o at s l h ∙ inv .stores })
+    here : (t : Bool) → r .ok ≡ t → ballotOk n k o (drop at s) ≡ t
+    here t q = sym (step-ok n k o at s) ∙ ap (λ (x : BallotStep). x .ok) (sym e) ∙ q
 
-    pub fails : r .ok ≡ false → badRecords ≡ ballotsAt n k from s
-    fails t =
-        let q : ballotOk n k o (drop at s) ≡ false = sym (step-ok n k o at s) ∙ ap (λ (x : BallotStep). x .ok) (sym e) ∙ t in
-        sym (all-bad n k from s (sym (inv .tests) ∙ turn-fails n k o at s h q))
+    module _ (t : r .ok ≡ true) where
+      -- the ballot is stored
+      pub again : Left s from n k (set l o (r .ballot)) (r .next) (o + 1)
+      again =
+          let q : ballotOk n k o (drop at s) ≡ true = here true t in
+          rw (e, step-next n k o at s q, step-ballot n k o at s q)
+          (record {
+            few = omega arith;
+            tests = sym (turn-ok n k o at s q h) ∙ inv .tests;
+            stores = turn-tails n k o at s l h ∙ inv .stores;
+            blank = λ i g. getD-set-other l o i _ noBallot (λ (d : i ≡ o). omega arith) ∙ inv .blank i (omega arith);
+          })
+
+      -- a ballot that is none stands there already
+      pub skipped : r .ballot .len ≡ 0 → Left s from n k l (r .next) (o + 1)
+      skipped z = rw kept at again
+        where
+          kept : set l o (r .ballot) ≡ l
+          kept =
+              let b : r .ballot ≡ ballotOf (tailAt o (drop at s)) = ap (λ (x : BallotStep). x .ballot) e ∙ step-ballot n k o at s (here true t) in
+              ap (set l o) (b ∙ none-empty (tailAt o (drop at s)) (ap (λ (x : Ballot). x .len) (sym b) ∙ z) ∙ sym (inv .blank o (omega arith))) ∙ set-getD l o noBallot
+
+    pub fails : r .ok ≡ false → ballotsOk n k 0 n (drop from s) ≡ false
+    fails t = sym (inv .tests) ∙ turn-fails n k o at s h (here false t)
 
   -- after the last office the end decides
   module _ {r : EndStep} (h : n ≤ o) (e : r ≡ endAt at s) where
-    decides : ballotsOk n k 0 n (drop from s) ≡ r .ok
+    pub decides : ballotsOk n k 0 n (drop from s) ≡ r .ok
     decides = sym (inv .tests) ∙ end-test n k o at s h ∙ sym (end-step-ok at s) ∙ ap (λ (x : EndStep). x .ok) (sym e)
 
-    pub ends-bad : r .ok ≡ false → badRecords ≡ ballotsAt n k from s
-    ends-bad t = sym (all-bad n k from s (decides ∙ t))
-
-    pub ends-good : n ≤ 8 → r .ok ≡ true → record { ok = true; ballots = l } ≡ ballotsAt n k from s
-    ends-good few t = all-good n k from s l few (decides ∙ t) (sym (end-tails n k o at s l h) ∙ inv .stores)
+    pub all-stored : n ≤ 8 → l ≡ ballotsOf n (tailsAt 0 n (drop from s))
+    all-stored most = sym (end-tails n k o at s l h) ∙ inv .stores ∙ stored-all n (tailsAt 0 n (drop from s)) (tailsAt-length 0 n (drop from s)) most
 
 pub begins-left : {s : List ℕ} {from n k : ℕ} {b : Ballot} → b ≡ noBallot → Left s from n k (replicate 8 b) from 0
-begins-left e = record { few = omega arith; tests = rw sub-zero; stores = rw (sub-zero, e) }
+begins-left e =
+    rw e (record { few = omega arith; tests = rw sub-zero; stores = rw sub-zero; blank = λ i g. blank-8 8 i })
+  where
+    blank-8 : (k i : ℕ) → getD (replicate k noBallot) i noBallot ≡ noBallot
+    blank-8 zero i = refl
+    blank-8 (suc k) zero = refl
+    blank-8 (suc k) (suc i) = blank-8 k i

@@ -3,13 +3,10 @@ use Prim.Native.Nat.{ℕ, _+_, _-_, _*_}
 use mathlib.Core.Bool.{true, false}
 use mathlib.Core.Option.{Option, none, some}
 use mathlib.Core.List.{List, _++_, map}
-use lib.ListN.{length, drop, replicate}
-use Rattle.protocol.specs.Tests.{pick}
+use lib.ListN.{length, replicate}
 use Rattle.ballots.specs.declared.Ballot.{Ballot}
 use Rattle.ballots.specs.Ballots.{ballotOf, noBallot}
 use Rattle.spelling.specs.Content.{Content, eightTails}
-use Rattle.spelling.specs.Reading.{ballotsOk, tailsAt, recordsOk}
-use Rattle.reader.specs.declared.Records.{Records}
 use Rattle.reader.specs.declared.Reading.{Reading}
 
 -- the tails of n offices as eight ballots
@@ -19,18 +16,6 @@ ballotsOf n ts = map ballotOf (eightTails n ts)
 -- the weights of n offices, and zeros up to the eighth
 unfoldable pub eightWeights : ℕ → List ℕ → List ℕ
 eightWeights n ws = ws ++ replicate (8 - n) 0
-
--- the records are not of the layout
-unfoldable pub badRecords : Records
-badRecords = record { ok = false; ballots = replicate 8 noBallot }
-
--- the ballots of n offices from a position on, under k settled entries, to the end of the message
-unfoldable pub ballotsAt : ℕ → ℕ → ℕ → List ℕ → Records
-ballotsAt n k at s = pick (ballotsOk n k 0 n (drop at s)) (record { ok = true; ballots = ballotsOf n (tailsAt 0 n (drop at s)) }) badRecords
-
--- the records after the head: k log records, the ballots of n offices, the end
-unfoldable pub recordsAt : ℕ → ℕ → List ℕ → Records
-recordsAt n k s = pick (recordsOk n k s) (record { ok = true; ballots = ballotsOf n (tailsAt 0 n (drop (6 * k) s)) }) badRecords
 
 -- the bytes are no message
 unfoldable pub badReading : Reading

@@ -13,18 +13,12 @@ ghost use lib.Seq.{sets};
 ghost use Rattle.protocol.specs.Beginning.{begins};
 ghost use Rattle.spelling.specs.Numbers.{be16, runAt, runOk};
 ghost use Rattle.spelling.specs.Reading.{recordHere, recordAt, headOk, reading};
-ghost use Rattle.reader.specs.Read.{eightWeights, badRecords, ballotsAt, recordsAt, badReading, readingOf};
+ghost use Rattle.reader.specs.Read.{eightWeights, badReading, readingOf};
 
 // The most offices, and the most settled entries.
 const OFFICES: usize = 8;
 
 const LOG: u16 = 1024;
-
-// What the records after the head say: the ballots. The settled entries stay in the message.
-struct Records {
-    pub ballots: [Ballot; 8],
-    pub ok: bool,
-}
 
 // What a message says. Its settled entries stay in it, six bytes each after the head.
 pub struct Reading {
@@ -53,58 +47,6 @@ fn log_ok(rest: &[u8], n: usize, k: usize) -> bool
         at = step.next;
     }
     entries::no_carry(bits)
-}
-
-// No ballots.
-fn bad_records() -> Records
-    ensures { λ r. ⌜ r ≡ badRecords ⌝ }
-{
-    let none = Ballot::none();
-    Records {
-        ok: false,
-        ballots: [none; 8],
-    }
-}
-
-// The ballots of n offices from a position on, to the end of the message.
-fn ballots_at(rest: &[u8], from: usize, n: usize, k: usize) -> Records
-    requires { ⌜ n ≤ 8 ⌝ }
-    ensures { λ r. ⌜ r ≡ ballotsAt n k from (now (rest .entry)) ⌝ }
-{
-    let none = Ballot::none();
-    let mut ballots = [none; 8];
-    let mut at = from;
-    for o in 0..n {
-        let step = read_ballot(rest, at, n, k, o);
-        let ok = step.ok;
-        if ok {
-            let b = step.ballot;
-            ballots[o] = b;
-            at = step.next;
-        } else {
-            return bad_records();
-        }
-    }
-    let end = read_end(rest, at);
-    let ok = end.ok;
-    if ok {
-        Records { ok: true, ballots }
-    } else {
-        bad_records()
-    }
-}
-
-// The records after the head: k log records, the ballots of n offices, the end. A head that passed its test names no more than eight
-// offices and 1024 entries.
-fn records_at(rest: &[u8], n: usize, k: usize) -> Records
-    requires { ⌜ (k ≤ 1024) × (n ≤ 8) ⌝ }
-    ensures { λ r. ⌜ r ≡ recordsAt n k (now (rest .entry)) ⌝ }
-{
-    if log_ok(rest, n, k) {
-        ballots_at(rest, 6 * k, n, k)
-    } else {
-        bad_records()
-    }
 }
 
 // The k weights at a position, and zeros after them.
@@ -170,36 +112,49 @@ fn bad_reading() -> Reading
     }
 }
 
-// What a message says, or a refusal. "The rest of the message after the head" is handed on to the record reader.
+// What a message says, or a refusal. "The rest of the message after the head" is handed on to the record readers: the log records first,
+// then the ballots, offices rising, then the end. The ballots are gathered here, since a function that handed them on would copy them.
 pub fn read(msg: &[u8]) -> Reading
     ensures { λ r. ⌜ r ≡ readingOf (reading (now (msg .entry))) ⌝ }
 {
-    if head_ok(msg) {
-        let n = wide(msg[3]) as usize;
-        let at = 4 + 2 * n;
-        let settled = be16_at(msg, at) as usize;
-        let head = 6 + 2 * n;
-        let rest = &msg[head..];
-        let records = records_at(rest, n, settled);
-        let ok = records.ok;
-        if ok {
-            let weights = weights_at(msg, 4, n);
-            let ballots = records.ballots;
-            let sender = wide(msg[2]) as usize;
-            Reading {
-                ok: true,
-                sender,
-                n,
-                weights,
-                settled,
-                head,
-                ballots,
-            }
-        } else {
-            bad_reading()
+    if !head_ok(msg) {
+        return bad_reading();
+    }
+    let n = wide(msg[3]) as usize;
+    let settled = be16_at(msg, 4 + 2 * n) as usize;
+    let head = 6 + 2 * n;
+    let rest = &msg[head..];
+    if !log_ok(rest, n, settled) {
+        return bad_reading();
+    }
+    let none = Ballot::none();
+    let mut ballots = [none; 8];
+    let mut at = 6 * settled;
+    for o in 0..n {
+        let step = read_ballot(rest, at, n, settled, o);
+        if !step.ok {
+            return bad_reading();
         }
-    } else {
-        bad_reading()
+        let b = step.ballot;
+        if b.len > 0 {
+            ballots[o] = b;
+        }
+        at = step.next;
+    }
+    let end = read_end(rest, at);
+    if !end.ok {
+        return bad_reading();
+    }
+    let weights = weights_at(msg, 4, n);
+    let sender = wide(msg[2]) as usize;
+    Reading {
+        ok: true,
+        sender,
+        n,
+        weights,
+        settled,
+        head,
+        ballots,
     }
 }
 
