@@ -3,24 +3,23 @@
 --     content-valid, content-message          what the message of a sound record says is valid, and is the own office's state
 --     send-wrote, send-read                   the bytes of a done send are the message, and it is read back
 -- Assumes nothing.
-use mathlib.Core.Path.{_≡_, refl, ap, _∙_}
+use mathlib.Core.Path.{_≡_, refl, sym, ap, _∙_}
 use mathlib.Core.Bool.{Bool, true, false}
-use mathlib.Core.List.{List, _++_}
+use mathlib.Core.List.{List}
 use mathlib.Core.Option.{some}
-use Prim.Native.Nat.{ℕ, _<_, _≤_}
+use Prim.Native.Nat.{ℕ, _<_}
 use native.Mathlib.Omega.{arith}
 use lib.Dec.{ltb}
 use lib.ListN.{length, take, drop}
 use lib.Seq.{take-append-seam}
-use borrow.Author.Tests.{lt-ltb, le-ltb}
-use Rattle.protocol.specs.Tests.{pick, allB}
+use Rattle.protocol.specs.Tests.{pick}
 use Rattle.protocol.proofs.Limits.{fine-of}
-use Rattle.ballots.specs.Ballots.{ballotShape}
 use Rattle.spelling.specs.Content.{asMessage, validContent}
 use Rattle.spelling.specs.Reading.{reading}
+use Rattle.spelling.specs.Spelling.{headBytes, spelling}
 use Rattle.spelling.proofs.Laws.{reading-spelling}
-use Rattle.writer.specs.Written.{size, Writable}
-use Rattle.writer.proofs.Whole.{size-is}
+use Rattle.writer.specs.Written.{Writable, writtenBytes, writtenLength}
+use Rattle.writer.proofs.Whole.{answer-fits, answer-short}
 use Rattle.writer.proofs.Contents as contents
 use Rattle.frame.specs.State.{heldBy}
 use Rattle.frame.specs.Soundness.{soundB, Sound}
@@ -38,21 +37,19 @@ pub send-unsound : (r : Record) (words out : List ℕ) → soundB r words ≡ fa
 unfolding sendOf sendBytes sendNumber pick
 send-unsound r words out e = (simp e, simp e)
 
+-- a message has its head's bytes at least
+message-some : (r : Record) (words : List ℕ) → 0 < length (messageOf r words)
+unfolding spelling headBytes
+message-some r words = omega arith
+
 module _ (r : Record) (words : List ℕ) (S : Sound r words) where
-  -- the writer's size is the message's length
-  pub size-of : size (r .n) (r .settled) (r .ballots) ≡ length (messageOf r words)
-  size-of = size-is (r .own) (r .n) (r .weights) words (r .settled) (r .ballots) (let H = S .head in omega arith) (omega arith)
-
-  pub shapes : allB ballotShape (r .ballots) ≡ true
-  shapes = contents.shapes-of (r .n) (r .settled) (r .ballots) (S .fine)
-
   pub writable : Writable (r .own) (r .n) words (r .settled) (r .ballots)
   writable = record {
     few-offices = S .head .most;
     sender-below = S .head .member;
     settled-few = S .most;
     log-long = omega arith;
-    shapes = shapes;
+    shapes = contents.shapes-of (r .n) (r .settled) (r .ballots) (S .fine);
   }
 
   pub content-valid : validContent (contentOf r words) ≡ true
@@ -66,21 +63,21 @@ module _ (r : Record) (words : List ℕ) (S : Sound r words) where
       contents.content-message (r .own) (r .n) (r .weights) words (r .settled) (r .ballots) (S .head .most)
       (fine-of (r .n) (heldBy r words) (held-fine r words S))
 
-  module _ (out : List ℕ) where
-    pub send-short : length out < size (r .n) (r .settled) (r .ballots) → Sends r words out (record { number = 6; length = 0 }) out
-    unfolding sendOf sendBytes sendNumber pick
+  -- the writer's answer k, and the output after it
+  module _ (out : List ℕ) {k : ℕ} {out' : List ℕ} (answer : k ≡ writtenLength (messageOf r words) out) (after : out' ≡ writtenBytes (messageOf r words) out) where
+    pub send-short : k ≡ 0 → Sends r words out (record { number = 6; length = 0 }) out'
+    unfolding sendOf sendBytes sendNumber writtenBytes pick
     send-short h =
         let s = sound-true r words S in
-        let l = lt-ltb (length out) (length (messageOf r words)) (omega (arith, size-of)) in
-        (simp (s, l), simp (s, l))
+        let l = answer-short (messageOf r words) out (message-some r words) (sym answer ∙ h) in
+        (simp (s, l), simp (s, l) (after ∙ simp l))
 
-    pub send-done : size (r .n) (r .settled) (r .ballots) ≤ length out
-        → Sends r words out (record { number = 0; length = size (r .n) (r .settled) (r .ballots) }) (messageOf r words ++ drop (length (messageOf r words)) out)
-    unfolding sendOf sendBytes sendNumber pick
+    pub send-done : (k ≡ 0 → ⊥) → Sends r words out (record { number = 0; length = k }) out'
+    unfolding sendOf sendBytes sendNumber writtenLength writtenBytes pick
     send-done h =
         let s = sound-true r words S in
-        let l = le-ltb (length out) (length (messageOf r words)) (omega (arith, size-of)) in
-        (simp (s, l) (ap (λ (k : ℕ). record { number = 0; length = k }) size-of), simp (s, l))
+        let l = answer-fits (messageOf r words) out (λ e. h (answer ∙ e)) in
+        (simp (s, l) (ap (λ (x : ℕ). record { number = 0; length = x }) (answer ∙ simp l)), simp (s, l) (after ∙ simp l))
 
 -- what a done send found and left
 pub send-sound : (r : Record) (words out : List ℕ) → sendNumber r words out ≡ 0 → soundB r words ≡ true

@@ -20,18 +20,14 @@ impl Record {
         let weights = self.weights;
         let settled = self.settled;
         let ballots = self.ballots;
-        let size = writer::size(n, settled, ballots);
-        if out.len() < size {
+        let length = writer::write(self.own, n, weights, log, settled, ballots, out);
+        if length == 0 {
             return Sent {
                 number: 6,
                 length: 0,
             };
         }
-        writer::write(self.own, n, weights, log, settled, ballots, out);
-        Sent {
-            number: 0,
-            length: size,
-        }
+        Sent { number: 0, length }
     }
 
     // Send writes the record's message to the output and answers its length.

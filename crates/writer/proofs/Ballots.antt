@@ -90,10 +90,10 @@ pub put-begins : (l : List ℕ) (at n : ℕ) (bs : List Ballot) → ToPut l at n
 unfolding restBytes tailsOf
 put-begins l at n bs = record { within = zero-le; left = left-all l at (ballotsBytes 0 (tailsOf n bs)) }
 
--- the invariant of the loop that counts
-abbrev pub ToCount : ℕ → List Ballot → ℕ → ℕ → Type 0
-ToCount n bs size o = (o ≤ n) × ((size + length (restBytes n bs o) ≡ length (ballotsBytes 0 (tailsOf n bs))) × (size ≤ 132 * o))
+-- the invariant of the loop that counts: the size so far and that of the ballots left are the size of all, and each ballot adds 132 at most
+abbrev pub ToCount : ℕ → ℕ → List Ballot → ℕ → ℕ → Type 0
+ToCount base n bs size o = (o ≤ n) × ((size + length (restBytes n bs o) ≡ base + length (ballotsBytes 0 (tailsOf n bs))) × (size ≤ base + 132 * o))
 
-pub count-again : (n : ℕ) (bs : List Ballot) (size o : ℕ) (d : Ballot) (r : ℕ) → ToCount n bs size o → o < n → n ≤ length bs
-    → r ≡ length (ballotBytes o (tailOf (getD bs o d))) → r ≤ 132 → ToCount n bs (size + r) (o + 1)
-count-again n bs size o d r inv h j e k = omega (arith, simp length-append at (ap length (rest-step n bs o d h j)))
+pub count-again : (base n : ℕ) (bs : List Ballot) (size o : ℕ) (d : Ballot) (r : ℕ) → ToCount base n bs size o → o < n → n ≤ length bs
+    → r ≡ length (ballotBytes o (tailOf (getD bs o d))) → r ≤ 132 → ToCount base n bs (size + r) (o + 1)
+count-again base n bs size o d r inv h j e k = omega (arith, simp length-append at (ap length (rest-step n bs o d h j)))

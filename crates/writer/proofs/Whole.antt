@@ -1,14 +1,24 @@
--- The whole message, part by part. Assumes nothing.
-use Prim.Native.Nat.{ℕ, _+_, _*_, _≤_}
+-- The whole message, part by part.
+--     head-stores, head-length        the head
+--     message-length, counted         the length, and the size that the writer counts
+--     whole-written                   the stores, one after the other, write the message
+--     refused, written                what writing answers and leaves, without room and with it
+--     answer-short, answer-fits       which of them it was, from the answer
+-- Assumes nothing.
+use Prim.Native.Nat.{ℕ, _+_, _*_, _<_, _≤_}
+use mathlib.Core.Bool.{Bool, false, true}
 use mathlib.Core.List.{List, _++_}
-use mathlib.Core.Path.{_≡_, sym, ap, _∙_}
+use mathlib.Core.Path.{_≡_, refl, sym, ap, _∙_}
 use native.Mathlib.Nat.{zero-add}
 use native.Mathlib.Numerals.{add-one}
 use native.Mathlib.Omega.{arith}
+use lib.Dec.{ltb}
 use lib.ListN.{length, take, set, length-append, drop}
 use lib.Seq.{sets, sets-eq, length-take-le}
+use borrow.Author.Tests.{lt-ltb, le-ltb}
 use Rattle.ballots.specs.declared.Ballot.{Ballot}
 use Rattle.protocol.specs.Entry.{isEntry}
+use Rattle.protocol.specs.Tests.{pick}
 use Rattle.spelling.specs.Content.{isWeight}
 use Rattle.spelling.specs.Numbers.{be16, bytes16, run}
 use Rattle.spelling.specs.Reading.{recordAt, recordHere, weightHere}
@@ -16,7 +26,8 @@ use Rattle.spelling.specs.Spelling.{ballotsBytes, endBytes, headBytes, logRecor
 use Rattle.spelling.proofs.Items.{recordItem, weightItem}
 use Rattle.protocol.proofs.Stores.{sets-append}
 use Rattle.spelling.proofs.Runs.{run-length}
-use Rattle.writer.specs.Written.{contentOf, size, tailsOf}
+use Rattle.writer.specs.Written.{contentOf, messageOf, tailsOf, writtenBytes, writtenLength}
+use Rattle.writer.proofs.Ballots.{ToCount, rest-none}
 
 -- the head
 pub head-stores : (sender n : ℕ) (ws : List ℕ) (settled : ℕ) (l : List ℕ) → length ws ≡ n
@@ -32,7 +43,7 @@ head-length sender n ws settled e = omega (arith, run-length 2 bytes16 be16 weig
 
 module _ (sender n : ℕ) (ws log : List ℕ) (settled : ℕ) (of : List Ballot) (hn : n ≤ length ws) (hk : settled ≤ length log) where
   all : List ℕ
-  all = spelling (contentOf sender n ws log settled of)
+  all = messageOf sender n ws log settled of
 
   heads : List ℕ
   heads = headBytes sender n (take n ws) settled
@@ -55,12 +66,16 @@ module _ (sender n : ℕ) (ws log : List ℕ) (settled : ℕ) (of : List Ballot)
   unfolding logs
   logs-length = run-length 6 logRecord recordAt (recordHere 0) (isEntry 0) (recordItem 0 (omega arith)) (take settled log) ∙ ap (λ (k : ℕ). 6 * k) (length-take-le settled log hk)
 
-  -- the size of the message
-  pub size-is : size n settled of ≡ length (spelling (contentOf sender n ws log settled of))
-  unfolding size all ballots endBytes
-  size-is =
-      sym (ap length spelled
-      ∙ omega (arith, heads-length, logs-length, length-append heads (logs ++ (ballots ++ endBytes)), length-append logs (ballots ++ endBytes), length-append ballots endBytes))
+  -- the length of the message: the head, the log records and the end, and then the ballots
+  pub message-length : length (messageOf sender n ws log settled of) ≡ 8 + 2 * n + 6 * settled + length (ballotsBytes 0 (tailsOf n of))
+  unfolding all ballots endBytes
+  message-length =
+      ap length spelled
+      ∙ omega (arith, heads-length, logs-length, length-append heads (logs ++ (ballots ++ endBytes)), length-append logs (ballots ++ endBytes), length-append ballots endBytes)
+
+  -- the size that the walk of the ballots has counted is that length
+  pub counted : (size o : ℕ) → ToCount (8 + 2 * n + 6 * settled) n of size o → n ≤ o → size ≡ length (messageOf sender n ws log settled of)
+  counted size o inv h = omega (arith, message-length, ap length (rest-none n of o h))
 
   -- the stores, one after the other: the head, the log records, the ballots, the end
   module _
@@ -73,7 +88,7 @@ module _ (sender n : ℕ) (ws log : List ℕ) (settled : ℕ) (of : List Ballot)
       (ee : e ≡ b + length (ballotsBytes 0 (tailsOf n of)))
       (e3 : l3 ≡ sets l2 b (ballotsBytes 0 (tailsOf n of)))
     where
-      whole-stores : set (set l3 e 0x45) (e + 1) 0x4E ≡ sets l 0 (spelling (contentOf sender n ws log settled of))
+      whole-stores : set (set l3 e 0x45) (e + 1) 0x4E ≡ sets l 0 (messageOf sender n ws log settled of)
       unfolding all heads logs ballots endBytes
       whole-stores =
           let q : sets l 0 all ≡ sets (sets (sets (sets l 0 heads) h logs) b ballots) e endBytes =
@@ -87,8 +102,34 @@ module _ (sender n : ℕ) (ws log : List ℕ) (settled : ℕ) (of : List Ballot)
           rw (q, e3, e2, e1, add-one e)
 
       -- stores from the start of a buffer that has room leave its later bytes
-      pub whole-written : size n settled of ≤ length l
-          → set (set l3 e 0x45) (e + 1) 0x4E ≡ spelling (contentOf sender n ws log settled of) ++ drop (length (spelling (contentOf sender n ws log settled of))) l
-      whole-written room =
-          whole-stores
-          ∙ sets-eq (spelling (contentOf sender n ws log settled of)) l 0 (rw zero-add (omega (arith, size-is))) ∙ rw zero-add
+      pub whole-written : length (messageOf sender n ws log settled of) ≤ length l
+          → set (set l3 e 0x45) (e + 1) 0x4E ≡ messageOf sender n ws log settled of ++ drop (length (messageOf sender n ws log settled of)) l
+      whole-written room = whole-stores ∙ sets-eq (messageOf sender n ws log settled of) l 0 (rw zero-add room) ∙ rw zero-add
+
+-- ---- what writing answers and leaves
+
+module _ (message out : List ℕ) (size : ℕ) (e : size ≡ length message) where
+  pub refused : length out < size → (0 ≡ writtenLength message out) × (out ≡ writtenBytes message out)
+  unfolding writtenLength writtenBytes pick
+  refused h = let t = lt-ltb (length out) (length message) (omega arith) in (simp t, simp t)
+
+  pub written : size ≤ length out → (size ≡ writtenLength message out) × (message ++ drop (length message) out ≡ writtenBytes message out)
+  unfolding writtenLength writtenBytes pick
+  written h = let t = le-ltb (length out) (length message) (omega arith) in (simp t e, simp t)
+
+-- 0 is answered without room alone, as a message has bytes; another answer with room
+pub answer-short : (message out : List ℕ) → 0 < length message → writtenLength message out ≡ 0 → ltb (length out) (length message) ≡ true
+unfolding writtenLength pick
+answer-short message out some = go (ltb (length out) (length message))
+  where
+    go : (b : Bool) → _≡_ {A = ℕ} (pick b 0 (length message)) 0 → b ≡ true
+    go true e = refl
+    go false e = absurd (omega arith)
+
+pub answer-fits : (message out : List ℕ) → (writtenLength message out ≡ 0 → ⊥) → ltb (length out) (length message) ≡ false
+unfolding writtenLength pick
+answer-fits message out = go (ltb (length out) (length message))
+  where
+    go : (b : Bool) → (_≡_ {A = ℕ} (pick b 0 (length message)) 0 → ⊥) → b ≡ false
+    go true e = absurd (e refl)
+    go false e = refl

@@ -1,14 +1,15 @@
--- A record's fields as the content of its message, the size of its spelling, and what the writer requires. Assumes nothing.
-use Prim.Native.Nat.{ℕ, _+_, _*_, _<_, _≤_}
+-- A record's fields as the content of its message, what writing it answers and leaves, and what the writer requires. Assumes nothing.
+use Prim.Native.Nat.{ℕ, _<_, _≤_}
 use mathlib.Core.Bool.{true}
-use mathlib.Core.List.{List, map}
+use mathlib.Core.List.{List, _++_, map}
 use mathlib.Core.Path.{_≡_}
-use lib.ListN.{length, take}
+use lib.Dec.{ltb}
+use lib.ListN.{drop, length, take}
 use Rattle.ballots.specs.Ballots.{tailOf, ballotShape}
 use Rattle.ballots.specs.declared.Ballot.{Ballot}
-use Rattle.protocol.specs.Tests.{allB}
+use Rattle.protocol.specs.Tests.{allB, pick}
 use Rattle.spelling.specs.Content.{Content}
-use Rattle.spelling.specs.Spelling.{ballotsBytes}
+use Rattle.spelling.specs.Spelling.{spelling}
 
 -- the tails of the first n offices
 unfoldable pub tailsOf : ℕ → List Ballot → List (List ℕ)
@@ -19,9 +20,17 @@ unfoldable pub contentOf : ℕ → ℕ → List ℕ → List ℕ → ℕ → Lis
 contentOf sender n weights log settled ballots =
     record { sender = sender; n = n; weights = take n weights; log = take settled log; tails = tailsOf n ballots }
 
--- how many bytes the message of a record takes: the head, the log records, the ballots, the end
-unfoldable pub size : ℕ → ℕ → List Ballot → ℕ
-size n settled ballots = (6 + 2 * n) + (6 * settled + (length (ballotsBytes 0 (tailsOf n ballots)) + 2))
+-- the message's bytes
+abbrev pub messageOf : ℕ → ℕ → List ℕ → List ℕ → ℕ → List Ballot → List ℕ
+messageOf sender n weights log settled ballots = spelling (contentOf sender n weights log settled ballots)
+
+-- what writing a message answers: its length, and 0 where the buffer is shorter
+unfoldable pub writtenLength : List ℕ → List ℕ → ℕ
+writtenLength message out = pick (ltb (length out) (length message)) 0 (length message)
+
+-- the buffer after it: the message, and "later bytes of the buffer keep their contents"; as it was where it is shorter than the message
+unfoldable pub writtenBytes : List ℕ → List ℕ → List ℕ
+writtenBytes message out = pick (ltb (length out) (length message)) out (message ++ drop (length message) out)
 
 -- what the writer asks of its caller: every sound record has it
 pub record Writable (sender n : ℕ) (log : List ℕ) (settled : ℕ) (ballots : List Ballot) : Type 0 where

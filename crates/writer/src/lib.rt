@@ -1,18 +1,15 @@
-// Writing the message of a record to a buffer. `size` and `write` are public only for the crate above, which proves what they require.
+// Writing the message of a record to a buffer. `write` is public only for the crate above, which proves what it requires.
 use ballots::Ballot;
 use spelling::put16;
 use spelling::put32;
 ghost use mathlib.Core.Path.{_≡_};
-ghost use mathlib.Core.Bool.{true};
-ghost use mathlib.Core.List.{_++_};
 ghost use Prim.Native.Nat.{_+_, _*_, _<_, _≤_};
-ghost use lib.ListN.{length, take, drop};
+ghost use lib.ListN.{length, take};
 ghost use lib.Seq.{sets};
-ghost use Rattle.protocol.specs.Tests.{allB};
-ghost use Rattle.ballots.specs.Ballots.{tailOf, ballotShape};
+ghost use Rattle.ballots.specs.Ballots.{tailOf};
 ghost use Rattle.spelling.specs.Numbers.{bytes16, bytes32, run};
-ghost use Rattle.spelling.specs.Spelling.{headBytes, logRecord, ballotBytes, ballotsBytes, spelling};
-ghost use Rattle.writer.specs.Written.{tailsOf, contentOf, size, Writable};
+ghost use Rattle.spelling.specs.Spelling.{headBytes, logRecord, ballotBytes};
+ghost use Rattle.writer.specs.Written.{messageOf, writtenLength, writtenBytes, Writable};
 
 // One log record at a position. The value goes first: its four stores then become one.
 fn put_record(out: &mut [u8], at: usize, value: u32)
@@ -80,19 +77,6 @@ fn put_ballot(out: &mut [u8], at: usize, o: usize, b: Ballot) -> usize
     put_values(out, at + 4, &cells, len)
 }
 
-// The ballots of n offices from a position on; the position after them.
-fn put_ballots(out: &mut [u8], at: usize, n: usize, ballots: [Ballot; 8]) -> usize
-    requires { ⌜ (n ≤ 8) × ((allB ballotShape ballots ≡ true) × (at + length (ballotsBytes 0 (tailsOf n ballots)) ≤ length (now out))) ⌝ }
-    ensures { λ r. ⌜ (r ≡ at + length (ballotsBytes 0 (tailsOf n ballots))) × (now (out .exit) ≡ sets (now (out .entry)) at (ballotsBytes 0 (tailsOf n ballots))) ⌝ }
-{
-    let mut p = at;
-    for o in 0..n {
-        let b = ballots[o];
-        p = put_ballot(out, p, o, b);
-    }
-    p
-}
-
 // The head, at the start of the buffer; the position after it.
 fn put_head(out: &mut [u8], sender: usize, n: usize, weights: [u16; 8], settled: usize) -> usize
     requires { ⌜ (n ≤ 8) × ((sender < 256) × ((settled ≤ 1024) × (6 + 2 * n ≤ length (now out)))) ⌝ }
@@ -119,28 +103,9 @@ fn ballot_size(o: usize, b: Ballot) -> usize
     4 + 4 * len
 }
 
-// How many bytes the ballots of n offices take.
-fn ballots_size(n: usize, ballots: [Ballot; 8]) -> usize
-    requires { ⌜ (n ≤ 8) × (allB ballotShape ballots ≡ true) ⌝ }
-    ensures { λ r. ⌜ (r ≡ length (ballotsBytes 0 (tailsOf n ballots))) × (r ≤ 1056) ⌝ }
-{
-    let mut size: usize = 0;
-    for o in 0..n {
-        let b = ballots[o];
-        size += ballot_size(o, b);
-    }
-    size
-}
-
-// How many bytes the message of a record takes.
-pub fn size(n: usize, settled: usize, ballots: [Ballot; 8]) -> usize
-    requires { ⌜ (n ≤ 8) × ((settled ≤ 1024) × (allB ballotShape ballots ≡ true)) ⌝ }
-    ensures { λ r. ⌜ r ≡ size n settled ballots ⌝ }
-{
-    6 + 2 * n + (6 * settled + (ballots_size(n, ballots) + 2))
-}
-
-// Writes the message of a record to the start of a buffer that has room for it. "Later bytes of the buffer keep their contents."
+// Writes the message of a record to the start of a buffer that has room for it, and answers its length. "Later bytes of the buffer keep
+// their contents." Without room the answer is 0, and the buffer is as it was. The ballots are walked here, twice: a function that is
+// handed all eight copies them.
 pub fn write(
     sender: usize,
     n: usize,
@@ -149,13 +114,25 @@ pub fn write(
     settled: usize,
     ballots: [Ballot; 8],
     out: &mut [u8],
-)
-    requires { ⌜ Writable sender n (now log) settled ballots × (size n settled ballots ≤ length (now out)) ⌝ }
-    ensures { λ _. ⌜ now (out .exit) ≡ spelling (contentOf sender n weights (now (log .entry)) settled ballots) ++ drop (length (spelling (contentOf sender n weights (now (log .entry)) settled ballots))) (now (out .entry)) ⌝ }
+) -> usize
+    requires { ⌜ Writable sender n (now log) settled ballots ⌝ }
+    ensures { λ r. ⌜ (r ≡ writtenLength (messageOf sender n weights (now (log .entry)) settled ballots) (now (out .entry))) × (now (out .exit) ≡ writtenBytes (messageOf sender n weights (now (log .entry)) settled ballots) (now (out .entry))) ⌝ }
 {
+    let mut size: usize = 8 + 2 * n + 6 * settled;
+    for o in 0..n {
+        let b = ballots[o];
+        size += ballot_size(o, b);
+    }
+    if out.len() < size {
+        return 0;
+    }
     let h = put_head(out, sender, n, weights, settled);
-    let b = put_log(out, h, log, settled);
-    let e = put_ballots(out, b, n, ballots);
-    out[e] = 0x45;
-    out[e + 1] = 0x4E;
+    let mut p = put_log(out, h, log, settled);
+    for o in 0..n {
+        let b = ballots[o];
+        p = put_ballot(out, p, o, b);
+    }
+    out[p] = 0x45;
+    out[p + 1] = 0x4E;
+    size
 }

@@ -1,53 +1,123 @@
--- The head, the log records, the ballots and the end are stored one after the other, each where the one before ends.
-use Prim.Native.Nat.{_+_, _≤_}
+-- The first walk counts what the ballots take; with room the head, the log records, the ballots and the end are stored one after the other,
+-- each where the one before ends.
+use Prim.Native.Nat.{ℕ, _+_, _-_, _*_, _≤_}
+use mathlib.Core.List.{List, []}
 use mathlib.Core.Path.{_≡_, _∙_}
 use native.Mathlib.Omega.{arith}
 use lib.ListN.{length, length-set}
 use borrow.Author.Needs.{needs}
-use Rattle.writer.specs.Written.{size}
-use Rattle.writer.proofs.Whole.{whole-written}
+use Rattle.ballots.specs.declared.Ballot.{Ballot}
+use Rattle.spelling.specs.Spelling.{ballotsBytes}
+use Rattle.writer.specs.Written.{messageOf, tailsOf}
+use Rattle.writer.proofs.Ballots.{ToCount, ToPut, count-again, len-at, put-again, put-begins, put-ends, put-room, rest-all}
+use Rattle.writer.proofs.Whole.{counted, message-length, refused, whole-written, written}
 use Rattle.writer.proofs.write.Statement.{statement}
 use Rattle.writer.proofs.write.Tie as tie
 
-full : (c : tie.Start) → length (c .args .weights) ≡ 8
-full c = search needs
+abbrev Inv-loop : tie.InvT-loop
+Inv-loop sender n weights log settled out ballots size₀ o₀ size o = ToCount size₀ n ballots size o
 
-put-head-requires : tie.Need-put-head-requires
-unfolding size
-put-head-requires c κs = let s = c .before .before .before in omega (arith, s .pre .0, s .pre .1)
+abbrev μ-loop : tie.MeasureT-loop
+μ-loop sender n weights log settled out ballots size₀ o₀ size o = n - o
 
-put-log-requires : tie.Need-put-log-requires
-unfolding size
+abbrev Inv-loop2 : tie.InvT-loop2
+Inv-loop2 sender n log settled out₀ ballots size h p₀ o₀ out p o = ToPut out₀ p₀ n ballots out p o
+
+abbrev μ-loop2 : tie.MeasureT-loop2
+μ-loop2 sender n log settled out₀ ballots size h p₀ o₀ out p o = n - o
+
+abbrev none : Ballot
+none = record { len = 0; cells = [] }
+
+-- a record's weights and ballots are eight, and n is at most 8
+weights-long : (s : tie.Start Inv-loop μ-loop Inv-loop2 μ-loop2) → s .args .n ≤ length (s .args .weights)
+weights-long s = let e : length (s .args .weights) ≡ 8 = search needs in omega arith
+
+ballots-long : (s : tie.Start Inv-loop μ-loop Inv-loop2 μ-loop2) → s .args .n ≤ length (s .args .t6)
+ballots-long s = let e : length (s .args .t6) ≡ 8 = search needs in omega arith
+
+ballot-size-requires : tie.Need-ballot-size-requires Inv-loop μ-loop Inv-loop2 μ-loop2
+ballot-size-requires c κs = let s = c .before .before .before .before .before in len-at (s .args .t6) _ _ (s .pre .shapes) (omega (arith, ballots-long s))
+
+loop-again : tie.Need-loop-again Inv-loop μ-loop Inv-loop2 μ-loop2
+loop-again c =
+    count-again _ _ _ _ _ none _ (c .before .before .before .loop .inv) (c .before .before .loop-test .taken) (ballots-long (c .before .before .before .before .before .before))
+    (c .ballot-size .ensures .0) (c .ballot-size .ensures .1)
+
+-- the message that is to be written
+abbrev message : tie.Start Inv-loop μ-loop Inv-loop2 μ-loop2 → List ℕ
+message s = messageOf (s .args .sender) (s .args .n) (s .args .weights) (s .args .log .now) (s .args .settled) (s .args .t6)
+
+-- what the first walk has counted is the message's length
+size-counted : (c : tie.After-loop Inv-loop μ-loop Inv-loop2 μ-loop2) → c .before .loop .size ≡ length (message (c .before .before .before .before))
+size-counted c =
+    let s = c .before .before .before .before in
+    counted (s .args .sender) (s .args .n) (s .args .weights) (s .args .log .now) (s .args .settled) (s .args .t6) (weights-long s) (s .pre .log-long)
+    _ _ (c .before .loop .inv) (c .loop-test .left)
+
+returns : tie.Need-returns Inv-loop μ-loop Inv-loop2 μ-loop2
+returns c = refused (message (c .before .before .before .before .before)) _ _ (size-counted (c .before)) (c .if1 .taken)
+
+-- past the test the buffer has room for the message: the head, the log records and the end, and the ballots
+fits : (c : tie.After-put-head-arg Inv-loop μ-loop Inv-loop2 μ-loop2) → let a = c .before .before .before .before .before .before .args in 8 + 2 * a .n + 6 * a .settled + length (ballotsBytes 0 (tailsOf (a .n) (a .t6))) ≤ length (a .out .now)
+fits c =
+    let s = c .before .before .before .before .before .before in
+    omega (arith, size-counted (c .before .before), c .before .if1 .left, message-length (s .args .sender) (s .args .n) (s .args .weights) (s .args .log .now) (s .args .settled) (s .args .t6) (weights-long s) (s .pre .log-long))
+
+put-head-requires : tie.Need-put-head-requires Inv-loop μ-loop Inv-loop2 μ-loop2
+put-head-requires c κs = omega (arith, fits c, c .before .before .before .before .before .before .pre)
+
+put-log-requires : tie.Need-put-log-requires Inv-loop μ-loop Inv-loop2 μ-loop2
 put-log-requires c κs =
-    let s = c .before .before .before .before .before .before .before in let head = c .before .before .before .put-head in
-    omega (arith, s .pre .0, s .pre .1, head .kept .0, head .ensures .0)
+    let head = c .before .before .before .put-head in
+    (c .before .before .before .before .before .before .before .before .before .before .pre .log-long, omega (arith, fits (c .before .before .before .before), head .kept .0, head .ensures .0))
 
-put-ballots-requires : tie.Need-put-ballots-requires
-unfolding size
-put-ballots-requires c κs =
-    let s = c .before .before .before .before .before .before .before .before .before .before .before in let head = c .before .before .before .before .before .before .before .put-head in let log = c .before .before .before .put-log in
-    (s .pre .0 .few-offices, (s .pre .0 .shapes, omega (arith, s .pre .1, log .kept .0, head .kept .0, log .ensures .0, head .ensures .0)))
-
--- behind the ballots there is room for the end
-room : (c : tie.After-slice-known4) → c .before .before .put-ballots .result + 2 ≤ length (c .before .before .put-ballots .last .0)
-unfolding size
+-- behind the log records there is room for the ballots and the end
+room : (c : tie.After-slice-known3 Inv-loop μ-loop Inv-loop2 μ-loop2) → let a = c .before .before .before .before .before .before .before .before .before .before .before .before .before .args in c .before .before .put-log .result + (length (ballotsBytes 0 (tailsOf (a .n) (a .t6))) + 2) ≤ length (c .before .before .put-log .last .0)
 room c =
-    let head = c .before .before .before .before .before .before .before .before .before .before .put-head in let log = c .before .before .before .before .before .before .put-log in let ballots = c .before .before .put-ballots in
-    omega (arith, ballots .kept .0, log .kept .0, head .kept .0, ballots .ensures .0, log .ensures .0, head .ensures .0, c .before .before .before .before .before .before .before .before .before .before .before .before .before .before .pre .1)
+    let head = c .before .before .before .before .before .before .put-head in
+    let log = c .before .before .put-log in
+    omega (arith, fits (c .before .before .before .before .before .before .before), head .kept .0, head .ensures .0, log .kept .0, log .ensures .0)
 
-same-length : tie.Need-same-length
-same-length c = simp length-set (c .before .before .put-ballots .kept .0 ∙ (c .before .before .before .before .before .before .put-log .kept .0 ∙ c .before .before .before .before .before .before .before .before .before .before .put-head .kept .0))
+put-ballot-requires : tie.Need-put-ballot-requires Inv-loop μ-loop Inv-loop2 μ-loop2
+put-ballot-requires c κs =
+    let s = c .before .before .before .before .before .before .before .before .before .before .before .before .before .before .before .before .before in
+    (len-at (s .args .t6) _ _ (s .pre .shapes) (omega (arith, ballots-long s)), (omega arith, put-room (c .before .before .before .loop2 .inv) none (c .before .before .loop2-test .taken) (ballots-long s) (omega (arith, room (c .before .before .before .before)))))
 
-returns : tie.Need-returns
-returns c =
-    let s = c .before .before .before .before .before .before .before .before .before .before .before .before .before .before in let a = s .args in
-    let head = c .before .before .before .before .before .before .before .before .before .before .put-head in let log = c .before .before .before .before .before .before .put-log in let ballots = c .before .before .put-ballots in
-    whole-written (a .sender) (a .n) (a .weights) (a .log .now) (a .settled) (a .ballots) (omega (arith, full s, s .pre .0)) (s .pre .0 .log-long)
-    (a .out .now) (head .last .0) (log .last .0) (ballots .last .0) (head .result) (log .result) (ballots .result)
-    (head .ensures .0) (head .ensures .1) (log .ensures .0) (log .ensures .1) (ballots .ensures .0) (ballots .ensures .1) (s .pre .1)
+loop2-again : tie.Need-loop2-again Inv-loop μ-loop Inv-loop2 μ-loop2
+loop2-again c =
+    let put = c .before .before .put-ballot in
+    put-again (c .before .before .before .before .before .before .loop2 .inv) none (c .before .before .before .before .before .loop2-test .taken) (ballots-long (c .before .before .before .before .before .before .before .before .before .before .before .before .before .before .before .before .before .before .before .before)) (put .ensures .0) (put .ensures .1)
+
+-- and behind the ballots for the end
+end-room : (c : tie.After-loop2 Inv-loop μ-loop Inv-loop2 μ-loop2) → c .before .loop2 .p + 2 ≤ length (c .before .loop2 .out)
+end-room c =
+    let inv = c .before .loop2 .inv in
+    omega (arith, room (c .before .before), inv .left .long, put-ends inv (c .loop2-test .left) .0)
+
+same-length : tie.Need-same-length Inv-loop μ-loop Inv-loop2 μ-loop2
+same-length c = simp length-set (c .before .loop2 .inv .left .long ∙ (c .before .before .before .before .put-log .kept .0 ∙ c .before .before .before .before .before .before .before .before .put-head .kept .0))
+
+returns-2 : tie.Need-returns-2 Inv-loop μ-loop Inv-loop2 μ-loop2
+returns-2 c =
+    let s = c .before .before .before .before .before .before .before .before .before .before .before .before .before .before .before in
+    let a = s .args in
+    let head = c .before .before .before .before .before .before .before .before .put-head in
+    let log = c .before .before .before .before .put-log in
+    let ballots = put-ends (c .before .loop2 .inv) (c .loop2-test .left) in
+    let size = size-counted (c .before .before .before .before .before .before .before .before .before .before .before) in
+    let w = written (message s) (a .out .now) _ size (omega arith) in (
+      w .0,
+      whole-written (a .sender) (a .n) (a .weights) (a .log .now) (a .settled) (a .t6) (weights-long s) (s .pre .log-long)
+          (a .out .now) (head .last .0) (log .last .0) _ (head .result) (log .result) _
+          (head .ensures .0) (head .ensures .1) (log .ensures .0) (log .ensures .1) (ballots .0) (ballots .1) (omega arith) ∙ w .1,
+    )
 
 pub write-spec : {M : Type 1} → statement M
 write-spec =
     tie.close
-    (tie.spec put-head-requires put-log-requires put-ballots-requires (λ c. omega (arith, room c)) (λ c. omega (arith, room c))
-    (λ c. simp length-set (omega (arith, room c))) same-length returns)
+    (tie.spec Inv-loop μ-loop Inv-loop2 μ-loop2 (λ c. search needs) (λ c. search needs) (λ c. search needs) (λ c. search needs)
+    (λ c. (omega arith, (rw rest-all (omega arith), omega arith))) (λ c. omega arith) (λ c. omega arith) ballot-size-requires (λ c. omega arith)
+    (λ c. omega arith) (λ c. omega arith) loop-again returns put-head-requires put-log-requires (λ c. put-begins _ _ _ _) (λ c. omega arith)
+    (λ c. omega arith) put-ballot-requires (λ c. omega arith) (λ c. omega arith) loop2-again (λ c. omega (arith, end-room c))
+    (λ c. omega (arith, end-room c)) (λ c. simp length-set (omega (arith, end-room c))) same-length returns-2)
