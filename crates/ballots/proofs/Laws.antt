@@ -5,6 +5,7 @@
 --     tail-of, tails-of         the tail of the ballot that holds a tail
 --     push-held                 an entry more in the cells is an entry more in the tail
 --     none-empty, empty-none    no ballot is the empty tail
+--     empty-is, none-fine       the ballot that the test `emptyBallot` passes, and that it is fine
 --     too-long, too-far, not-zero, none-tested, all-tested     each way out of the test
 -- Assumes nothing.
 use mathlib.Core.Path.{_≡_, refl, sym, ap, ap₂, _∙_}
@@ -21,7 +22,7 @@ use Rattle.protocol.specs.Tests.{allB, both, pick}
 use Rattle.protocol.specs.Entry.{isEntry}
 use Rattle.protocol.specs.Limits.{isEmpty, tailFine}
 use Rattle.protocol.proofs.Tests.{both-0, both-1, both-true, both-false-1, zeros, all-zeros, getD-map}
-use Rattle.ballots.specs.Ballots.{ballotShape, ballotFine, tailOf, ballotOf, pushed, isNoBallot, offEnd}
+use Rattle.ballots.specs.Ballots.{ballotShape, ballotFine, emptyBallot, tailOf, ballotOf, noBallot, pushed, isNoBallot, offEnd}
 use Rattle.ballots.specs.declared.Ballot.{Ballot}
 
 pub record Fine (n settled : ℕ) (b : Ballot) : Type 0 where
@@ -126,6 +127,22 @@ pub empty-none : (t : List ℕ) → isEmpty t ≡ true → isNoBallot (ballotOf 
 unfolding isEmpty
 empty-none [] h = refl
 empty-none (x ∷ t) h = let z : _≡_ {A = ℕ} 0 1 = cc in absurd (omega arith)
+
+-- what the test whether a ballot is none says
+pub empty-is : (b : Ballot) → emptyBallot b ≡ true → b ≡ noBallot
+unfolding emptyBallot
+empty-is b e = λ i. record {
+  len = sym (eqb-true 0 (b .len) (both-0 _ _ e)) i;
+  cells = cells i;
+}
+  where
+    cells : b .cells ≡ replicate 32 0
+    cells = zeros (b .cells) (both-1 _ _ (both-1 _ _ e)) ∙ ap (λ (k : ℕ). replicate k 0) (eqb-true (length (b .cells)) 32 (both-0 _ _ (both-1 _ _ e)))
+
+-- no ballot is fine with any settled log
+pub none-fine : (n settled : ℕ) → settled ≤ 1024 → ballotFine n settled noBallot ≡ true
+unfolding tailFine allB
+none-fine n settled h = fine-tail n settled [] (both-true _ _ refl (both-true _ _ (le-leb (settled + 0) 1024 (omega arith)) refl))
 
 -- each way out of the test of a ballot of 32 cells
 module _ (n settled : ℕ) (b : Ballot) (h : length (b .cells) ≡ 32) where

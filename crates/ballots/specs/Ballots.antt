@@ -27,6 +27,10 @@ offEnd = record { len = 0; cells = [] }
 abbrev pub isNoBallot : Ballot → Bool
 isNoBallot b = eqb 0 (b .len)
 
+-- the ballot is `noBallot`: no entries, and 32 cells that are all zero
+unfoldable pub emptyBallot : Ballot → Bool
+emptyBallot b = both (isNoBallot b) (both (eqb (length (b .cells)) 32) (allB (eqb 0) (b .cells)))
+
 -- 32 cells that hold a tail: "unused cells are zero"
 unfoldable pub ballotShape : Ballot → Bool
 ballotShape b = both (eqb (length (b .cells)) 32) (both (leb (b .len) 32) (allB (eqb 0) (drop (b .len) (b .cells))))

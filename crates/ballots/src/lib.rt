@@ -3,7 +3,7 @@ ghost use mathlib.Core.Path.{_≡_};
 ghost use lib.Dec.{eqb};
 ghost use lib.ListN.{drop};
 ghost use Rattle.protocol.specs.Tests.{allB};
-ghost use Rattle.ballots.specs.Ballots.{ballotFine, totalWeight, noBallot, pushed, same};
+ghost use Rattle.ballots.specs.Ballots.{ballotFine, emptyBallot, totalWeight, noBallot, pushed, same};
 
 // A tail of 0 to 32 entries in the first cells. Unused cells are zero; length 0 means none.
 #[repr(C)]
@@ -48,6 +48,14 @@ impl Ballot {
             return false;
         }
         entries::all_entries(&cells[..len], n)
+    }
+
+    // Whether the ballot is none: no entries, and every cell zero.
+    pub fn is_none(self) -> bool
+        ensures { λ r. ⌜ r ≡ emptyBallot self ⌝ }
+    {
+        let cells = self.cells;
+        (0 == self.len) & zero_cells(cells)
     }
 
     // No entries.

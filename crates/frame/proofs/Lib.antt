@@ -2,6 +2,7 @@
 pub mod Accept
 pub mod Elect
 pub mod Found
+pub mod Front
 pub mod Issue
 pub mod Places
 pub mod Promise

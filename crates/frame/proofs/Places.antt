@@ -1,6 +1,5 @@
 -- A walk over the ballots by their places: what is left of them answers as all of them do.
 --     places-next, places-stop, places-done     one passes, one fails, the list is at its end
---     sound-rest                                soundness after the tests before the ballots
 -- Assumes nothing.
 use mathlib.Core.Path.{_≡_, refl, ap, _∙_}
 use mathlib.Core.Bool.{Bool, true, false}
@@ -8,16 +7,13 @@ use mathlib.Core.List.{List, [], _∷_}
 use Prim.Native.Nat.{ℕ, zero, suc, _+_, _-_, _<_, _≤_}
 use native.Mathlib.Omega.{arith}
 use lib.Dec.{ltb}
-use lib.ListN.{length, getD, take, drop, drop-of-length-le}
-use borrow.Author.Tests.{ltb-true, ltb-false, le-leb, eq-eqb}
+use lib.ListN.{length, getD, drop, drop-of-length-le}
+use borrow.Author.Tests.{ltb-true, ltb-false}
 use Rattle.protocol.specs.Tests.{both, pick, allB}
-use Rattle.protocol.specs.Entry.{isEntry}
-use Rattle.protocol.proofs.Tests.{both-true}
 use Rattle.entries.proofs.Walk.{rest-step}
 use Rattle.ballots.specs.Ballots.{ballotFine, isNoBallot, offEnd}
 use Rattle.ballots.specs.declared.Ballot.{Ballot}
-use Rattle.frame.specs.Soundness.{roomy, headFine, logFine, ballotsFine, fineAt, soundB}
-use Rattle.frame.specs.declared.Record.{Record}
+use Rattle.frame.specs.Soundness.{fineAt}
 
 -- the ballots from place i on
 abbrev pub restFine : ℕ → ℕ → List Ballot → ℕ → Bool
@@ -71,14 +67,3 @@ module _ (n settled : ℕ) (bs : List Ballot) (i : ℕ) where
     pub places-done : length bs ≤ i → b ≡ true
     unfolding allB
     places-done h = inv ∙ rw (drop-of-length-le bs h) (none-left (n - i))
-
-both-front : (a b c : Bool) → a ≡ true → b ≡ c → both a b ≡ c
-unfolding both
-both-front a b c p q = ap (λ (x : Bool). both x b) p ∙ q
-
-pub sound-rest : (r : Record) (words : List ℕ) → 1024 ≤ length words → headFine (r .n) (r .own) (r .weights) ≡ true → r .settled ≤ 1024
-    → allB (isEntry (r .n)) (take (r .settled) words) ≡ true → length (r .ballots) ≡ 8 → soundB r words ≡ placesFine (r .n) (r .settled) (r .ballots)
-unfolding soundB roomy logFine ballotsFine
-sound-rest r words room head most entries eight =
-    both-front _ _ _ (le-leb 1024 (length words) room)
-    (both-front _ _ _ head (both-front _ _ _ (both-true _ _ (le-leb (r .settled) 1024 most) entries) (both-front _ _ _ (eq-eqb (length (r .ballots)) 8 eight) refl)))

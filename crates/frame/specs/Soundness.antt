@@ -37,6 +37,11 @@ ballotsFine r =
 unfoldable pub fineAt : ℕ → ℕ → ℕ → Ballot → Bool
 fineAt n settled place b = both (ballotFine n settled b) (pick (ltb place n) true (isNoBallot b))
 
+-- all of a sound record but for its ballots
+unfoldable pub frontFine : ℕ → ℕ → List ℕ → ℕ → List ℕ → Bool
+frontFine n own ws settled words =
+    both (roomy words) (both (headFine n own ws) (both (leb settled 1024) (allB (isEntry n) (take settled words))))
+
 unfoldable pub soundB : Record → List ℕ → Bool
 soundB r words = both (roomy words) (both (headFine (r .n) (r .own) (r .weights)) (both (logFine r words) (ballotsFine r)))
 

@@ -1,6 +1,8 @@
 // When a record with its log is sound.
 ghost use mathlib.Core.Path.{_≡_};
-ghost use Rattle.frame.specs.Soundness.{headFine, fineAt, soundB};
+ghost use Rattle.protocol.specs.Tests.{both, allB};
+ghost use Rattle.ballots.specs.Ballots.{emptyBallot};
+ghost use Rattle.frame.specs.Soundness.{headFine, fineAt, frontFine, soundB};
 use crate::Record;
 use ballots::Ballot;
 
@@ -36,32 +38,89 @@ fn fine_at(b: Ballot, place: usize, n: usize, settled: usize) -> bool
     0 == b.len
 }
 
+// Whether the head is within the limits, the log has room and its settled words are entries: all that soundness asks but for the ballots.
+fn front_sound(n: usize, own: usize, weights: [u16; 8], settled: usize, log: &[u32]) -> bool
+    ensures { λ r. ⌜ r ≡ frontFine n own weights settled (now (log .entry)) ⌝ }
+{
+    if log.len() < Record::LOG {
+        return false;
+    }
+    if !head_fine(n, own, weights) {
+        return false;
+    }
+    if settled > Record::LOG {
+        return false;
+    }
+    entries::all_entries(&log[..settled], n)
+}
+
+// Whether every ballot is none. The eight tests are written out, since a walk would make the compiler copy the ballots.
+fn no_ballots(all: [Ballot; 8]) -> bool
+    ensures { λ r. ⌜ r ≡ allB emptyBallot all ⌝ }
+{
+    let a = all[0];
+    let b = all[1];
+    let c = all[2];
+    let d = all[3];
+    let e = all[4];
+    let f = all[5];
+    let g = all[6];
+    let h = all[7];
+    (a.is_none() & b.is_none() & c.is_none() & d.is_none())
+        & (e.is_none() & f.is_none() & g.is_none() & h.is_none())
+}
+
+// Whether the record with these fields is sound and has no ballots. The fields go one by one, here and in `whole`: a record handed on
+// whole would be copied.
+pub fn quiet(
+    n: usize,
+    own: usize,
+    weights: [u16; 8],
+    settled: usize,
+    all: [Ballot; 8],
+    log: &[u32],
+) -> bool
+    ensures { λ r. ⌜ r ≡ both (allB emptyBallot all) (frontFine n own weights settled (now (log .entry))) ⌝ }
+{
+    if no_ballots(all) {
+        return front_sound(n, own, weights, settled, log);
+    }
+    false
+}
+
+// Whether the record with these fields is sound, by a walk over its ballots.
+pub fn whole(
+    n: usize,
+    own: usize,
+    weights: [u16; 8],
+    settled: usize,
+    all: [Ballot; 8],
+    log: &[u32],
+) -> bool
+    ensures { λ r. ⌜ r ≡ soundB (record { n = n; own = own; weights = weights; settled = settled; ballots = all }) (now (log .entry)) ⌝ }
+{
+    if !front_sound(n, own, weights, settled, log) {
+        return false;
+    }
+    for i in 0..8 {
+        let b = all[i];
+        if !fine_at(b, i, n, settled) {
+            return false;
+        }
+    }
+    true
+}
+
 impl Record {
-    // Whether the record with its log is sound. The walk over the ballots stands here, since a call of it would copy them.
+    // Whether the record with its log is sound. One without ballots needs no walk over them.
     pub fn sound(self, log: &[u32]) -> bool
         ensures { λ r. ⌜ r ≡ soundB self (now (log .entry)) ⌝ }
     {
-        let n = self.n;
-        let settled = self.settled;
         let weights = self.weights;
-        if log.len() < Record::LOG {
-            return false;
+        let all = self.ballots;
+        if quiet(self.n, self.own, weights, self.settled, all, log) {
+            return true;
         }
-        if !head_fine(n, self.own, weights) {
-            return false;
-        }
-        if settled > Record::LOG {
-            return false;
-        }
-        if !entries::all_entries(&log[..settled], n) {
-            return false;
-        }
-        for i in 0..8 {
-            let b = self.ballots[i];
-            if !fine_at(b, i, n, settled) {
-                return false;
-            }
-        }
-        true
+        whole(self.n, self.own, weights, self.settled, all, log)
     }
 }
