@@ -3,6 +3,7 @@ ghost use mathlib.Core.Path.{_≡_};
 ghost use Rattle.frame.specs.Soundness.{Sound};
 ghost use Rattle.frame.specs.Electing.{stepOf, stepWords, electOf, electWords};
 use crate::Record;
+use crate::soundness;
 use ballots::Ballot;
 use tallies::Winner;
 
@@ -51,12 +52,21 @@ impl Record {
         }
     }
 
-    // Repeats the step until no entry wins, and answers how many entries it settled.
+    // Repeats the step until no entry wins, and answers how many entries it settled. Without ballots there is no vote, and so no winner.
     pub fn elect(self, log: &mut [u32]) -> Elected
         ensures { λ r. ⌜ (r ≡ electOf self (now (log .entry))) × (now (log .exit) ≡ electWords self (now (log .entry))) ⌝ }
     {
         let start = self.settled;
-        if !self.sound(&log[..]) {
+        let weights = self.weights;
+        let all = self.ballots;
+        if soundness::quiet(self.n, self.own, weights, self.settled, all, &log[..]) {
+            return Elected {
+                record: self,
+                number: 0,
+                count: 0,
+            };
+        }
+        if !soundness::whole(self.n, self.own, weights, self.settled, all, &log[..]) {
             return Elected {
                 record: self,
                 number: 1,
