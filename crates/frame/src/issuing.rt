@@ -36,9 +36,9 @@ impl Record {
         ensures { λ r. ⌜ r ≡ issueOf self (now (log .entry)) line code ⌝ }
     {
         let mut next = self;
-        let own = next.own;
+        let own = self.own;
         let mut number: u32 = 1;
-        if next.sound(log) {
+        if self.sound(log) {
             let b = next.ballots[own];
             number = refusal(line, code, next.settled, b.len);
             if number == 0 {
