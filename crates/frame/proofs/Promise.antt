@@ -8,7 +8,7 @@ use mathlib.Core.Bool.{Bool, true, false}
 use mathlib.Core.List.{List, [], _∷_, _++_, append-assoc}
 use Prim.Native.Nat.{ℕ, _<_, _≤_}
 use native.Mathlib.Omega.{arith}
-use lib.Dec.{eqb, leb}
+use lib.Dec.{eqb}
 use lib.ListN.{length}
 use lib.Seq.{getD-set-same}
 use borrow.Author.Tests.{eq-eqb, eqb-true, eqb-false}
@@ -22,11 +22,10 @@ use Rattle.entries.proofs.Walk.{last-append}
 use Rattle.frame.specs.State.{heldBy}
 use Rattle.frame.specs.Soundness.{soundB}
 use Rattle.frame.specs.Issuing.{issueOf}
-use Rattle.frame.specs.Frames.{frameOf, settledFrameOf, tentativeFrameOf}
+use Rattle.frame.specs.Frames.{frameOf, shownIn, settledFrameOf, tentativeFrameOf}
 use Rattle.frame.specs.declared.Record.{Record}
-use Rattle.frame.specs.declared.frames.Framed.{Framed}
 use Rattle.frame.proofs.Sound.{sound-true}
-use Rattle.frame.proofs.Shown.{frame-done}
+use Rattle.frame.proofs.Shown.{frame-shown, shown-done}
 use Rattle.frame.proofs.State.{held-fine}
 use Rattle.frame.proofs.Issue.{issue-made, issue-sound, issue-state, issue-keeps}
 
@@ -55,12 +54,12 @@ edit-shows r words line code q =
     let own : r' .own ≡ r .own = ap (λ (x : Record). x .own) (D .made) in
     let shown : path (heldBy r' words) (r' .own) ≡ path (heldBy r words) (r .own) ++ (e ∷ []) =
     ap₂ path (issue-state r words line code q) own ∙ own-path (r .own) e (heldBy r words) (omega (arith, F .eight, H .member, H .most)) in
-    sym (frame-done r' words line (path (heldBy r' words) (r' .own)) (issue-sound r words line code q) (I .line-ok) code (sym (ap (lastCode line 0) shown ∙ last-issued (r .own) line code (path (heldBy r words) (r .own)) (I .line-ok) (I .code-ok))))
+    sym (shown-done line (path (heldBy r' words) (r' .own)) (I .line-ok) code (sym (ap (lastCode line 0) shown ∙ last-issued (r .own) line code (path (heldBy r words) (r .own)) (I .line-ok) (I .code-ok)))
+    ∙ frame-shown r' words line (path (heldBy r' words) (r' .own)) (sound-true r' words (issue-sound r words line code q)))
 
 frame-same : (r r' : Record) (words : List ℕ) (line : ℕ) (p p' : List ℕ) → soundB r' words ≡ soundB r words → p' ≡ p → frameOf r' words line p' ≡ frameOf r words line p
 unfolding frameOf
-frame-same r r' words line p p' s e =
-    ap₂ (λ (b : Bool) (x : List ℕ). pick {A = Framed} b (pick (leb line 63) (record { number = 0; code = lastCode line 0 x }) (record { number = 3; code = 0 })) (record { number = 1; code = 0 })) s e
+frame-same r r' words line p p' s e = ap₂ (λ (b : Bool) (x : List ℕ). pick b (shownIn line x) (record { number = 1; code = 0 })) s e
 
 log-same : (k e : ℕ) (o : Office) → withIssue k e o .log ≡ o .log
 unfolding withIssue

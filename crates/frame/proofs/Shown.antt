@@ -1,27 +1,45 @@
 -- What both frames answer, in the order of the numbers: 1, 3, and the last code in the entries p.
+--     shown-past, shown-done       of the entries
+--     frame-unsound, frame-shown   of the record
+--     quiet-path                   without ballots the own path is the settled log
 -- Assumes nothing.
-use mathlib.Core.Path.{_≡_}
-use mathlib.Core.Bool.{false}
-use mathlib.Core.List.{List}
+use mathlib.Core.Path.{_≡_, sym, ap, _∙_}
+use mathlib.Core.Bool.{true, false}
+use mathlib.Core.List.{List, _++_, append-nil}
 use Prim.Native.Nat.{ℕ, _<_, _≤_}
+use lib.ListN.{length, take}
 use borrow.Author.Tests.{le-leb, lt-leb}
-use Rattle.protocol.specs.Tests.{pick}
+use Rattle.protocol.specs.Tests.{allB, pick}
 use Rattle.protocol.specs.Frames.{lastCode}
-use Rattle.frame.specs.Soundness.{soundB, Sound}
-use Rattle.frame.specs.Frames.{frameOf}
+use Rattle.protocol.specs.Office.{path}
+use Rattle.protocol.proofs.Tests.{all-at}
+use Rattle.ballots.specs.Ballots.{emptyBallot, offEnd, tailOf}
+use Rattle.ballots.proofs.Laws.{empty-is}
+use Rattle.frame.specs.Soundness.{soundB}
+use Rattle.frame.specs.Frames.{frameOf, shownIn}
+use Rattle.frame.specs.State.{heldBy}
 use Rattle.frame.specs.declared.Record.{Record}
 use Rattle.frame.specs.declared.frames.Framed.{Framed}
-use Rattle.frame.proofs.Sound.{sound-true}
+use Rattle.frame.proofs.State.{tail-at}
 
-module _ (r : Record) (words : List ℕ) (line : ℕ) (p : List ℕ) where
-  pub frame-unsound : soundB r words ≡ false → _≡_ {A = Framed} (record { number = 1; code = 0 }) (frameOf r words line p)
-  unfolding frameOf pick
-  frame-unsound e = rw e
+module _ (line : ℕ) (p : List ℕ) where
+  pub shown-past : 63 < line → _≡_ {A = Framed} (record { number = 3; code = 0 }) (shownIn line p)
+  unfolding shownIn pick
+  shown-past l = rw (lt-leb line 63 l)
 
-  pub frame-past : Sound r words → 63 < line → _≡_ {A = Framed} (record { number = 3; code = 0 }) (frameOf r words line p)
-  unfolding frameOf pick
-  frame-past S l = rw (sound-true r words S, lt-leb line 63 l)
+  pub shown-done : line ≤ 63 → (code : ℕ) → code ≡ lastCode line 0 p → _≡_ {A = Framed} (record { number = 0; code = code }) (shownIn line p)
+  unfolding shownIn pick
+  shown-done l code e = rw (le-leb line 63 l) (λ i. record { number = 0; code = e i })
 
-  pub frame-done : Sound r words → line ≤ 63 → (code : ℕ) → code ≡ lastCode line 0 p → _≡_ {A = Framed} (record { number = 0; code = code }) (frameOf r words line p)
+module _ (r : Record) (words : List ℕ) where
+  pub frame-unsound : (line : ℕ) (p : List ℕ) → soundB r words ≡ false → _≡_ {A = Framed} (record { number = 1; code = 0 }) (frameOf r words line p)
   unfolding frameOf pick
-  frame-done S l code e = rw (sound-true r words S, le-leb line 63 l) (λ i. record { number = 0; code = e i })
+  frame-unsound line p e = rw e
+
+  pub frame-shown : (line : ℕ) (p : List ℕ) → soundB r words ≡ true → shownIn line p ≡ frameOf r words line p
+  unfolding frameOf pick
+  frame-shown line p e = rw e
+
+  pub quiet-path : allB emptyBallot (r .ballots) ≡ true → r .own < length (r .ballots) → take (r .settled) words ≡ path (heldBy r words) (r .own)
+  quiet-path e h =
+      sym (ap (λ (t : List ℕ). take (r .settled) words ++ t) (tail-at r words (r .own) ∙ ap tailOf (empty-is _ (all-at emptyBallot offEnd (r .ballots) (r .own) e h))) ∙ append-nil _)

@@ -11,12 +11,13 @@ use Rattle.frame.specs.Soundness.{soundB}
 use Rattle.frame.specs.declared.Record.{Record}
 use Rattle.frame.specs.declared.frames.Framed.{Framed}
 
--- of the entries p; 1 and 3 come with code 0
+-- of the entries p; 3 comes with code 0
+unfoldable pub shownIn : ℕ → List ℕ → Framed
+shownIn line p = pick (leb line 63) (record { number = 0; code = lastCode line 0 p }) (record { number = 3; code = 0 })
+
+-- and so does 1
 unfoldable pub frameOf : Record → List ℕ → ℕ → List ℕ → Framed
-frameOf r words line p =
-    pick (soundB r words)
-    (pick (leb line 63) (record { number = 0; code = lastCode line 0 p }) (record { number = 3; code = 0 }))
-    (record { number = 1; code = 0 })
+frameOf r words line p = pick (soundB r words) (shownIn line p) (record { number = 1; code = 0 })
 
 abbrev pub settledFrameOf : Record → List ℕ → ℕ → Framed
 settledFrameOf r words line = frameOf r words line (heldBy r words .log)

@@ -1,12 +1,28 @@
 // The settled and the tentative frame of a line.
 ghost use mathlib.Core.Path.{_≡_};
-ghost use Rattle.frame.specs.Frames.{settledFrameOf, tentativeFrameOf};
+ghost use Rattle.frame.specs.Frames.{shownIn, settledFrameOf, tentativeFrameOf};
 use crate::Record;
+use crate::soundness::quiet;
+use crate::soundness::whole;
 
 #[repr(C)]
 pub struct Framed {
     pub number: u32,
     pub code: u32,
+}
+
+// The code of the last of the entries for the line, 0 if none; or the refusal of a line that there is not.
+fn shown(words: &[u32], line: u32) -> Framed
+    ensures { λ r. ⌜ r ≡ shownIn line (now (words .entry)) ⌝ }
+{
+    if line >= Record::LINES {
+        return Framed { number: 3, code: 0 };
+    }
+    let code = entries::last_code(words, line, 0);
+    Framed {
+        number: 0,
+        code: code,
+    }
 }
 
 impl Record {
@@ -18,23 +34,18 @@ impl Record {
         if !self.sound(log) {
             return Framed { number: 1, code: 0 };
         }
-        if line >= Record::LINES {
-            return Framed { number: 3, code: 0 };
-        }
-        let code = entries::last_code(&log[..settled], line, 0);
-        Framed {
-            number: 0,
-            code: code,
-        }
+        shown(&log[..settled], line)
     }
 
-    // The code of the last entry for the line in the own path; 0 if none.
-    pub fn tentative_frame(self, log: &[u32], line: u32) -> Framed
+    // The tentative frame by the own ballot, whatever it is.
+    fn tentative(self, log: &[u32], line: u32) -> Framed
         ensures { λ r. ⌜ r ≡ tentativeFrameOf self (now (log .entry)) line ⌝ }
     {
         let settled = self.settled;
         let own = self.own;
-        if !self.sound(log) {
+        let weights = self.weights;
+        let all = self.ballots;
+        if !whole(self.n, own, weights, settled, all, log) {
             return Framed { number: 1, code: 0 };
         }
         if line >= Record::LINES {
@@ -49,5 +60,18 @@ impl Record {
             number: 0,
             code: code,
         }
+    }
+
+    // The code of the last entry for the line in the own path; 0 if none. Without ballots this is the settled log, and no ballot is copied.
+    pub fn tentative_frame(self, log: &[u32], line: u32) -> Framed
+        ensures { λ r. ⌜ r ≡ tentativeFrameOf self (now (log .entry)) line ⌝ }
+    {
+        let settled = self.settled;
+        let weights = self.weights;
+        let all = self.ballots;
+        if quiet(self.n, self.own, weights, settled, all, log) {
+            return shown(&log[..settled], line);
+        }
+        self.tentative(log, line)
     }
 }

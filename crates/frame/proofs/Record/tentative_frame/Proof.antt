@@ -1,43 +1,33 @@
--- The refusals in the order of their numbers; then the last code in the settled log, and in the own tail behind it.
+-- Without ballots the own path is the settled log; else the own ballot is read.
 use native.Mathlib.Omega.{arith}
-use mathlib.Core.Path.{sym, ap, _∙_}
-use mathlib.Core.List.{List, _++_}
-use Prim.Native.Nat.{ℕ}
-use lib.ListN.{getD, take}
-use lib.Seq.{length-take-le}
-use borrow.Author.Tests.{not-true, not-false}
+use mathlib.Core.Bool.{true}
+use mathlib.Core.Path.{_≡_, sym, ap, _∙_}
+use lib.ListN.{length}
 use borrow.Author.Needs.{needs}
-use Rattle.protocol.specs.Frames.{lastCode}
-use Rattle.entries.proofs.Walk.{last-append}
-use Rattle.ballots.specs.Ballots.{offEnd, tailOf}
-use Rattle.ballots.proofs.Laws.{Fine}
-use Rattle.frame.specs.Soundness.{Sound}
+use Rattle.protocol.proofs.Tests.{both-0, length-mapped}
+use Rattle.frame.specs.Frames.{shownIn}
+use Rattle.frame.specs.Soundness.{soundB}
+use Rattle.frame.proofs.Front.{quiet-sound}
 use Rattle.frame.proofs.Sound.{sound}
-use Rattle.frame.proofs.State.{log-length, tail-at, ballot}
-use Rattle.frame.proofs.Shown.{frame-unsound, frame-past, frame-done}
+use Rattle.frame.proofs.State.{log-length}
+use Rattle.frame.proofs.Shown.{frame-shown, quiet-path}
 use Rattle.frame.proofs.Record.tentative_frame.Statement.{statement}
 use Rattle.frame.proofs.Record.tentative_frame.Tie as tie
 
-sounds : (c : tie.Else1) → Sound (c .before .before .before .args .t1) (c .before .before .before .args .log .now)
-sounds c = sound _ _ (sym (c .before .sound .ensures) ∙ not-false _ (c .if1 .left))
+eight : (s : tie.Start) → length (s .args .self .ballots) ≡ 8
+eight s = search (needs, length-mapped)
 
-own-ballot : (c : tie.Else1) → let r = c .before .before .before .args .t1 in Fine (r .n) (r .settled) (getD (r .ballots) (r .own) offEnd)
-own-ballot c = let S = sounds c in ballot _ _ S (c .before .before .before .args .t1 .own) (omega arith)
+passed : (c : tie.Then1) → soundB (c .before .before .before .before .before .args .self) (c .before .before .before .before .before .args .log .now) ≡ true
+passed c = quiet-sound _ _ (sym (c .before .quiet .ensures) ∙ c .if1 .taken) (eight (c .before .before .before .before .before))
 
-returns-3 : tie.Need-returns-3
-returns-3 c =
-    let a = c .before .before .before .before .before .before .before .before .before .before .args in
-    let r = a .t1 in
-    let x = take (r .settled) (a .log .now) in
-    let tail = tailOf (getD (r .ballots) (r .own) offEnd) in
-    frame-done _ _ (a .line) _ (sounds (c .before .before .before .before .before .before .before)) (omega arith) _
-    (c .last-code2 .ensures ∙ ap (λ (v : ℕ). lastCode (a .line) v tail) (c .before .before .before .before .last-code .ensures) ∙
-    sym (last-append (a .line) 0 x tail) ∙ ap (λ (t : List ℕ). lastCode (a .line) 0 (x ++ t)) (sym (tail-at r (a .log .now) (r .own))))
+returns : tie.Need-returns
+returns c =
+    let t = c .before .before in
+    let a = t .before .before .before .before .before .args in
+    let S = sound _ _ (passed t) in
+    c .shown .ensures ∙ ap (shownIn (a .line)) (quiet-path (a .self) (a .log .now) (both-0 _ _ (sym (t .before .quiet .ensures) ∙ t .if1 .taken)) (omega (arith, S .head .member, S .head .most, S .eight)))
+    ∙ frame-shown _ _ (a .line) _ (passed t)
 
 pub tentative-frame-spec : {M : Type 1} → statement M
 tentative-frame-spec =
-    tie.close (tie.spec (λ c κs. search needs) (λ c. frame-unsound _ _ _ _ (sym (c .before .sound .ensures) ∙ not-true _ (c .if1 .taken)))
-    (λ c. frame-past _ _ (c .before .before .before .before .args .line) _ (sounds (c .before)) (omega arith)) (λ c. sym (log-length _ _ (sounds (c .before .before))))
-    (λ c κs. search needs) (λ c. let S = sounds (c .before .before .before) in omega arith) (λ c. let S = sounds (c .before .before .before) in omega arith)
-    (λ c. let F = own-ballot (c .before .before .before .before .before) in omega arith) (λ c. let F = own-ballot (c .before .before .before .before .before .before) in sym (length-take-le _ _ (omega arith)))
-    (λ c κs. search needs) returns-3)
+    tie.close (tie.spec (λ c κs. search needs) (λ c. sym (log-length _ _ (sound _ _ (passed (c .before))))) (λ c κs. search needs) returns (λ c κs. search needs) (λ c. search needs))
