@@ -1,4 +1,4 @@
-// Entries as 32-bit words: packing, the test of a word, and walks over a slice of words.
+// Entries as 32-bit words: packing, the tests of words, and walks over a slice of them.
 ghost use mathlib.Core.Path.{_≡_};
 ghost use lib.Dec.{eqb, leb};
 ghost use Rattle.protocol.specs.Tests.{allB, pick};
@@ -24,7 +24,8 @@ fn offices(n: usize) -> u32
 }
 
 // The word's office, the upper two bits of its line and half its code, each raised so that a number past its limit carries into a bit
-// that is else 0: the office's into bit 31, the code's into bit 15; the line's two bits stand at bits 21 and 22 and must be 0 themselves.
+// that is else 0: the office's into bit 31, the code's into bit 15 (5000 + 27768 is 2^15); the line's two bits stand at bits 21 and 22 and
+// must be 0 themselves. No branch, and words can be joined by `|` before the bits are looked at, so that a loop of it runs on vectors.
 pub fn raised(word: u32, n: usize) -> u32
     ensures { λ r. ⌜ r ≡ raised n word ⌝ }
 {

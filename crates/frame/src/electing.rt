@@ -3,7 +3,8 @@ ghost use mathlib.Core.Path.{_≡_};
 ghost use Rattle.frame.specs.Soundness.{Sound};
 ghost use Rattle.frame.specs.Electing.{stepOf, stepWords, electOf, electWords};
 use crate::Record;
-use crate::soundness;
+use crate::soundness::quiet;
+use crate::soundness::whole;
 use ballots::Ballot;
 use tallies::Winner;
 
@@ -59,14 +60,14 @@ impl Record {
         let start = self.settled;
         let weights = self.weights;
         let all = self.ballots;
-        if soundness::quiet(self.n, self.own, weights, self.settled, all, &log[..]) {
+        if quiet(self.n, self.own, weights, self.settled, all, &log[..]) {
             return Elected {
                 record: self,
                 number: 0,
                 count: 0,
             };
         }
-        if !soundness::whole(self.n, self.own, weights, self.settled, all, &log[..]) {
+        if !whole(self.n, self.own, weights, self.settled, all, &log[..]) {
             return Elected {
                 record: self,
                 number: 1,

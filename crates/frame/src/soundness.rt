@@ -71,7 +71,7 @@ fn no_ballots(all: [Ballot; 8]) -> bool
 }
 
 // Whether the record with these fields is sound and has no ballots. The fields go one by one, here and in `whole`: a record handed on
-// whole would be copied. Both have two callers, `sound` and `elect`, which keeps the compiler from copying them into `sound`.
+// whole would be copied. Both are called by `elect` and `tentative_frame` too, which keeps the compiler from copying them into `sound`.
 pub fn quiet(
     n: usize,
     own: usize,
