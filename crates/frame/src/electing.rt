@@ -53,21 +53,14 @@ impl Record {
         }
     }
 
-    // Repeats the step until no entry wins, and answers how many entries it settled. Without ballots there is no vote, and so no winner.
-    pub fn elect(self, log: &mut [u32]) -> Elected
+    // Repeats the step until no entry wins, and answers how many entries it settled; by the ballots, whatever they are.
+    fn steps(self, log: &mut [u32]) -> Elected
         ensures { λ r. ⌜ (r ≡ electOf self (now (log .entry))) × (now (log .exit) ≡ electWords self (now (log .entry))) ⌝ }
     {
         let start = self.settled;
         let weights = self.weights;
         let all = self.ballots;
-        if quiet(self.n, self.own, weights, self.settled, all, &log[..]) {
-            return Elected {
-                record: self,
-                number: 0,
-                count: 0,
-            };
-        }
-        if !whole(self.n, self.own, weights, self.settled, all, &log[..]) {
+        if !whole(self.n, self.own, weights, start, all, &log[..]) {
             return Elected {
                 record: self,
                 number: 1,
@@ -88,5 +81,21 @@ impl Record {
             number: 0,
             count: count,
         }
+    }
+
+    // Elect repeats the step until no entry wins, and answers how many entries it settled. Without ballots there is no vote, and so no winner.
+    pub fn elect(self, log: &mut [u32]) -> Elected
+        ensures { λ r. ⌜ (r ≡ electOf self (now (log .entry))) × (now (log .exit) ≡ electWords self (now (log .entry))) ⌝ }
+    {
+        let weights = self.weights;
+        let all = self.ballots;
+        if quiet(self.n, self.own, weights, self.settled, all, &log[..]) {
+            return Elected {
+                record: self,
+                number: 0,
+                count: 0,
+            };
+        }
+        self.steps(log)
     }
 }

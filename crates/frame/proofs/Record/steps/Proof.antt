@@ -1,0 +1,50 @@
+-- A run of steps: the state that is left elects the same, and the words behind the settled log are as they were.
+use native.Mathlib.Omega.{arith}
+use mathlib.Core.Path.{_≡_, sym, ap, _∙_}
+use mathlib.Core.Bool.{true}
+use Prim.Native.Nat.{_+_, _-_, _<_}
+use lib.ListN.{length}
+use borrow.Author.Tests.{not-true, not-false}
+use borrow.Author.Needs.{needs}
+use Rattle.frame.specs.Soundness.{soundB}
+use Rattle.frame.specs.declared.Record.{Record}
+use Rattle.frame.proofs.Sound.{sound}
+use Rattle.frame.proofs.Elect.{Running, run-start, run-more, run-last, run-end, elect-unsound}
+use Rattle.frame.proofs.Record.steps.Statement.{statement}
+use Rattle.frame.proofs.Record.steps.Tie as tie
+
+abbrev Inv-loop : tie.InvT-loop
+Inv-loop log₀ start now₀ log now = Running now₀ log₀ now log
+
+abbrev μ-loop : tie.MeasureT-loop
+μ-loop log₀ start now₀ log now = 1024 - now .settled
+
+-- a record that passed the test is sound
+sounds : (c : tie.Else1 Inv-loop μ-loop) → let a = c .before .before .before .before .before .before .args in soundB (a .self) (a .log .now) ≡ true
+sounds c = sym (c .before .whole .ensures) ∙ not-false _ (c .if1 .left)
+
+-- what a step leaves: a run one entry longer, or the same record and words
+more : (c : tie.Else2 Inv-loop μ-loop)
+    → let a = c .before .before .before .before .before .before .before .before .before .before .before .before .before .args in let l = c .before .before .before .before .before .before .loop in let x = c .before .before .before .before .step in Running (a .self) (a .log .now) (x .result) (x .last .1 .0) × (x .result .settled ≡ l .now .settled + 1) × (l .now .settled < 1024)
+more c = let x = c .before .before .before .before .step .ensures in run-more _ _ _ _ (c .before .before .before .before .before .before .loop .inv) _ (x .0) _ (x .1) (c .if2 .left)
+
+last : (c : tie.Then2 Inv-loop μ-loop) → let l = c .before .before .before .before .before .before .loop in let x = c .before .before .before .before .step in (x .result ≡ l .now) × (x .last .1 .0 ≡ l .log)
+last c = let x = c .before .before .before .before .step .ensures in let m = run-last _ _ _ _ (c .before .before .before .before .before .before .loop .inv) _ (x .0) _ (x .1) (c .if2 .taken) in (m .0, m .1)
+
+returns : tie.Need-returns Inv-loop μ-loop
+returns c = elect-unsound _ _ (sym (c .before .whole .ensures) ∙ not-true _ (c .if1 .taken))
+
+loop-holds : tie.Need-loop-holds Inv-loop μ-loop
+loop-holds c = run-start _ _ (sound _ _ (sounds c))
+
+sub-count : tie.Need-sub-count Inv-loop μ-loop
+sub-count c = omega (arith, ap (λ (r : Record). r .settled) (last (c .before) .0), c .before .before .before .before .before .before .before .loop .inv .grown)
+
+returns-2 : tie.Need-returns-2 Inv-loop μ-loop
+returns-2 c = let x = c .before .before .before .before .before .step .ensures in run-end _ _ _ _ (c .before .before .before .before .before .before .before .loop .inv) _ (x .0) _ (x .1) (sounds (c .before .before .before .before .before .before .before .before)) (c .before .if2 .taken)
+
+pub steps-spec : {M : Type 1} → statement M
+steps-spec =
+    tie.close (tie.spec Inv-loop μ-loop (λ c κs. search needs) (λ c. search needs) returns loop-holds (λ c κs. c .before .loop .inv .sound)
+    (λ c. let m = more c in omega arith) (λ c. more c .0) sub-count
+    (λ c. ap length (last (c .before) .1) ∙ c .before .before .before .before .before .before .before .loop .inv .long) returns-2)
