@@ -2,7 +2,7 @@
 ghost use mathlib.Core.Path.{_≡_};
 ghost use lib.Dec.{eqb, leb};
 ghost use Rattle.protocol.specs.Tests.{allB, pick};
-ghost use Rattle.protocol.specs.Entry.{value, isEntry};
+ghost use Rattle.protocol.specs.Entry.{value, lineOf, isEntry};
 ghost use Rattle.protocol.specs.Frames.{lastCode};
 ghost use Rattle.entries.specs.Carries.{raised, noCarry};
 
@@ -62,14 +62,32 @@ pub fn all_zero(words: &[u32]) -> bool
     good
 }
 
-// The code of the last entry for the line, or the code given where there is none. The newest entry is the likeliest, so the walk is from the end.
+// Whether the word is an entry for the line.
+fn is_for(word: u32, line: u32) -> bool
+    ensures { λ r. ⌜ r ≡ eqb (lineOf word) line ⌝ }
+{
+    word / 65536 % 256 == line
+}
+
+// The code of the last entry for the line, or the code given where there is none. The newest entry is the likeliest, so the walk is from the
+// end; four words at a time are passed over while none of them is for the line, which runs on vectors.
 pub fn last_code(words: &[u32], line: u32, code: u32) -> u32
     ensures { λ r. ⌜ r ≡ lastCode line code (now (words .entry)) ⌝ }
 {
     let mut end = words.len();
+    while end >= 4 {
+        if is_for(words[end - 1], line)
+            | is_for(words[end - 2], line)
+            | is_for(words[end - 3], line)
+            | is_for(words[end - 4], line)
+        {
+            break;
+        }
+        end = end - 4;
+    }
     while end > 0 {
         let word = words[end - 1];
-        if word / 65536 % 256 == line {
+        if is_for(word, line) {
             return word % 65536;
         }
         end = end - 1;
