@@ -6,22 +6,22 @@
 --     push-held                 an entry more in the cells is an entry more in the tail
 --     none-empty, empty-none    no ballot is the empty tail
 --     empty-is, none-fine       the ballot that the test `emptyBallot` passes, and that it is fine
---     too-long, too-far, not-zero, none-tested, all-tested     each way out of the test
+--     too-long, too-far, not-zero, none-tested, not-entries, all-tested     each way out of the test
 -- Assumes nothing.
 use mathlib.Core.Path.{_≡_, refl, sym, ap, ap₂, _∙_}
 use mathlib.Core.Bool.{Bool, true, false}
 use mathlib.Core.List.{List, [], _∷_, _++_, map, append-assoc}
-use Prim.Native.Nat.{ℕ, suc, _+_, _-_, _<_, _≤_}
+use Prim.Native.Nat.{ℕ, suc, _+_, _-_, _/_, _<_, _≤_}
 use native.Mathlib.Numerals.{add-one}
 use native.Mathlib.Omega.{arith}
-use lib.Dec.{eqb}
+use lib.Dec.{eqb, ltb}
 use lib.ListN.{length, getD, take, drop, set, replicate, length-append, length-drop, take-append-drop, length-replicate}
 use lib.Seq.{length-take-le, set-split, drop-drop, take-append-seam, drop-append-seam}
-use borrow.Author.Tests.{eqb-true, leb-true, lt-ltb, eq-eqb, le-leb, lt-leb}
+use borrow.Author.Tests.{eqb-true, leb-true, ltb-true, lt-ltb, eq-eqb, le-leb, lt-leb}
 use Rattle.protocol.specs.Tests.{allB, both, pick}
 use Rattle.protocol.specs.Entry.{isEntry}
 use Rattle.protocol.specs.Limits.{isEmpty, tailFine}
-use Rattle.protocol.proofs.Tests.{both-0, both-1, both-true, both-false-1, zeros, all-zeros, getD-map}
+use Rattle.protocol.proofs.Tests.{both-0, both-1, both-true, both-false-1, all-append, all-at, all-mono, all-take, zeros, all-zeros, getD-map}
 use Rattle.ballots.specs.Ballots.{ballotShape, ballotFine, emptyBallot, tailOf, ballotOf, noBallot, pushed, isNoBallot, offEnd}
 use Rattle.ballots.specs.declared.Ballot.{Ballot}
 
@@ -144,6 +144,20 @@ pub none-fine : (n settled : ℕ) → settled ≤ 1024 → ballotFine n settled 
 unfolding tailFine allB
 none-fine n settled h = fine-tail n settled [] (both-true _ _ refl (both-true _ _ (le-leb (settled + 0) 1024 (omega arith)) refl))
 
+-- the cells of a fine ballot that has an entry are all entries, the unused ones too
+all-cells : (n : ℕ) {settled : ℕ} (b : Ballot) → Fine n settled b → 1 ≤ b .len → allB (isEntry n) (b .cells) ≡ true
+unfolding isEntry both
+all-cells n b F some =
+    rw (take-append-drop (b .len) (b .cells)) at
+    (all-append (isEntry n) (take (b .len) (b .cells)) (drop (b .len) (b .cells)) (F .entries)
+    (all-mono (eqb 0) (isEntry n) (λ x z. ap (isEntry n) (sym (eqb-true 0 x z)) ∙ zero-entry) (drop (b .len) (b .cells)) (F .zero)))
+  where
+    first : ltb (getD (tailOf b) 0 0 / 16777216) n ≡ true
+    first = both-0 (ltb (getD (tailOf b) 0 0 / 16777216) n) _ (all-at (isEntry n) 0 (tailOf b) 0 (F .entries) (omega (arith, length-take-le (b .len) (b .cells) (omega (arith, F .cells, F .len)))))
+
+    zero-entry : isEntry n 0 ≡ true
+    zero-entry = rw (lt-ltb 0 n (omega (arith, ltb-true (getD (tailOf b) 0 0 / 16777216) n first)))
+
 -- each way out of the test of a ballot of 32 cells
 module _ (n settled : ℕ) (b : Ballot) (h : length (b .cells) ≡ 32) where
   pub too-long : 32 < b .len → false ≡ ballotFine n settled b
@@ -168,13 +182,26 @@ module _ (n settled : ℕ) (b : Ballot) (h : length (b .cells) ≡ 32) where
     unfolding ballotFine ballotShape both
     not-zero z = simp (eq-eqb (length (b .cells)) 32 h, le-leb (b .len) 32 l, z)
 
+    -- where there is an entry, so that n is not 0, a cell that is zero is an entry too
+    pub not-entries : 1 ≤ b .len → allB (isEntry n) (b .cells) ≡ false → false ≡ ballotFine n settled b
+    not-entries some e = go (ballotFine n settled b) refl
+      where
+        go : (t : Bool) → ballotFine n settled b ≡ t → false ≡ t
+        go false q = refl
+        go true q = sym e ∙ all-cells n b (fine n settled b q) some
+
     module _ (s : settled + b .len ≤ 1024) where
-      pub all-tested : allB (eqb 0) (drop (b .len) (b .cells)) ≡ true → allB (isEntry n) (tailOf b) ≡ ballotFine n settled b
+      used : allB (eqb 0) (drop (b .len) (b .cells)) ≡ true → allB (isEntry n) (tailOf b) ≡ ballotFine n settled b
       unfolding ballotFine ballotShape tailFine both
-      all-tested z = simp (eq-eqb (length (b .cells)) 32 h, le-leb (b .len) 32 l, z, le-leb long 32 (omega (arith, is-len)), le-leb (settled + long) 1024 (omega (arith, is-len)))
+      used z = simp (eq-eqb (length (b .cells)) 32 h, le-leb (b .len) 32 l, z, le-leb long 32 (omega (arith, is-len)), le-leb (settled + long) 1024 (omega (arith, is-len)))
+
+      -- all cells are entries: those behind the tail decide
+      pub all-tested : allB (isEntry n) (b .cells) ≡ true → (t : Bool) → t ≡ allB (eqb 0) (drop (b .len) (b .cells)) → t ≡ ballotFine n settled b
+      all-tested e true q = sym (all-take (isEntry n) (b .len) (b .cells) e) ∙ used (sym q)
+      all-tested e false q = not-zero (sym q)
 
       -- one with no entries
       pub none-tested : b .len ≡ 0 → (t : Bool) → t ≡ allB (eqb 0) (b .cells) → t ≡ ballotFine n settled b
       unfolding allB
-      none-tested e true q = sym (ap (λ (k : ℕ). allB (isEntry n) (take k (b .cells))) e) ∙ all-tested (ap (λ (k : ℕ). allB (eqb 0) (drop k (b .cells))) e ∙ sym q)
+      none-tested e true q = sym (ap (λ (k : ℕ). allB (isEntry n) (take k (b .cells))) e) ∙ used (ap (λ (k : ℕ). allB (eqb 0) (drop k (b .cells))) e ∙ sym q)
       none-tested e false q = not-zero (ap (λ (k : ℕ). allB (eqb 0) (drop k (b .cells))) e ∙ sym q)

@@ -2,6 +2,7 @@
 ghost use mathlib.Core.Path.{_≡_};
 ghost use lib.Dec.{eqb};
 ghost use lib.ListN.{drop};
+ghost use Rattle.protocol.specs.Entry.{isEntry};
 ghost use Rattle.protocol.specs.Tests.{allB};
 ghost use Rattle.ballots.specs.Ballots.{ballotFine, emptyBallot, totalWeight, noBallot, pushed, same};
 
@@ -12,7 +13,9 @@ pub struct Ballot {
     pub cells: [u32; 32],
 }
 
-// Whether all the cells are zero. Most ballots are none, and a walk of fixed length over the array needs no copy of it.
+// Walks of fixed length over the cells: they need no copy of the array, as a part of it would.
+
+// Whether all the cells are zero.
 fn zero_cells(cells: [u32; 32]) -> bool
     ensures { λ r. ⌜ r ≡ allB (eqb 0) cells ⌝ }
 {
@@ -23,13 +26,38 @@ fn zero_cells(cells: [u32; 32]) -> bool
     good
 }
 
+// Whether all the cells are entries for n offices.
+fn entry_cells(cells: [u32; 32], n: usize) -> bool
+    ensures { λ r. ⌜ r ≡ allB (isEntry n) cells ⌝ }
+{
+    let mut bits: u32 = 0;
+    for i in 0..32 {
+        bits = bits | entries::raised(cells[i], n);
+    }
+    entries::no_carry(bits)
+}
+
+// Whether the cells from a place on are zero.
+fn zero_cells_from(cells: [u32; 32], len: usize) -> bool
+    ensures { λ r. ⌜ r ≡ allB (eqb 0) (drop len cells) ⌝ }
+{
+    let mut rest: u32 = 0;
+    for i in 0..32 {
+        if i >= len {
+            rest = rest | cells[i];
+        }
+    }
+    rest == 0
+}
+
 impl Ballot {
     pub const CELLS: usize = 32;
 
     // The longest path of a ballot: a settled length with a tail length.
     pub const PATH: usize = 1024;
 
-    // Whether the ballot may stand in a sound record of n offices with this settled length.
+    // Whether the ballot may stand in a sound record of n offices with this settled length. Where there is an entry, 0 is one too: the unused
+    // cells pass that test with the used ones.
     pub fn fine(self, n: usize, settled: usize) -> bool
         ensures { λ r. ⌜ r ≡ ballotFine n settled self ⌝ }
     {
@@ -44,10 +72,13 @@ impl Ballot {
         if len == 0 {
             return zero_cells(cells);
         }
-        if !entries::all_zero(&cells[len..]) {
+        if !entry_cells(cells, n) {
             return false;
         }
-        entries::all_entries(&cells[..len], n)
+        if len == Ballot::CELLS {
+            return true;
+        }
+        zero_cells_from(cells, len)
     }
 
     // Whether the ballot is none: no entries, and every cell zero.

@@ -3,18 +3,23 @@
 --     no-carry-raised     one word: no carry exactly where it is an entry
 --     no-carry-or         joined numbers: no carry exactly where neither has one
 --     no-carry-zero       no word was joined yet
+--     raised-next         a walk that joins raised words, one word more
+--     zero-next           a walk that joins words as they are, to see whether all are zero, one word more
 -- Assumes nothing.
 use mathlib.Core.Path.{_≡_, refl, sym, ap, ap₂, _∙_}
 use mathlib.Core.Bool.{Bool, true, false}
-use Prim.Native.Nat.{ℕ, suc, _+_, _-_, _*_, _/_, _%_, _^_, _<_, _≤_}
+use mathlib.Core.List.{List}
+use Prim.Native.Nat.{ℕ, suc, _+_, _-_, _/_, _%_, _^_, _<_, _≤_}
 use native.Mathlib.Omega.{arith}
 use lib.Dec.{eqb, leb, ltb}
+use lib.ListN.{getD, length}
 use lib.Bits.{bitOr, or-add-and, and-le-l, and-le-r, or-shr, or-mod}
 use borrow.Author.Tests.{eqb-true, leb-true, ltb-true, eq-eqb, le-leb, lt-ltb}
 use Rattle.protocol.specs.Tests.{both, pick}
 use Rattle.protocol.specs.Entry.{isEntry}
 use Rattle.protocol.proofs.Tests.{pick-cases, both-0, both-1, both-true}
 use Rattle.entries.specs.Carries.{raised, noCarry}
+use Rattle.entries.proofs.Walk.{AllWith, with-next, and-both}
 use Rattle.entries.proofs.Word.{few-offices}
 
 -- two tests that hold in the same cases
@@ -108,3 +113,14 @@ no-carry-or a b = ap₂ both (or-bits 15 1 a b) (ap₂ both (or-bits 21 2 a b) (
 pub no-carry-zero : noCarry 0 ≡ true
 unfolding noCarry both
 no-carry-zero = refl
+
+-- walks over a list: what was joined so far stands for the tests made
+module _ {b : Bool} (xs : List ℕ) (bits i v : ℕ) (h : i < length xs) where
+  pub raised-next : (n : ℕ) → AllWith b (isEntry n) xs (noCarry bits) i → noCarry v ≡ isEntry n (getD xs i 0) → AllWith b (isEntry n) xs (noCarry (bitOr bits v)) (i + 1)
+  raised-next n inv e = rw (and-both (noCarry bits) (noCarry v) ∙ sym (no-carry-or bits v)) at (with-next (isEntry n) 0 xs (noCarry bits) i inv h (noCarry v) e)
+
+  pub zero-next : AllWith b (eqb 0) xs (eqb bits 0) i → v ≡ getD xs i 0 → AllWith b (eqb 0) xs (eqb (bitOr bits v) 0) (i + 1)
+  zero-next inv e = rw (and-both (eqb bits 0) (eqb v 0) ∙ sym (or-zero bits v)) at (with-next (eqb 0) 0 xs (eqb bits 0) i inv h (eqb v 0) (turned v ∙ ap (eqb 0) e))
+    where
+      turned : (x : ℕ) → eqb x 0 ≡ eqb 0 x
+      turned x = alike (eqb x 0) (eqb 0 x) (λ t. eq-eqb 0 x (sym (eqb-true x 0 t))) (λ t. eq-eqb x 0 (sym (eqb-true 0 x t)))

@@ -27,7 +27,7 @@ fn offices(n: usize) -> u32
 // that is else 0: the office's into bit 31, the code's into bit 15 (5000 + 27768 is 2^15); the line's two bits stand at bits 21 and 22 and
 // must be 0 themselves. No branch, and words can be joined by `|` before the bits are looked at, so that a loop of it runs on vectors.
 pub fn raised(word: u32, n: usize) -> u32
-    ensures { λ r. ⌜ r ≡ raised n word ⌝ }
+    ensures { λ r. ⌜ (r ≡ raised n word) × (noCarry r ≡ isEntry n word) ⌝ }
 {
     let fields = word / 16777216 * 8388608 + (word / 4194304 % 4 * 2097152 + word % 65536 / 2);
     fields + ((256 - offices(n)) * 8388608 + 27768)
@@ -49,17 +49,6 @@ pub fn all_entries(words: &[u32], n: usize) -> bool
         bits = bits | raised(words[i], n);
     }
     no_carry(bits)
-}
-
-// Whether every word is zero.
-pub fn all_zero(words: &[u32]) -> bool
-    ensures { λ r. ⌜ r ≡ allB (eqb 0) (now (words .entry)) ⌝ }
-{
-    let mut good = true;
-    for i in 0..words.len() {
-        good = good & (0 == words[i]);
-    }
-    good
 }
 
 // Whether the word is an entry for the line.

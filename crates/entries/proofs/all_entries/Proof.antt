@@ -1,14 +1,13 @@
 -- A walk from the front that joins every raised word: what was joined so far and what is left of the words answer as all of them do.
 use borrow.Author.Needs.{needs}
-use mathlib.Core.Path.{sym, ap, _∙_}
-use Prim.Native.Nat.{_-_, _≤_, _<_}
-use native.Mathlib.Omega.{arith}
-use lib.ListN.{length, getD}
+use mathlib.Core.Path.{_∙_}
+use Prim.Native.Nat.{_-_, _≤_}
+use lib.ListN.{length}
 use Rattle.protocol.specs.Tests.{allB, both}
 use Rattle.protocol.specs.Entry.{isEntry}
 use Rattle.entries.specs.Carries.{noCarry}
-use Rattle.entries.proofs.Walk.{AllWith, with-next, with-done, and-both}
-use Rattle.entries.proofs.Carries.{no-carry-raised, no-carry-or, no-carry-zero}
+use Rattle.entries.proofs.Walk.{AllWith, with-done}
+use Rattle.entries.proofs.Carries.{no-carry-zero, raised-next}
 use Rattle.entries.proofs.all_entries.Statement.{statement}
 use Rattle.entries.proofs.all_entries.Tie as tie
 
@@ -26,12 +25,7 @@ loop-again : tie.Need-loop-again Inv-loop μ-loop
 loop-again c =
     let l = c .before .before .before .loop in
     let a = c .before .before .before .before .before .args in
-    let w = getD (a .words .now) (l .i) 0 in
-    let r = c .raised .result in
-    let fits : w < 4294967296 = omega (arith, c .before .before .before .before .shared-slice-known .given (l .i)) in
-    let one = ap noCarry (c .raised .ensures) ∙ no-carry-raised (a .n) w fits in
-    let joined = and-both (noCarry (l .bits)) (noCarry r) ∙ sym (no-carry-or (l .bits) r) in
-    (search needs, rw joined at (with-next (isEntry (a .n)) 0 (a .words .now) (noCarry (l .bits)) (l .i) (l .inv .1) (search needs) (noCarry r) one))
+    (search needs, raised-next (a .words .now) (l .bits) (l .i) (c .raised .result) (search needs) (a .n) (l .inv .1) (c .raised .ensures .1))
 
 returns : tie.Need-returns Inv-loop μ-loop
 returns c =

@@ -20,7 +20,7 @@ returns : tie.Need-returns Inv-loop μ-loop
 returns c = log-fails _ _ _ _ _ _ _ (c .before .before .loop-test .taken) (c .before .read-log .ensures) (not-true _ (c .if1 .taken)) ∙ c .before .before .before .loop .inv .1
 
 loop-again : tie.Need-loop-again Inv-loop μ-loop
-loop-again c = (omega arith, log-turn _ _ _ _ _ _ _ (c .before .before .before .loop-test .taken) (c .before .before .read-log .ensures) (not-false _ (c .before .if1 .left)) (search needs) _ (c .raised .ensures) ∙ c .before .before .before .before .loop .inv .1)
+loop-again c = (omega arith, log-turn _ _ _ _ _ _ _ (c .before .before .before .loop-test .taken) (c .before .before .read-log .ensures) (not-false _ (c .before .if1 .left)) (search needs) _ (c .raised .ensures .0) ∙ c .before .before .before .before .loop .inv .1)
 
 returns-2 : tie.Need-returns-2 Inv-loop μ-loop
 returns-2 c = let l = c .before .before .loop in let a = c .before .before .before .before .args in
