@@ -1,4 +1,4 @@
--- A walk from the front that makes every test, as `entries::all_zero` does.
+-- A walk from the front that makes every test.
 use borrow.Author.Needs.{needs}
 use native.Mathlib.Omega.{arith}
 use mathlib.Core.Path.{_≡_, refl}
