@@ -2,18 +2,19 @@
 --     eight-tests              a test of eight ballots, written out
 --     front-not, front-fine    a front that is not fine, and soundness where it is: the ballots at their places
 --     quiet-sound              a fine front and no ballots are sound
+--     all-none                 eight ballots that are none
 -- Assumes nothing.
-use mathlib.Core.Path.{_≡_, refl, sym, ap, _∙_}
+use mathlib.Core.Path.{_≡_, refl, sym, ap, ap₂, _∙_}
 use mathlib.Core.Bool.{Bool, true, false, _&&_}
-use mathlib.Core.List.{List}
+use mathlib.Core.List.{List, [], _∷_}
 use Prim.Native.Nat.{ℕ, _≤_}
 use native.Mathlib.Omega.{arith}
-use lib.ListN.{length, getD}
+use lib.ListN.{length, getD, replicate}
 use borrow.Author.Tests.{leb-true, eq-eqb}
 use Rattle.protocol.specs.Tests.{both, allB}
 use Rattle.protocol.proofs.Tests.{both-0, both-1, both-true, both-false-0, all-mono, all-drop}
 use Rattle.entries.proofs.Walk.{with-next, with-done}
-use Rattle.ballots.specs.Ballots.{ballotFine, emptyBallot, isNoBallot, offEnd}
+use Rattle.ballots.specs.Ballots.{ballotFine, emptyBallot, isNoBallot, noBallot, offEnd}
 use Rattle.ballots.specs.declared.Ballot.{Ballot}
 use Rattle.ballots.proofs.Laws.{empty-is, none-fine}
 use Rattle.frame.specs.Soundness.{logFine, ballotsFine, frontFine, soundB}
@@ -82,3 +83,9 @@ module _ (r : Record) (words : List ℕ) where
     where
       fine-none : (b : Ballot) → emptyBallot b ≡ true → ballotFine (r .n) (r .settled) b ≡ true
       fine-none b p = ap (ballotFine (r .n) (r .settled)) (empty-is b p) ∙ none-fine (r .n) (r .settled) (most (both-1 _ _ q))
+
+-- eight ballots that are none
+pub all-none : (bs : List Ballot) → allB emptyBallot bs ≡ true → bs ≡ replicate (length bs) noBallot
+unfolding allB
+all-none [] q = refl
+all-none (b ∷ bs) q = ap₂ (λ (x : Ballot) (l : List Ballot). x ∷ l) (empty-is b (both-0 _ _ q)) (all-none bs (both-1 _ _ q))
