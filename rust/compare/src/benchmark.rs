@@ -121,11 +121,17 @@ impl Case {
     }
 }
 
-/// A closure that makes a call and looks at its whole answer. An engine's call is made with pointers into
-/// buffers that the closure owns, so each of them is safe.
+/// A closure that makes a call and looks at its whole answer. The numbers named first are kept from the compiler,
+/// which would else work a part of a call out beforehand; they are read before the call's arguments are gathered,
+/// since a record that is copied to be handed over is copied once more if anything is read after it. An engine's
+/// call is made with pointers into buffers that the closure owns, so each of them is safe.
 macro_rules! call {
     ($call:expr) => {
+        call!(=> $call)
+    };
+    ($($hidden:ident),* => $call:expr) => {
         Box::new(move || {
+            $(let $hidden = black_box($hidden);)*
             black_box(&$call);
         })
     };
@@ -158,17 +164,17 @@ fn reading_cases(settled: usize, ballots: Ballots, cases: &mut Vec<Case>) {
         let (a, b, c) = logs();
         case(
             name,
-            call!(unsafe { engine::joukerpan_settled_frame(*black_box(&proved), a.as_ptr(), LOG, black_box(line)) }),
-            call!(plain::settled_frame(black_box(&record), &b, black_box(line))),
-            call!(unsafe { by_value::settled_frame(*black_box(&record), c.as_ptr(), LOG, black_box(line)) }),
+            call!(line => unsafe { engine::joukerpan_settled_frame(*black_box(&proved), a.as_ptr(), LOG, line) }),
+            call!(line => plain::settled_frame(black_box(&record), &b, line)),
+            call!(line => unsafe { by_value::settled_frame(*black_box(&record), c.as_ptr(), LOG, line) }),
         );
     }
-    let (a, b, c) = logs();
+    let ((a, b, c), line) = (logs(), 63);
     case(
         "tentative frame, no entry",
-        call!(unsafe { engine::joukerpan_tentative_frame(*black_box(&proved), a.as_ptr(), LOG, black_box(63)) }),
-        call!(plain::tentative_frame(black_box(&record), &b, black_box(63))),
-        call!(unsafe { by_value::tentative_frame(*black_box(&record), c.as_ptr(), LOG, black_box(63)) }),
+        call!(line => unsafe { engine::joukerpan_tentative_frame(*black_box(&proved), a.as_ptr(), LOG, line) }),
+        call!(line => plain::tentative_frame(black_box(&record), &b, line)),
+        call!(line => unsafe { by_value::tentative_frame(*black_box(&record), c.as_ptr(), LOG, line) }),
     );
 }
 
@@ -180,12 +186,12 @@ fn writing_cases(settled: usize, ballots: Ballots, cases: &mut Vec<Case>) {
     let mut case = |call: &str, engine: Call, second: Call, by_value: Call| {
         cases.push(Case { call: call.into(), settled, ballots: ballots.name(), engine, second, by_value });
     };
-    let (a, b, c) = logs();
+    let ((a, b, c), (line, code)) = (logs(), (5, 120));
     case(
         "issue",
-        call!(unsafe { engine::joukerpan_issue(*black_box(&proved), a.as_ptr(), LOG, 5, black_box(120)) }),
-        call!(plain::issue(*black_box(&record), &b, 5, black_box(120))),
-        call!(unsafe { by_value::issue(*black_box(&record), c.as_ptr(), LOG, 5, black_box(120)) }),
+        call!(line, code => unsafe { engine::joukerpan_issue(*black_box(&proved), a.as_ptr(), LOG, line, code) }),
+        call!(line, code => plain::issue(*black_box(&record), &b, line, code)),
+        call!(line, code => unsafe { by_value::issue(*black_box(&record), c.as_ptr(), LOG, line, code) }),
     );
     let (a, b, c) = logs();
     let (mut d, mut e, mut f) = (vec![0; LONGEST], vec![0; LONGEST], vec![0; LONGEST]);
@@ -231,13 +237,14 @@ fn take_case(name: &str, receiver: Sample, sender: Sample, ballots: &'static str
 /// Founding; nothing in it grows, and no record is handed over.
 fn found_case(cases: &mut Vec<Case>) {
     let (a, b, c) = (vec![0; LOG], vec![0; LOG], vec![0; LOG]);
+    let (n, own, of) = (OFFICES, 0, WEIGHTS);
     cases.push(Case {
         call: "found".into(),
         settled: 0,
         ballots: "empty",
-        engine: call!(unsafe { engine::joukerpan_found(8, 0, Weights { of: black_box(WEIGHTS) }, a.as_ptr(), LOG) }),
-        second: call!(plain::found(8, 0, black_box(WEIGHTS), &b)),
-        by_value: call!(plain::found(8, 0, black_box(WEIGHTS), &c)),
+        engine: call!(n, own, of => unsafe { engine::joukerpan_found(n, own, Weights { of }, a.as_ptr(), LOG) }),
+        second: call!(n, own, of => plain::found(n, own, of, &b)),
+        by_value: call!(n, own, of => unsafe { by_value::found(n, own, Weights { of }, c.as_ptr(), LOG) }),
     });
 }
 

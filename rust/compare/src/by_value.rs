@@ -3,25 +3,31 @@
 
 use std::slice::{from_raw_parts, from_raw_parts_mut};
 
+use joukerpan_sys::Weights;
 use second::calls as plain;
 use second::record::Record;
 
-/// An answer that holds a record, laid out as the engine's.
+/// An answer that holds a record; the record comes first, as in the engine's.
 #[repr(C)]
 pub struct Answer {
+    record: Record,
     number: u32,
     count: usize,
-    record: Record,
 }
 
 impl Answer {
     fn of((number, record): (u32, Record)) -> Answer {
-        Answer { number, count: 0, record }
+        Answer { record, number, count: 0 }
     }
 }
 
 // SAFETY of every function below: its pointers name as many elements as the number after them says, for as long as
 // the call lasts, and those that are written are lent to that call alone.
+
+#[inline(never)]
+pub unsafe extern "C" fn found(n: usize, own: usize, weights: Weights, log: *const u32, words: usize) -> Answer {
+    Answer::of(plain::found(n, own, weights.of, from_raw_parts(log, words)))
+}
 
 #[inline(never)]
 pub unsafe extern "C" fn sound(record: Record, log: *const u32, words: usize) -> bool {
@@ -56,7 +62,7 @@ pub unsafe extern "C" fn send(record: Record, log: *const u32, words: usize, out
 #[inline(never)]
 pub unsafe extern "C" fn elect(record: Record, log: *mut u32, words: usize) -> Answer {
     let (number, count, record) = second::elect::elect(record, from_raw_parts_mut(log, words));
-    Answer { number, count, record }
+    Answer { record, number, count }
 }
 
 #[inline(never)]
