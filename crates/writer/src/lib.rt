@@ -4,7 +4,7 @@ use spelling::put16;
 use spelling::put32;
 ghost use mathlib.Core.Path.{_≡_};
 ghost use Prim.Native.Nat.{_+_, _*_, _<_, _≤_};
-ghost use lib.ListN.{length, take};
+ghost use lib.ListN.{length, take, drop};
 ghost use lib.Seq.{sets};
 ghost use Rattle.ballots.specs.Ballots.{tailOf};
 ghost use Rattle.spelling.specs.Numbers.{bytes16, bytes32, run};
@@ -34,13 +34,29 @@ fn put_log(out: &mut [u8], at: usize, log: &[u32], k: usize) -> usize
     p
 }
 
-// The first k values, four bytes each, from a position on; the position after them.
+// Four of the values, from place i on, at a position. Their sixteen stores become one.
+fn put_four(out: &mut [u8], at: usize, values: &[u32], i: usize)
+    requires { ⌜ (i + 4 ≤ length (now values)) × (at + 16 ≤ length (now out)) ⌝ }
+    ensures { λ _. ⌜ now (out .exit) ≡ sets (now (out .entry)) at (run bytes32 (take 4 (drop i (now (values .entry))))) ⌝ }
+{
+    put32(out, at, values[i]);
+    put32(out, at + 4, values[i + 1]);
+    put32(out, at + 8, values[i + 2]);
+    put32(out, at + 12, values[i + 3]);
+}
+
+// The first k values, four bytes each, from a position on; the position after them. They go by fours, and then what is left.
 fn put_values(out: &mut [u8], at: usize, values: &[u32], k: usize) -> usize
     requires { ⌜ (k ≤ length (now values)) × (at + 4 * k ≤ length (now out)) ⌝ }
     ensures { λ r. ⌜ (r ≡ at + 4 * k) × (now (out .exit) ≡ sets (now (out .entry)) at (run bytes32 (take k (now (values .entry))))) ⌝ }
 {
     let mut p = at;
-    for i in 0..k {
+    let fours = k / 4;
+    for i in 0..fours {
+        put_four(out, p, values, 4 * i);
+        p += 16;
+    }
+    for i in 4 * fours..k {
         put32(out, p, values[i]);
         p += 4;
     }
