@@ -1,5 +1,5 @@
 -- The bytes of a ballot, and of the ballots that are left to write. Assumes nothing.
-use Prim.Native.Nat.{ℕ, _+_, _*_, _≤_, _<_, zero-le}
+use Prim.Native.Nat.{ℕ, suc, _+_, _*_, _≤_, _<_, zero-le}
 use mathlib.Core.Bool.{true}
 use mathlib.Core.List.{List, [], _∷_, _++_, map}
 use mathlib.Core.Path.{_≡_, refl, ap, _∙_}
@@ -9,14 +9,15 @@ use lib.Dec.{eqb}
 use lib.ListN.{length, getD, take, drop, set, length-append, length-take, drop-of-length-le}
 use lib.Seq.{sets, length-take-le, drop-cons, getD-take}
 use borrow.Author.Tests.{leb-true}
-use Rattle.ballots.specs.Ballots.{ballotShape, tailOf}
+use Rattle.ballots.specs.Ballots.{ballotShape, emptyBallot, tailOf}
 use Rattle.ballots.specs.declared.Ballot.{Ballot}
 use Rattle.protocol.specs.Entry.{isEntry}
 use Rattle.protocol.specs.Tests.{allB}
 use Rattle.spelling.specs.Numbers.{be32, bytes32, run}
 use Rattle.spelling.specs.Reading.{valueHere}
 use Rattle.spelling.specs.Spelling.{ballotBytes, ballotsBytes}
-use Rattle.protocol.proofs.Tests.{all-at, both-0, both-1}
+use Rattle.ballots.proofs.Laws.{empty-is}
+use Rattle.protocol.proofs.Tests.{all-at, all-take, both-0, both-1}
 use Rattle.spelling.proofs.Ballots.{ballot-cons}
 use Rattle.spelling.proofs.Items.{valueItem}
 use Rattle.protocol.proofs.Stores.{Left, left-all, left-next, left-none}
@@ -64,6 +65,16 @@ unfolding restBytes ballotsBytes
 rest-step n bs o d h j =
     let t : length (take n bs) ≡ n = length-take-le n bs j in
     rw (drop-cons (take n bs) o d (omega arith), getD-take n bs o d, add-one o)
+
+-- ballots that are none have no bytes
+none-bytes : (o : ℕ) (bs : List Ballot) → allB emptyBallot bs ≡ true → ballotsBytes o (map tailOf bs) ≡ []
+unfolding ballotsBytes allB
+none-bytes o [] q = refl
+none-bytes o (b ∷ bs) q = rw (bytes-none o b (ap (λ (x : Ballot). x .len) (empty-is b (both-0 _ _ q)))) (none-bytes (suc o) bs (both-1 _ _ q))
+
+pub no-bytes : (n : ℕ) (bs : List Ballot) → allB emptyBallot bs ≡ true → ballotsBytes 0 (tailsOf n bs) ≡ []
+unfolding tailsOf
+no-bytes n bs q = none-bytes 0 (take n bs) (all-take emptyBallot n bs q)
 
 pub len-at : (bs : List Ballot) (o : ℕ) (d : Ballot) → allB ballotShape bs ≡ true → o < length bs → getD bs o d .len ≤ 32
 unfolding ballotShape

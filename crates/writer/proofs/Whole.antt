@@ -1,24 +1,26 @@
 -- The whole message, part by part.
 --     head-stores, head-length        the head
 --     message-length, counted         the length, and the size that the writer counts
+--     front-stores                    the head and the log records
 --     whole-written                   the stores, one after the other, write the message
+--     bare-message, bare-length, bare-written     the same without ballots
 --     refused, written                what writing answers and leaves, without room and with it
 --     answer-short, answer-fits       which of them it was, from the answer
 -- Assumes nothing.
 use Prim.Native.Nat.{ℕ, _+_, _*_, _<_, _≤_}
 use mathlib.Core.Bool.{Bool, false, true}
-use mathlib.Core.List.{List, _++_}
+use mathlib.Core.List.{List, [], _++_, append-assoc}
 use mathlib.Core.Path.{_≡_, refl, sym, ap, _∙_}
 use native.Mathlib.Nat.{zero-add}
-use native.Mathlib.Numerals.{add-one}
 use native.Mathlib.Omega.{arith}
 use lib.Dec.{ltb}
 use lib.ListN.{length, take, set, length-append, drop}
 use lib.Seq.{sets, sets-eq, length-take-le}
 use borrow.Author.Tests.{lt-ltb, le-ltb}
+use Rattle.ballots.specs.Ballots.{emptyBallot}
 use Rattle.ballots.specs.declared.Ballot.{Ballot}
 use Rattle.protocol.specs.Entry.{isEntry}
-use Rattle.protocol.specs.Tests.{pick}
+use Rattle.protocol.specs.Tests.{allB, pick}
 use Rattle.spelling.specs.Content.{isWeight}
 use Rattle.spelling.specs.Numbers.{be16, bytes16, run}
 use Rattle.spelling.specs.Reading.{recordAt, recordHere, weightHere}
@@ -27,7 +29,7 @@ use Rattle.spelling.proofs.Items.{recordItem, weightItem}
 use Rattle.protocol.proofs.Stores.{sets-append}
 use Rattle.spelling.proofs.Runs.{run-length}
 use Rattle.writer.specs.Written.{contentOf, messageOf, tailsOf, writtenBytes, writtenLength}
-use Rattle.writer.proofs.Ballots.{ToCount, rest-none}
+use Rattle.writer.proofs.Ballots.{ToCount, no-bytes, rest-none}
 
 -- the head
 pub head-stores : (sender n : ℕ) (ws : List ℕ) (settled : ℕ) (l : List ℕ) → length ws ≡ n
@@ -40,6 +42,13 @@ head-stores sender n ws settled l e =
 pub head-length : (sender n : ℕ) (ws : List ℕ) (settled : ℕ) → length ws ≡ n → length (headBytes sender n ws settled) ≡ 6 + 2 * n
 unfolding headBytes bytes16
 head-length sender n ws settled e = omega (arith, run-length 2 bytes16 be16 weightHere isWeight weightItem ws, length-append (run bytes16 ws) (bytes16 settled))
+
+-- the head, and the log records behind it
+pub front-stores : (sender n : ℕ) (ws : List ℕ) (settled : ℕ) (logs l : List ℕ) {l1 l2 : List ℕ} {h : ℕ} → length ws ≡ n → h ≡ 6 + 2 * n
+    → l1 ≡ sets l 0 (headBytes sender n ws settled) → l2 ≡ sets l1 h logs → l2 ≡ sets l 0 (headBytes sender n ws settled ++ logs)
+front-stores sender n ws settled logs l e eh e1 e2 =
+    let q : 0 + length (headBytes sender n ws settled) ≡ 6 + 2 * n = omega (arith, head-length sender n ws settled e) in
+    rw (e2, e1, eh) (sym (sets-append l 0 (headBytes sender n ws settled) logs ∙ ap (λ (x : ℕ). sets (sets l 0 (headBytes sender n ws settled)) x logs) q))
 
 module _ (sender n : ℕ) (ws log : List ℕ) (settled : ℕ) (of : List Ballot) (hn : n ≤ length ws) (hk : settled ≤ length log) where
   all : List ℕ
@@ -77,34 +86,52 @@ module _ (sender n : ℕ) (ws log : List ℕ) (settled : ℕ) (of : List Ballot)
   pub counted : (size o : ℕ) → ToCount (8 + 2 * n + 6 * settled) n of size o → n ≤ o → size ≡ length (messageOf sender n ws log settled of)
   counted size o inv h = omega (arith, message-length, ap length (rest-none n of o h))
 
-  -- the stores, one after the other: the head, the log records, the ballots, the end
+  -- the stores, one after the other: the front, the ballots, the end
   module _
       (l l1 l2 l3 : List ℕ)
-      (h b e : ℕ)
-      (eh : h ≡ 6 + 2 * n)
-      (e1 : l1 ≡ sets l 0 (headBytes sender n (take n ws) settled))
-      (eb : b ≡ h + 6 * settled)
-      (e2 : l2 ≡ sets l1 h (run logRecord (take settled log)))
+      (b e : ℕ)
+      (eb : b ≡ 6 + 2 * n + 6 * settled)
+      (e1 : l1 ≡ sets l 0 (headBytes sender n (take n ws) settled ++ run logRecord (take settled log)))
       (ee : e ≡ b + length (ballotsBytes 0 (tailsOf n of)))
-      (e3 : l3 ≡ sets l2 b (ballotsBytes 0 (tailsOf n of)))
+      (e2 : l2 ≡ sets l1 b (ballotsBytes 0 (tailsOf n of)))
+      (e3 : l3 ≡ sets l2 e endBytes)
     where
-      whole-stores : set (set l3 e 0x45) (e + 1) 0x4E ≡ sets l 0 (messageOf sender n ws log settled of)
-      unfolding all heads logs ballots endBytes
+      whole-stores : l3 ≡ sets l 0 (messageOf sender n ws log settled of)
+      unfolding all heads logs ballots
       whole-stores =
-          let q : sets l 0 all ≡ sets (sets (sets (sets l 0 heads) h logs) b ballots) e endBytes =
-          ap (λ (x : List ℕ). sets l 0 x) spelled
-          ∙ sets-append l 0 heads (logs ++ (ballots ++ endBytes))
-          ∙ ap (λ (x : ℕ). sets (sets l 0 heads) x (logs ++ (ballots ++ endBytes))) (omega (arith, heads-length))
-          ∙ sets-append (sets l 0 heads) h logs (ballots ++ endBytes)
-          ∙ ap (λ (x : ℕ). sets (sets (sets l 0 heads) h logs) x (ballots ++ endBytes)) (omega (arith, logs-length))
-          ∙ sets-append (sets (sets l 0 heads) h logs) b ballots endBytes
-          ∙ ap (λ (x : ℕ). sets (sets (sets (sets l 0 heads) h logs) b ballots) x endBytes) (sym ee) in
-          rw (q, e3, e2, e1, add-one e)
+          let q : sets l 0 all ≡ sets (sets (sets l 0 (heads ++ logs)) b ballots) e endBytes =
+          ap (λ (x : List ℕ). sets l 0 x) (spelled ∙ sym (append-assoc heads logs (ballots ++ endBytes)))
+          ∙ sets-append l 0 (heads ++ logs) (ballots ++ endBytes)
+          ∙ ap (λ (x : ℕ). sets (sets l 0 (heads ++ logs)) x (ballots ++ endBytes)) (omega (arith, length-append heads logs, heads-length, logs-length))
+          ∙ sets-append (sets l 0 (heads ++ logs)) b ballots endBytes
+          ∙ ap (λ (x : ℕ). sets (sets (sets l 0 (heads ++ logs)) b ballots) x endBytes) (sym ee) in
+          rw (q, e3, e2, e1)
 
       -- stores from the start of a buffer that has room leave its later bytes
       pub whole-written : length (messageOf sender n ws log settled of) ≤ length l
-          → set (set l3 e 0x45) (e + 1) 0x4E ≡ messageOf sender n ws log settled of ++ drop (length (messageOf sender n ws log settled of)) l
+          → l3 ≡ messageOf sender n ws log settled of ++ drop (length (messageOf sender n ws log settled of)) l
       whole-written room = whole-stores ∙ sets-eq (messageOf sender n ws log settled of) l 0 (rw zero-add room) ∙ rw zero-add
+
+-- ---- the message of a record without ballots
+
+pub bare-message : (sender n : ℕ) (ws log : List ℕ) (settled : ℕ) (bs : List Ballot) → allB emptyBallot bs ≡ true
+    → messageOf sender n ws log settled bs ≡ messageOf sender n ws log settled []
+unfolding spelling contentOf allB
+bare-message sender n ws log settled bs q = rw (no-bytes n bs q, no-bytes n [] refl)
+
+module _ (sender n : ℕ) (ws log : List ℕ) (settled : ℕ) (hn : n ≤ length ws) (hk : settled ≤ length log) where
+  none : ballotsBytes 0 (tailsOf n []) ≡ []
+  unfolding allB
+  none = no-bytes n [] refl
+
+  pub bare-length : 8 + 2 * n + 6 * settled ≡ length (messageOf sender n ws log settled [])
+  bare-length = omega (arith, message-length sender n ws log settled [] hn hk, ap length none)
+
+  pub bare-written : (l l1 l2 : List ℕ) (b : ℕ) → b ≡ 6 + 2 * n + 6 * settled
+      → l1 ≡ sets l 0 (headBytes sender n (take n ws) settled ++ run logRecord (take settled log)) → l2 ≡ sets l1 b endBytes → 8 + 2 * n + 6 * settled ≤ length l
+      → l2 ≡ messageOf sender n ws log settled [] ++ drop (length (messageOf sender n ws log settled [])) l
+  bare-written l l1 l2 b eb e1 e2 room =
+      whole-written sender n ws log settled [] hn hk l l1 l1 l2 b b eb e1 (omega (arith, ap length none)) (rw none) e2 (omega (arith, bare-length))
 
 -- ---- what writing answers and leaves
 

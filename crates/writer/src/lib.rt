@@ -1,14 +1,15 @@
-// Writing the message of a record to a buffer. `write` is public only for the crate above, which proves what it requires.
+// Writing the message of a record to a buffer. `write` and `write_bare` are public only for the crate above, which proves what they require.
 use ballots::Ballot;
 use spelling::put16;
 use spelling::put32;
+ghost use mathlib.Core.List.{[], _++_};
 ghost use mathlib.Core.Path.{_≡_};
 ghost use Prim.Native.Nat.{_+_, _*_, _<_, _≤_};
 ghost use lib.ListN.{length, take, drop};
 ghost use lib.Seq.{sets};
 ghost use Rattle.ballots.specs.Ballots.{tailOf};
 ghost use Rattle.spelling.specs.Numbers.{bytes16, bytes32, run};
-ghost use Rattle.spelling.specs.Spelling.{headBytes, logRecord, ballotBytes};
+ghost use Rattle.spelling.specs.Spelling.{headBytes, logRecord, ballotBytes, endBytes};
 ghost use Rattle.writer.specs.Written.{messageOf, writtenLength, writtenBytes, Writable};
 
 // One log record at a position. The value goes first: its four stores then become one.
@@ -107,6 +108,31 @@ fn put_head(out: &mut [u8], sender: usize, n: usize, weights: [u16; 8], settled:
     p + 2
 }
 
+// The head and the log records, from the start of the buffer on; the position after them.
+fn put_front(
+    out: &mut [u8],
+    sender: usize,
+    n: usize,
+    weights: [u16; 8],
+    log: &[u32],
+    settled: usize,
+) -> usize
+    requires { ⌜ (n ≤ 8) × ((sender < 256) × ((settled ≤ 1024) × ((settled ≤ length (now log)) × (6 + 2 * n + 6 * settled ≤ length (now out))))) ⌝ }
+    ensures { λ r. ⌜ (r ≡ 6 + 2 * n + 6 * settled) × (now (out .exit) ≡ sets (now (out .entry)) 0 (headBytes sender n (take n weights) settled ++ run logRecord (take settled (now (log .entry))))) ⌝ }
+{
+    let h = put_head(out, sender, n, weights, settled);
+    put_log(out, h, log, settled)
+}
+
+// The end, at a position.
+fn put_end(out: &mut [u8], at: usize)
+    requires { ⌜ at + 2 ≤ length (now out) ⌝ }
+    ensures { λ _. ⌜ now (out .exit) ≡ sets (now (out .entry)) at endBytes ⌝ }
+{
+    out[at] = 0x45;
+    out[at + 1] = 0x4E;
+}
+
 // How many bytes the ballot of an office takes.
 fn ballot_size(o: usize, b: Ballot) -> usize
     requires { ⌜ b .len ≤ 32 ⌝ }
@@ -142,13 +168,32 @@ pub fn write(
     if out.len() < size {
         return 0;
     }
-    let h = put_head(out, sender, n, weights, settled);
-    let mut p = put_log(out, h, log, settled);
+    let mut p = put_front(out, sender, n, weights, log, settled);
     for o in 0..n {
         let b = ballots[o];
         p = put_ballot(out, p, o, b);
     }
-    out[p] = 0x45;
-    out[p + 1] = 0x4E;
+    put_end(out, p);
     size
+}
+
+// Writes the message of a record without ballots, as `write` does; none is looked at.
+pub fn write_bare(
+    sender: usize,
+    n: usize,
+    weights: [u16; 8],
+    log: &[u32],
+    settled: usize,
+    out: &mut [u8],
+) -> usize
+    requires { ⌜ Writable sender n (now log) settled [] ⌝ }
+    ensures { λ r. ⌜ (r ≡ writtenLength (messageOf sender n weights (now (log .entry)) settled []) (now (out .entry))) × (now (out .exit) ≡ writtenBytes (messageOf sender n weights (now (log .entry)) settled []) (now (out .entry))) ⌝ }
+{
+    let length: usize = 8 + 2 * n + 6 * settled;
+    if out.len() < length {
+        return 0;
+    }
+    let p = put_front(out, sender, n, weights, log, settled);
+    put_end(out, p);
+    length
 }

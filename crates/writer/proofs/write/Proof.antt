@@ -1,10 +1,10 @@
--- The first walk counts what the ballots take; with room the head, the log records, the ballots and the end are stored one after the other,
+-- The first walk counts what the ballots take; with room the head and the log records, the ballots and the end are stored one after the other,
 -- each where the one before ends.
 use Prim.Native.Nat.{ℕ, _+_, _-_, _*_, _≤_}
 use mathlib.Core.List.{List, []}
 use mathlib.Core.Path.{_≡_, _∙_}
 use native.Mathlib.Omega.{arith}
-use lib.ListN.{length, length-set}
+use lib.ListN.{length}
 use borrow.Author.Needs.{needs}
 use Rattle.ballots.specs.declared.Ballot.{Ballot}
 use Rattle.spelling.specs.Spelling.{ballotsBytes}
@@ -21,10 +21,10 @@ abbrev μ-loop : tie.MeasureT-loop
 μ-loop sender n weights log settled out ballots size₀ o₀ size o = n - o
 
 abbrev Inv-loop2 : tie.InvT-loop2
-Inv-loop2 sender n log settled out₀ ballots size h p₀ o₀ out p o = ToPut out₀ p₀ n ballots out p o
+Inv-loop2 sender n log settled out₀ ballots size p₀ o₀ out p o = ToPut out₀ p₀ n ballots out p o
 
 abbrev μ-loop2 : tie.MeasureT-loop2
-μ-loop2 sender n log settled out₀ ballots size h p₀ o₀ out p o = n - o
+μ-loop2 sender n log settled out₀ ballots size p₀ o₀ out p o = n - o
 
 abbrev none : Ballot
 none = record { len = 0; cells = [] }
@@ -59,35 +59,29 @@ returns : tie.Need-returns Inv-loop μ-loop Inv-loop2 μ-loop2
 returns c = refused (message (c .before .before .before .before .before)) _ _ (size-counted (c .before)) (c .if1 .taken)
 
 -- past the test the buffer has room for the message: the head, the log records and the end, and the ballots
-fits : (c : tie.After-put-head-arg Inv-loop μ-loop Inv-loop2 μ-loop2) → let a = c .before .before .before .before .before .before .args in 8 + 2 * a .n + 6 * a .settled + length (ballotsBytes 0 (tailsOf (a .n) (a .t6))) ≤ length (a .out .now)
+fits : (c : tie.After-put-front-arg Inv-loop μ-loop Inv-loop2 μ-loop2) → let a = c .before .before .before .before .before .before .args in 8 + 2 * a .n + 6 * a .settled + length (ballotsBytes 0 (tailsOf (a .n) (a .t6))) ≤ length (a .out .now)
 fits c =
     let s = c .before .before .before .before .before .before in
     omega (arith, size-counted (c .before .before), c .before .if1 .left, message-length (s .args .sender) (s .args .n) (s .args .weights) (s .args .log .now) (s .args .settled) (s .args .t6) (weights-long s) (s .pre .log-long))
 
-put-head-requires : tie.Need-put-head-requires Inv-loop μ-loop Inv-loop2 μ-loop2
-put-head-requires c κs = omega (arith, fits c, c .before .before .before .before .before .before .pre)
-
-put-log-requires : tie.Need-put-log-requires Inv-loop μ-loop Inv-loop2 μ-loop2
-put-log-requires c κs =
-    let head = c .before .before .before .put-head in
-    (c .before .before .before .before .before .before .before .before .before .before .pre .log-long, omega (arith, fits (c .before .before .before .before), head .kept .0, head .ensures .0))
+put-front-requires : tie.Need-put-front-requires Inv-loop μ-loop Inv-loop2 μ-loop2
+put-front-requires c κs = let s = c .before .before .before .before .before .before in omega (arith, fits c, s .pre)
 
 -- behind the log records there is room for the ballots and the end
-room : (c : tie.After-slice-known3 Inv-loop μ-loop Inv-loop2 μ-loop2) → let a = c .before .before .before .before .before .before .before .before .before .before .before .before .before .args in c .before .before .put-log .result + (length (ballotsBytes 0 (tailsOf (a .n) (a .t6))) + 2) ≤ length (c .before .before .put-log .last .0)
+room : (c : tie.After-slice-known2 Inv-loop μ-loop Inv-loop2 μ-loop2) → let a = c .before .before .before .before .before .before .before .before .before .args in c .before .before .put-front .result + (length (ballotsBytes 0 (tailsOf (a .n) (a .t6))) + 2) ≤ length (c .before .before .put-front .last .0)
 room c =
-    let head = c .before .before .before .before .before .before .put-head in
-    let log = c .before .before .put-log in
-    omega (arith, fits (c .before .before .before .before .before .before .before), head .kept .0, head .ensures .0, log .kept .0, log .ensures .0)
+    let front = c .before .before .put-front in
+    omega (arith, fits (c .before .before .before), front .kept .0, front .ensures .0)
 
 put-ballot-requires : tie.Need-put-ballot-requires Inv-loop μ-loop Inv-loop2 μ-loop2
 put-ballot-requires c κs =
-    let s = c .before .before .before .before .before .before .before .before .before .before .before .before .before .before .before .before .before in
+    let s = c .before .before .before .before .before .before .before .before .before .before .before .before .before in
     (len-at (s .args .t6) _ _ (s .pre .shapes) (omega (arith, ballots-long s)), (omega arith, put-room (c .before .before .before .loop2 .inv) none (c .before .before .loop2-test .taken) (ballots-long s) (omega (arith, room (c .before .before .before .before)))))
 
 loop2-again : tie.Need-loop2-again Inv-loop μ-loop Inv-loop2 μ-loop2
 loop2-again c =
     let put = c .before .before .put-ballot in
-    put-again (c .before .before .before .before .before .before .loop2 .inv) none (c .before .before .before .before .before .loop2-test .taken) (ballots-long (c .before .before .before .before .before .before .before .before .before .before .before .before .before .before .before .before .before .before .before .before)) (put .ensures .0) (put .ensures .1)
+    put-again (c .before .before .before .before .before .before .loop2 .inv) none (c .before .before .before .before .before .loop2-test .taken) (ballots-long (c .before .before .before .before .before .before .before .before .before .before .before .before .before .before .before .before)) (put .ensures .0) (put .ensures .1)
 
 -- and behind the ballots for the end
 end-room : (c : tie.After-loop2 Inv-loop μ-loop Inv-loop2 μ-loop2) → c .before .loop2 .p + 2 ≤ length (c .before .loop2 .out)
@@ -96,21 +90,20 @@ end-room c =
     omega (arith, room (c .before .before), inv .left .long, put-ends inv (c .loop2-test .left) .0)
 
 same-length : tie.Need-same-length Inv-loop μ-loop Inv-loop2 μ-loop2
-same-length c = simp length-set (c .before .loop2 .inv .left .long ∙ (c .before .before .before .before .put-log .kept .0 ∙ c .before .before .before .before .before .before .before .before .put-head .kept .0))
+same-length c = c .before .before .put-end .kept .0 ∙ (c .before .before .before .before .before .loop2 .inv .left .long ∙ c .before .before .before .before .before .before .before .before .put-front .kept .0)
 
 returns-2 : tie.Need-returns-2 Inv-loop μ-loop Inv-loop2 μ-loop2
 returns-2 c =
     let s = c .before .before .before .before .before .before .before .before .before .before .before .before .before .before .before in
     let a = s .args in
-    let head = c .before .before .before .before .before .before .before .before .put-head in
-    let log = c .before .before .before .before .put-log in
-    let ballots = put-ends (c .before .loop2 .inv) (c .loop2-test .left) in
+    let front = c .before .before .before .before .before .before .before .before .put-front in
+    let ballots = put-ends (c .before .before .before .before .before .loop2 .inv) (c .before .before .before .before .loop2-test .left) in
     let size = size-counted (c .before .before .before .before .before .before .before .before .before .before .before) in
     let w = written (message s) (a .out .now) _ size (omega arith) in (
       w .0,
       whole-written (a .sender) (a .n) (a .weights) (a .log .now) (a .settled) (a .t6) (weights-long s) (s .pre .log-long)
-          (a .out .now) (head .last .0) (log .last .0) _ (head .result) (log .result) _
-          (head .ensures .0) (head .ensures .1) (log .ensures .0) (log .ensures .1) (ballots .0) (ballots .1) (omega arith) ∙ w .1,
+          (a .out .now) (front .last .0) _ _ (front .result) _
+          (front .ensures .0) (front .ensures .1) (ballots .0) (ballots .1) (c .before .before .put-end .ensures) (omega arith) ∙ w .1,
     )
 
 pub write-spec : {M : Type 1} → statement M
@@ -118,6 +111,5 @@ write-spec =
     tie.close
     (tie.spec Inv-loop μ-loop Inv-loop2 μ-loop2 (λ c. search needs) (λ c. search needs) (λ c. search needs) (λ c. search needs)
     (λ c. (omega arith, (rw rest-all (omega arith), omega arith))) (λ c. omega arith) (λ c. omega arith) ballot-size-requires (λ c. omega arith)
-    (λ c. omega arith) (λ c. omega arith) loop-again returns put-head-requires put-log-requires (λ c. put-begins _ _ _ _) (λ c. omega arith)
-    (λ c. omega arith) put-ballot-requires (λ c. omega arith) (λ c. omega arith) loop2-again (λ c. omega (arith, end-room c))
-    (λ c. omega (arith, end-room c)) (λ c. simp length-set (omega (arith, end-room c))) same-length returns-2)
+    (λ c. omega arith) (λ c. omega arith) loop-again returns put-front-requires (λ c. put-begins _ _ _ _) (λ c. omega arith)
+    (λ c. omega arith) put-ballot-requires (λ c. omega arith) (λ c. omega arith) loop2-again (λ c κs. end-room (c .before)) same-length returns-2)
