@@ -177,7 +177,7 @@ pub fn write(
     size
 }
 
-// Writes the message of a record without ballots, as `write` does; none is looked at.
+// Writes the message of a record without ballots, as `write` does one with them.
 pub fn write_bare(
     sender: usize,
     n: usize,
