@@ -15,7 +15,8 @@ use lib.Dec.{eqb, ltb}
 use lib.ListN.{length, take, drop}
 use lib.Seq.{take-append-seam}
 use borrow.Author.Tests.{eqb-false, eqb-true}
-use Rattle.ballots.specs.Ballots.{emptyBallot}
+use Rattle.ballots.specs.Ballots.{ballotShape, emptyBallot}
+use Rattle.ballots.specs.declared.Ballot.{Ballot}
 use Rattle.protocol.specs.Tests.{allB, pick}
 use Rattle.protocol.proofs.Limits.{fine-of}
 use Rattle.spelling.specs.Content.{asMessage, validContent}
@@ -49,18 +50,16 @@ unfolding spelling headBytes
 message-some r words = omega arith
 
 module _ (r : Record) (words : List ℕ) (S : Sound r words) where
+  -- what the writer requires, with these ballots, and without any
+  writable-with : (bs : List Ballot) → allB ballotShape bs ≡ true → Writable (r .own) (r .n) words (r .settled) bs
+  writable-with bs e = record { few-offices = S .head .most; sender-below = S .head .member; settled-few = S .most; log-long = omega arith; shapes = e }
+
   pub writable : Writable (r .own) (r .n) words (r .settled) (r .ballots)
-  writable = record {
-    few-offices = S .head .most;
-    sender-below = S .head .member;
-    settled-few = S .most;
-    log-long = omega arith;
-    shapes = contents.shapes-of (r .n) (r .settled) (r .ballots) (S .fine);
-  }
+  writable = writable-with (r .ballots) (contents.shapes-of (r .n) (r .settled) (r .ballots) (S .fine))
 
   pub bare-writable : Writable (r .own) (r .n) words (r .settled) []
   unfolding allB
-  bare-writable = record { few-offices = S .head .most; sender-below = S .head .member; settled-few = S .most; log-long = omega arith; shapes = refl }
+  bare-writable = writable-with [] refl
 
   pub content-valid : validContent (contentOf r words) ≡ true
   content-valid =
