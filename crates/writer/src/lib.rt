@@ -35,7 +35,7 @@ fn put_log(out: &mut [u8], at: usize, log: &[u32], k: usize) -> usize
     p
 }
 
-// Four of the values, from place i on, at a position. Their sixteen stores become one.
+// Four of the values, from place i on, at a position: written out, so that the compiler may store them together.
 fn put_four(out: &mut [u8], at: usize, values: &[u32], i: usize)
     requires { ⌜ (i + 4 ≤ length (now values)) × (at + 16 ≤ length (now out)) ⌝ }
     ensures { λ _. ⌜ now (out .exit) ≡ sets (now (out .entry)) at (run bytes32 (take 4 (drop i (now (values .entry))))) ⌝ }
