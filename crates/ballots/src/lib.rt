@@ -1,10 +1,12 @@
 // Ballots by value: the test of one, and the tests of the eight weights.
 ghost use mathlib.Core.Path.{_≡_};
+ghost use lib.Bits.{bitAnd};
 ghost use lib.Dec.{eqb};
 ghost use lib.ListN.{drop};
-ghost use Rattle.protocol.specs.Entry.{isEntry};
+ghost use Prim.Native.Nat.{_≤_};
 ghost use Rattle.protocol.specs.Tests.{allB};
-ghost use Rattle.ballots.specs.Ballots.{ballotFine, emptyBallot, totalWeight, noBallot, pushed, same};
+ghost use Rattle.ballots.specs.Ballots.{emptyBallot, totalWeight, noBallot, pushed, same};
+ghost use Rattle.ballots.specs.Fours.{entryCells, maskWords, ofFour, unusedZero};
 
 // A tail of 0 to 32 entries in the first cells. Unused cells are zero; length 0 means none.
 #[repr(C)]
@@ -26,28 +28,75 @@ fn zero_cells(cells: [u32; 32]) -> bool
     good
 }
 
-// Whether all the cells are entries for n offices.
-fn entry_cells(cells: [u32; 32], n: usize) -> bool
-    ensures { λ r. ⌜ r ≡ allB (isEntry n) cells ⌝ }
+// The two walks over four ballots are public only for `frame`, which tests eight. The compiler takes a walk over four into its caller,
+// where the ballots then need no copy; a walk over one it would call, with a copy for each.
+
+// Whether all the cells of four ballots are entries for n offices.
+pub fn four_entries(a: Ballot, b: Ballot, c: Ballot, d: Ballot, n: usize) -> bool
+    ensures { λ r. ⌜ r ≡ ofFour (entryCells n) a b c d ⌝ }
 {
-    let mut bits: u32 = 0;
+    let w = a.cells;
+    let x = b.cells;
+    let y = c.cells;
+    let z = d.cells;
+    let mut p: u32 = 0;
+    let mut q: u32 = 0;
+    let mut r: u32 = 0;
+    let mut s: u32 = 0;
     for i in 0..32 {
-        bits = bits | entries::raised(cells[i], n);
+        p = p | entries::raised(w[i], n);
+        q = q | entries::raised(x[i], n);
+        r = r | entries::raised(y[i], n);
+        s = s | entries::raised(z[i], n);
     }
-    entries::no_carry(bits)
+    entries::no_carry(p) & entries::no_carry(q) & entries::no_carry(r) & entries::no_carry(s)
 }
 
-// Whether the cells from a place on are zero.
-fn zero_cells_from(cells: [u32; 32], len: usize) -> bool
-    ensures { λ r. ⌜ r ≡ allB (eqb 0) (drop len cells) ⌝ }
+// 32 words without bits and 32 with all: from place 32 - len on they are the masks of the unused cells of a ballot.
+pub fn masks() -> [u32; 64]
+    ensures { λ r. ⌜ r ≡ maskWords ⌝ }
 {
-    let mut rest: u32 = 0;
+    let mut words: [u32; 64] = [4294967295; 64];
     for i in 0..32 {
-        if i >= len {
-            rest = rest | cells[i];
-        }
+        words[i] = 0;
     }
-    rest == 0
+    words
+}
+
+// A word under a mask: nothing of it under 0, all of it under a mask of all bits.
+fn masked(word: u32, mask: u32) -> u32
+    ensures { λ r. ⌜ (r ≡ bitAnd word mask) × (mask ≡ 4294967295 → r ≡ word) ⌝ }
+{
+    word & mask
+}
+
+// Whether the unused cells of four ballots are zero. Full ones have none.
+pub fn four_unused(a: Ballot, b: Ballot, c: Ballot, d: Ballot, masks: &[u32]) -> bool
+    requires { ⌜ (now masks ≡ maskWords) × ((a .len ≤ 32) × ((b .len ≤ 32) × ((c .len ≤ 32) × (d .len ≤ 32)))) ⌝ }
+    ensures { λ r. ⌜ r ≡ ofFour unusedZero a b c d ⌝ }
+{
+    let w = a.cells;
+    let x = b.cells;
+    let y = c.cells;
+    let z = d.cells;
+    let j = Ballot::CELLS - a.len;
+    let k = Ballot::CELLS - b.len;
+    let l = Ballot::CELLS - c.len;
+    let m = Ballot::CELLS - d.len;
+    if (j == 0) & (k == 0) & (l == 0) & (m == 0) {
+        return true;
+    }
+    let mut p: u32 = 0;
+    let mut q: u32 = 0;
+    let mut r: u32 = 0;
+    let mut s: u32 = 0;
+    for i in 0..32 {
+        p = p | masked(w[i], masks[j + i]);
+        q = q | masked(x[i], masks[k + i]);
+        r = r | masked(y[i], masks[l + i]);
+        s = s | masked(z[i], masks[m + i]);
+    }
+    (p == 0) & (q == 0) & (r == 0) & (s == 0)
 }
 
 impl Ballot {
@@ -55,31 +104,6 @@ impl Ballot {
 
     // The longest path of a ballot: a settled length with a tail length.
     pub const PATH: usize = 1024;
-
-    // Whether the ballot may stand in a sound record of n offices with this settled length. Where there is an entry, 0 is one too: the unused
-    // cells pass that test with the used ones.
-    pub fn fine(self, n: usize, settled: usize) -> bool
-        ensures { λ r. ⌜ r ≡ ballotFine n settled self ⌝ }
-    {
-        let len = self.len;
-        let cells = self.cells;
-        if len > Ballot::CELLS {
-            return false;
-        }
-        if settled > Ballot::PATH - len {
-            return false;
-        }
-        if len == 0 {
-            return zero_cells(cells);
-        }
-        if !entry_cells(cells, n) {
-            return false;
-        }
-        if len == Ballot::CELLS {
-            return true;
-        }
-        zero_cells_from(cells, len)
-    }
 
     // Whether the ballot is none: no entries, and every cell zero.
     pub fn is_none(self) -> bool

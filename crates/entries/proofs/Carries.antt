@@ -1,4 +1,6 @@
 -- The raised numbers of words: no carry says that each word is an entry, and words may be joined by `|` before the bits are looked at.
+--     alike               two tests that hold in the same cases
+--     both-comm, both-assoc, both-swap     conjunctions in any order
 --     at-most-256         the offices that a word is raised for
 --     no-carry-raised     one word: no carry exactly where it is an entry
 --     no-carry-or         joined numbers: no carry exactly where neither has one
@@ -23,25 +25,25 @@ use Rattle.entries.proofs.Walk.{AllWith, with-next, and-both}
 use Rattle.entries.proofs.Word.{few-offices}
 
 -- two tests that hold in the same cases
-alike : (a b : Bool) → (a ≡ true → b ≡ true) → (b ≡ true → a ≡ true) → a ≡ b
+pub alike : (a b : Bool) → (a ≡ true → b ≡ true) → (b ≡ true → a ≡ true) → a ≡ b
 alike true b p q = sym (p refl)
 alike false true p q = q refl
 alike false false p q = refl
 
 -- conjunctions in any order
-both-comm : (a b : Bool) → both a b ≡ both b a
+pub both-comm : (a b : Bool) → both a b ≡ both b a
 unfolding both
 both-comm true true = refl
 both-comm true false = refl
 both-comm false true = refl
 both-comm false false = refl
 
-both-assoc : (a b c : Bool) → both (both a b) c ≡ both a (both b c)
+pub both-assoc : (a b c : Bool) → both (both a b) c ≡ both a (both b c)
 unfolding both
 both-assoc true b c = refl
 both-assoc false b c = refl
 
-both-swap : (a b c : Bool) → both a (both b c) ≡ both b (both a c)
+pub both-swap : (a b c : Bool) → both a (both b c) ≡ both b (both a c)
 both-swap a b c = sym (both-assoc a b c) ∙ ap (λ (t : Bool). both t c) (both-comm a b) ∙ both-assoc b a c
 
 ruleset any-order = (both-comm, both-assoc, both-swap)

@@ -1,6 +1,7 @@
 -- Soundness as that of the front, which is all but the ballots, and that of the ballots.
 --     eight-tests              a test of eight ballots, written out
 --     front-not, front-fine    a front that is not fine, and soundness where it is: the ballots at their places
+--     some, most               what a fine front says of n and of the settled length
 --     quiet-sound              a fine front and no ballots are sound
 --     all-none                 eight ballots that are none
 -- Assumes nothing.
@@ -20,6 +21,7 @@ use Rattle.ballots.proofs.Laws.{empty-is, none-fine}
 use Rattle.frame.specs.Soundness.{logFine, ballotsFine, frontFine, soundB}
 use Rattle.frame.specs.declared.Record.{Record}
 use Rattle.frame.proofs.Places.{placesFine}
+use Rattle.frame.proofs.Sound.{head}
 
 -- four tests and four tests, as one after the other
 in-turn : (x e f g h : Bool) → (x && (((e && f) && g) && h)) ≡ ((((x && e) && f) && g) && h)
@@ -71,7 +73,12 @@ module _ (r : Record) (words : List ℕ) where
   unfolding ballotsFine both
   front-fine e l = parts ∙ rw (e, eq-eqb (length (r .ballots)) 8 l)
 
-  most : front ≡ true → r .settled ≤ 1024
+  -- a fine front has an office, and its settled length is within the limit
+  pub some : front ≡ true → 1 ≤ r .n
+  unfolding frontFine
+  some e = head _ _ _ (both-0 _ _ (both-1 _ _ e)) .some
+
+  pub most : front ≡ true → r .settled ≤ 1024
   unfolding frontFine
   most e = leb-true (r .settled) 1024 (both-0 _ _ (both-1 _ _ (both-1 _ _ e)))
 

@@ -2,7 +2,7 @@
 ghost use mathlib.Core.Path.{_≡_};
 ghost use Rattle.protocol.specs.Tests.{both, allB};
 ghost use Rattle.ballots.specs.Ballots.{emptyBallot};
-ghost use Rattle.frame.specs.Soundness.{headFine, fineAt, frontFine, soundB};
+ghost use Rattle.frame.specs.Soundness.{headFine, fitsAt, frontFine, soundB};
 use crate::Record;
 use ballots::Ballot;
 
@@ -25,17 +25,17 @@ pub fn head_fine(n: usize, own: usize, weights: [u16; 8]) -> bool
     ballots::total_weight(weights) >= 1
 }
 
-// Whether the ballot may stand at this place: it is fine, and from place n on it is none.
-fn fine_at(b: Ballot, place: usize, n: usize, settled: usize) -> bool
-    ensures { λ r. ⌜ r ≡ fineAt n settled place b ⌝ }
+// Whether a ballot of this length may stand at this place: with the settled log it makes no path past 1024, and from place n on it is none.
+fn fits(len: usize, place: usize, n: usize, settled: usize) -> bool
+    ensures { λ r. ⌜ r ≡ fitsAt n settled place len ⌝ }
 {
-    if !b.fine(n, settled) {
+    if place >= n {
+        return 0 == len;
+    }
+    if len > Ballot::CELLS {
         return false;
     }
-    if place < n {
-        return true;
-    }
-    0 == b.len
+    settled <= Ballot::PATH - len
 }
 
 // Whether the head is within the limits, the log has room and its settled words are entries: all that soundness asks but for the ballots.
@@ -71,7 +71,7 @@ fn no_ballots(all: [Ballot; 8]) -> bool
 }
 
 // Whether the record with these fields is sound and has no ballots. The fields go one by one, here and in `whole`: a record handed on
-// whole would be copied. Both are called by `elect` and `tentative_frame` too, which keeps the compiler from copying them into `sound`.
+// whole would be copied. Both have several callers, which keeps the compiler from copying them into `sound`.
 pub fn quiet(
     n: usize,
     own: usize,
@@ -88,7 +88,8 @@ pub fn quiet(
     false
 }
 
-// Whether the record with these fields is sound, by a walk over its ballots.
+// Whether the record with these fields is sound: its front, the lengths of its ballots, then their cells. The ballots are written out here
+// as in `no_ballots`.
 pub fn whole(
     n: usize,
     own: usize,
@@ -102,13 +103,30 @@ pub fn whole(
     if !front_sound(n, own, weights, settled, log) {
         return false;
     }
-    for i in 0..8 {
-        let b = all[i];
-        if !fine_at(b, i, n, settled) {
-            return false;
-        }
+    let a = all[0];
+    let b = all[1];
+    let c = all[2];
+    let d = all[3];
+    let e = all[4];
+    let f = all[5];
+    let g = all[6];
+    let h = all[7];
+    let fit = (fits(a.len, 0, n, settled)
+        & fits(b.len, 1, n, settled)
+        & fits(c.len, 2, n, settled)
+        & fits(d.len, 3, n, settled))
+        & (fits(e.len, 4, n, settled)
+            & fits(f.len, 5, n, settled)
+            & fits(g.len, 6, n, settled)
+            & fits(h.len, 7, n, settled));
+    if !fit {
+        return false;
     }
-    true
+    if !(ballots::four_entries(a, b, c, d, n) & ballots::four_entries(e, f, g, h, n)) {
+        return false;
+    }
+    let masks = ballots::masks();
+    ballots::four_unused(a, b, c, d, &masks) & ballots::four_unused(e, f, g, h, &masks)
 }
 
 impl Record {

@@ -1,0 +1,25 @@
+-- The tests of a ballot's cells as the code makes them, for four ballots at once. Assumes nothing.
+use Prim.Native.Nat.{ℕ}
+use mathlib.Core.Bool.{Bool}
+use mathlib.Core.List.{List, _++_}
+use lib.Dec.{eqb}
+use lib.ListN.{length, drop, replicate}
+use Rattle.protocol.specs.Entry.{isEntry}
+use Rattle.protocol.specs.Tests.{both, allB}
+use Rattle.ballots.specs.declared.Ballot.{Ballot}
+
+-- 32 cells that are all entries, the unused ones too
+unfoldable pub entryCells : ℕ → Ballot → Bool
+entryCells n b = both (eqb (length (b .cells)) 32) (allB (isEntry n) (b .cells))
+
+-- "unused cells are zero"
+unfoldable pub unusedZero : Ballot → Bool
+unusedZero b = allB (eqb 0) (drop (b .len) (b .cells))
+
+-- a test of four ballots
+unfoldable pub ofFour : (Ballot → Bool) → Ballot → Ballot → Ballot → Ballot → Bool
+ofFour t a b c d = both (both (both (t a) (t b)) (t c)) (t d)
+
+-- 32 words without bits and 32 with all
+unfoldable pub maskWords : List ℕ
+maskWords = replicate 32 0 ++ replicate 32 4294967295
