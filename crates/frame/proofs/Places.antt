@@ -2,7 +2,8 @@
 --     placesFine, restFine     the test of all ballots, and of those from a place on
 --     four-few                 lengths that fit are at most 32
 --     both-passed              where two tests of three pass, the third decides
---     places-tests             the test of all as the tests of eight lengths and of four ballots and four
+--     ofEight                  a test of eight ballots, as the code makes it
+--     places-tests             the test of all as those of eight lengths, of their cells and of the unused cells
 -- Assumes nothing.
 use mathlib.Core.Path.{_≡_, refl, sym, ap, ap₂, _∙_}
 use mathlib.Core.Bool.{Bool, true, false, _&&_}
@@ -62,6 +63,10 @@ module _ (n settled : ℕ) (bs : List Ballot) (i : ℕ) where
   places-step : i < length bs → restFine n settled bs i ≡ both (fineAt n settled i (getD bs i offEnd)) (restFine n settled bs (i + 1))
   places-step h = rw (rest-step offEnd bs i h) (one n settled i (getD bs i offEnd) (drop (i + 1) bs) (ltb i n) refl)
 
+-- a test of eight ballots, as the code makes it: of four and of four
+abbrev pub ofEight : (Ballot → Bool) → List Ballot → Bool
+ofEight t bs = both (ofFour t (getD bs 0 offEnd) (getD bs 1 offEnd) (getD bs 2 offEnd) (getD bs 3 offEnd)) (ofFour t (getD bs 4 offEnd) (getD bs 5 offEnd) (getD bs 6 offEnd) (getD bs 7 offEnd))
+
 -- ── the eight ballots, each by its length and its cells ──
 
 -- from office n on, where t is false, only the length 0 passes; it is within the limits
@@ -120,9 +125,7 @@ module _ (n settled : ℕ) (some : 1 ≤ n) (most : settled ≤ 1024) where
     pub places-tests : (a b c d e f g h : Bool)
         → a ≡ fitsAt n settled 0 (ballot 0 .len) → b ≡ fitsAt n settled 1 (ballot 1 .len) → c ≡ fitsAt n settled 2 (ballot 2 .len) → d ≡ fitsAt n settled 3 (ballot 3 .len)
         → e ≡ fitsAt n settled 4 (ballot 4 .len) → f ≡ fitsAt n settled 5 (ballot 5 .len) → g ≡ fitsAt n settled 6 (ballot 6 .len) → h ≡ fitsAt n settled 7 (ballot 7 .len)
-        → placesFine n settled bs ≡ both ((((a && b) && c) && d) && (((e && f) && g) && h))
-        (both (both (ofFour (entryCells n) (ballot 0) (ballot 1) (ballot 2) (ballot 3)) (ofFour (entryCells n) (ballot 4) (ballot 5) (ballot 6) (ballot 7)))
-        (both (ofFour unusedZero (ballot 0) (ballot 1) (ballot 2) (ballot 3)) (ofFour unusedZero (ballot 4) (ballot 5) (ballot 6) (ballot 7))))
+        → placesFine n settled bs ≡ both ((((a && b) && c) && d) && (((e && f) && g) && h)) (both (ofEight (entryCells n) bs) (ofEight unusedZero bs))
     unfolding ofFour
     places-tests a b c d e f g h pa pb pc pd pe pf pg ph =
         let s2 = next (next begins (omega arith) pa) (omega arith) pb in

@@ -1,18 +1,17 @@
 -- The front first, then the eight lengths, then the cells of four ballots and of four.
 use mathlib.Core.Bool.{Bool, true, _&&_}
 use mathlib.Core.Path.{_≡_, sym, ap₂, _∙_}
-use lib.ListN.{length, getD}
+use lib.ListN.{length}
 use borrow.Author.Tests.{not-true, not-false}
 use borrow.Author.Needs.{needs}
 use Rattle.protocol.specs.Tests.{both}
 use Rattle.protocol.proofs.Tests.{and-true, both-false-0, both-false-1}
 use Rattle.entries.proofs.Walk.{and-both}
-use Rattle.ballots.specs.Ballots.{offEnd}
-use Rattle.ballots.specs.Fours.{entryCells, ofFour, unusedZero}
+use Rattle.ballots.specs.Fours.{entryCells, unusedZero}
 use Rattle.frame.specs.Soundness.{soundB, frontFine}
 use Rattle.frame.specs.declared.Record.{Record}
 use Rattle.frame.proofs.Front.{front-not, front-fine, some, most}
-use Rattle.frame.proofs.Places.{both-passed, four-few, places-tests}
+use Rattle.frame.proofs.Places.{both-passed, four-few, ofEight, places-tests}
 use Rattle.frame.proofs.soundness.whole.Statement.{statement}
 use Rattle.frame.proofs.soundness.whole.Tie as tie
 
@@ -36,12 +35,12 @@ last c = ((c .before .before .before .fits6 .result && c .before .before .fits7 
 abbrev fit : tie.After-fits9 → Bool
 fit c = first c && last c
 
--- the tests of four ballots from a place on
-abbrev entries : (s : tie.Start) → Bool
-entries s = both (ofFour (entryCells (s .args .n)) (getD (s .args .t5) 0 offEnd) (getD (s .args .t5) 1 offEnd) (getD (s .args .t5) 2 offEnd) (getD (s .args .t5) 3 offEnd)) (ofFour (entryCells (s .args .n)) (getD (s .args .t5) 4 offEnd) (getD (s .args .t5) 5 offEnd) (getD (s .args .t5) 6 offEnd) (getD (s .args .t5) 7 offEnd))
+-- what the tests of the cells, and of the unused ones, are to find
+abbrev entries : tie.Start → Bool
+entries s = ofEight (entryCells (s .args .n)) (s .args .t5)
 
-abbrev unused : (s : tie.Start) → Bool
-unused s = both (ofFour unusedZero (getD (s .args .t5) 0 offEnd) (getD (s .args .t5) 1 offEnd) (getD (s .args .t5) 2 offEnd) (getD (s .args .t5) 3 offEnd)) (ofFour unusedZero (getD (s .args .t5) 4 offEnd) (getD (s .args .t5) 5 offEnd) (getD (s .args .t5) 6 offEnd) (getD (s .args .t5) 7 offEnd))
+abbrev unused : tie.Start → Bool
+unused s = ofEight unusedZero (s .args .t5)
 
 -- soundness behind a fine front
 tests : (c : tie.After-fits9) → let s = c .before .before .before .before .before .before .before .before .before .before .before .before .before .before .before .before .before .before .before in soundB (office s) (s .args .log .now) ≡ both (fit c) (both (entries s) (unused s))
