@@ -1,12 +1,16 @@
--- The tests of a ballot's cells as the code makes them, for four ballots at once. Assumes nothing.
-use Prim.Native.Nat.{ℕ}
+-- The tests of a ballot as the code makes them: of its length, and of its cells, for four ballots at once. Assumes nothing.
+use Prim.Native.Nat.{ℕ, _+_}
 use mathlib.Core.Bool.{Bool}
 use mathlib.Core.List.{List, _++_}
-use lib.Dec.{eqb}
+use lib.Dec.{eqb, leb, ltb}
 use lib.ListN.{length, drop, replicate}
 use Rattle.protocol.specs.Entry.{isEntry}
-use Rattle.protocol.specs.Tests.{both, allB}
+use Rattle.protocol.specs.Tests.{both, pick, allB}
 use Rattle.ballots.specs.declared.Ballot.{Ballot}
+
+-- a ballot of this length may stand at this place of a record of n offices: no path past 1024, and none from office n on
+unfoldable pub fitsAt : ℕ → ℕ → ℕ → ℕ → Bool
+fitsAt n settled place len = pick (ltb place n) (both (leb len 32) (leb (settled + len) 1024)) (eqb 0 len)
 
 -- 32 cells that are all entries, the unused ones too
 unfoldable pub entryCells : ℕ → Ballot → Bool

@@ -6,7 +6,7 @@ ghost use lib.ListN.{drop};
 ghost use Prim.Native.Nat.{_≤_};
 ghost use Rattle.protocol.specs.Tests.{allB};
 ghost use Rattle.ballots.specs.Ballots.{emptyBallot, totalWeight, noBallot, pushed, same};
-ghost use Rattle.ballots.specs.Fours.{entryCells, maskWords, ofFour, unusedZero};
+ghost use Rattle.ballots.specs.Fours.{entryCells, fitsAt, maskWords, ofFour, unusedZero};
 
 // A tail of 0 to 32 entries in the first cells. Unused cells are zero; length 0 means none.
 #[repr(C)]
@@ -136,6 +136,19 @@ impl Ballot {
         next.len = len + 1;
         next
     }
+}
+
+// Whether a ballot of this length may stand at this place: with the settled log it makes no path past 1024, and from place n on it is none.
+pub fn fits(len: usize, place: usize, n: usize, settled: usize) -> bool
+    ensures { λ r. ⌜ r ≡ fitsAt n settled place len ⌝ }
+{
+    if place >= n {
+        return 0 == len;
+    }
+    if len > Ballot::CELLS {
+        return false;
+    }
+    settled <= Ballot::PATH - len
 }
 
 // Whether the weights from place n on are zero.

@@ -18,10 +18,10 @@ use Rattle.protocol.proofs.Tests.{and-true, both-0, both-true}
 use Rattle.entries.proofs.Carries.{both-assoc, both-comm, both-swap}
 use Rattle.entries.proofs.Walk.{and-both, rest-step}
 use Rattle.ballots.specs.Ballots.{ballotFine, isNoBallot, offEnd}
-use Rattle.ballots.specs.Fours.{entryCells, ofFour, unusedZero}
+use Rattle.ballots.specs.Fours.{entryCells, fitsAt, ofFour, unusedZero}
 use Rattle.ballots.specs.declared.Ballot.{Ballot}
 use Rattle.ballots.proofs.Fours.{fine-tests}
-use Rattle.frame.specs.Soundness.{fineAt, fitsAt}
+use Rattle.frame.specs.Soundness.{fineAt}
 
 -- the ballots from place i on
 abbrev pub restFine : ℕ → ℕ → List Ballot → ℕ → Bool

@@ -1,5 +1,5 @@
 -- "A record with its log is sound when all this holds, entries included." Assumes nothing.
-use Prim.Native.Nat.{ℕ, _+_, _≤_, _<_}
+use Prim.Native.Nat.{ℕ, _≤_, _<_}
 use mathlib.Core.Path.{_≡_}
 use mathlib.Core.Bool.{Bool, true}
 use mathlib.Core.List.{List}
@@ -36,10 +36,6 @@ ballotsFine r =
 -- the same at one place: a ballot within its limits, and none from office n on
 unfoldable pub fineAt : ℕ → ℕ → ℕ → Ballot → Bool
 fineAt n settled place b = both (ballotFine n settled b) (pick (ltb place n) true (isNoBallot b))
-
--- what of it the ballot's length tells: no path past 1024, and none from office n on
-unfoldable pub fitsAt : ℕ → ℕ → ℕ → ℕ → Bool
-fitsAt n settled place len = pick (ltb place n) (both (leb len 32) (leb (settled + len) 1024)) (eqb 0 len)
 
 -- all of a sound record but for its ballots
 unfoldable pub frontFine : ℕ → ℕ → List ℕ → ℕ → List ℕ → Bool

@@ -2,7 +2,7 @@
 ghost use mathlib.Core.Path.{_≡_};
 ghost use Rattle.protocol.specs.Tests.{both, allB};
 ghost use Rattle.ballots.specs.Ballots.{emptyBallot};
-ghost use Rattle.frame.specs.Soundness.{headFine, fitsAt, frontFine, soundB};
+ghost use Rattle.frame.specs.Soundness.{headFine, frontFine, soundB};
 use crate::Record;
 use ballots::Ballot;
 
@@ -23,19 +23,6 @@ pub fn head_fine(n: usize, own: usize, weights: [u16; 8]) -> bool
         return false;
     }
     ballots::total_weight(weights) >= 1
-}
-
-// Whether a ballot of this length may stand at this place: with the settled log it makes no path past 1024, and from place n on it is none.
-fn fits(len: usize, place: usize, n: usize, settled: usize) -> bool
-    ensures { λ r. ⌜ r ≡ fitsAt n settled place len ⌝ }
-{
-    if place >= n {
-        return 0 == len;
-    }
-    if len > Ballot::CELLS {
-        return false;
-    }
-    settled <= Ballot::PATH - len
 }
 
 // Whether the head is within the limits, the log has room and its settled words are entries: all that soundness asks but for the ballots.
@@ -111,14 +98,14 @@ pub fn whole(
     let f = all[5];
     let g = all[6];
     let h = all[7];
-    let fit = (fits(a.len, 0, n, settled)
-        & fits(b.len, 1, n, settled)
-        & fits(c.len, 2, n, settled)
-        & fits(d.len, 3, n, settled))
-        & (fits(e.len, 4, n, settled)
-            & fits(f.len, 5, n, settled)
-            & fits(g.len, 6, n, settled)
-            & fits(h.len, 7, n, settled));
+    let fit = (ballots::fits(a.len, 0, n, settled)
+        & ballots::fits(b.len, 1, n, settled)
+        & ballots::fits(c.len, 2, n, settled)
+        & ballots::fits(d.len, 3, n, settled))
+        & (ballots::fits(e.len, 4, n, settled)
+            & ballots::fits(f.len, 5, n, settled)
+            & ballots::fits(g.len, 6, n, settled)
+            & ballots::fits(h.len, 7, n, settled));
     if !fit {
         return false;
     }

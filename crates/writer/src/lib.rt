@@ -35,7 +35,7 @@ fn put_log(out: &mut [u8], at: usize, log: &[u32], k: usize) -> usize
     p
 }
 
-// Four of the values, from place i on, at a position: written out, so that the compiler may store them together.
+// Four of the values, from place i on, at a position.
 fn put_four(out: &mut [u8], at: usize, values: &[u32], i: usize)
     requires { ⌜ (i + 4 ≤ length (now values)) × (at + 16 ≤ length (now out)) ⌝ }
     ensures { λ _. ⌜ now (out .exit) ≡ sets (now (out .entry)) at (run bytes32 (take 4 (drop i (now (values .entry))))) ⌝ }
@@ -46,7 +46,8 @@ fn put_four(out: &mut [u8], at: usize, values: &[u32], i: usize)
     put32(out, at + 12, values[i + 3]);
 }
 
-// The first k values, four bytes each, from a position on; the position after them. They go by fours, and then what is left.
+// The first k values, four bytes each, from a position on; the position after them. They go by fours, since a jump for each costs as much
+// as the store, and then what is left.
 fn put_values(out: &mut [u8], at: usize, values: &[u32], k: usize) -> usize
     requires { ⌜ (k ≤ length (now values)) × (at + 4 * k ≤ length (now out)) ⌝ }
     ensures { λ r. ⌜ (r ≡ at + 4 * k) × (now (out .exit) ≡ sets (now (out .entry)) at (run bytes32 (take k (now (values .entry))))) ⌝ }

@@ -23,20 +23,29 @@ const WEIGHTS: [u16; OFFICES] = [40, 35, 25, 20, 15, 10, 5, 1];
 /// What the ballots of a state hold.
 #[derive(Clone, Copy, PartialEq)]
 pub enum Ballots {
-    /// None.
-    Empty,
-    /// Eight tails of 32, the same one: an election settles all of it.
-    Alike,
+    /// Eight tails with this many entries, the same one: an election settles all of it.
+    Alike(usize),
     /// Eight tails of 32 with different first entries: an election settles one entry.
     Apart,
 }
 
 impl Ballots {
-    fn name(self) -> &'static str {
+    pub const EMPTY: Ballots = Ballots::Alike(0);
+    pub const FULL: Ballots = Ballots::Alike(TAIL);
+
+    fn entries(self) -> usize {
         match self {
-            Ballots::Empty => "empty",
-            Ballots::Alike => "full",
-            Ballots::Apart => "full, apart",
+            Ballots::Alike(entries) => entries,
+            Ballots::Apart => TAIL,
+        }
+    }
+
+    fn name(self) -> String {
+        match self {
+            Ballots::EMPTY => "empty".into(),
+            Ballots::FULL => "full".into(),
+            Ballots::Alike(entries) => format!("{entries} each"),
+            Ballots::Apart => "full, apart".into(),
         }
     }
 }
@@ -50,11 +59,8 @@ pub fn state(settled: usize, ballots: Ballots, own: usize) -> Sample {
     }
     let mut record = Record { n: OFFICES, own, weights: WEIGHTS, settled, ..Record::ZERO };
     for (office, ballot) in record.ballots.iter_mut().enumerate() {
-        if ballots == Ballots::Empty {
-            continue;
-        }
-        *ballot = Ballot { len: TAIL, ..Ballot::NONE };
-        for (at, cell) in ballot.cells.iter_mut().enumerate() {
+        *ballot = Ballot { len: ballots.entries(), ..Ballot::NONE };
+        for (at, cell) in ballot.cells.iter_mut().enumerate().take(ballots.entries()) {
             *cell = word(settled + at);
         }
         if ballots == Ballots::Apart {
@@ -72,7 +78,7 @@ type Call = Box<dyn FnMut()>;
 struct Case {
     call: String,
     settled: usize,
-    ballots: &'static str,
+    ballots: String,
     engine: Call,
     second: Call,
     by_value: Call,
@@ -137,7 +143,22 @@ macro_rules! call {
     };
 }
 
-/// The calls that only read.
+/// Soundness, which every other call tests first.
+fn sound_case(settled: usize, ballots: Ballots, cases: &mut Vec<Case>) {
+    let Sample { record, log } = state(settled, ballots, 0);
+    let proved = to_engine(&record);
+    let (a, b, c) = (log.clone(), log.clone(), log);
+    cases.push(Case {
+        call: "sound".into(),
+        settled,
+        ballots: ballots.name(),
+        engine: call!(unsafe { engine::joukerpan_sound(*black_box(&proved), a.as_ptr(), LOG) }),
+        second: call!(sound(black_box(&record), &b)),
+        by_value: call!(unsafe { by_value::sound(*black_box(&record), c.as_ptr(), LOG) }),
+    });
+}
+
+/// The other calls that only read.
 fn reading_cases(settled: usize, ballots: Ballots, cases: &mut Vec<Case>) {
     let Sample { record, log } = state(settled, ballots, 0);
     let proved = to_engine(&record);
@@ -145,13 +166,6 @@ fn reading_cases(settled: usize, ballots: Ballots, cases: &mut Vec<Case>) {
     let mut case = |call: &str, engine: Call, second: Call, by_value: Call| {
         cases.push(Case { call: call.into(), settled, ballots: ballots.name(), engine, second, by_value });
     };
-    let (a, b, c) = logs();
-    case(
-        "sound",
-        call!(unsafe { engine::joukerpan_sound(*black_box(&proved), a.as_ptr(), LOG) }),
-        call!(sound(black_box(&record), &b)),
-        call!(unsafe { by_value::sound(*black_box(&record), c.as_ptr(), LOG) }),
-    );
     let (a, b, c) = logs();
     case(
         "settled",
@@ -219,7 +233,7 @@ fn elect_case(settled: usize, ballots: Ballots, cases: &mut Vec<Case>) {
 }
 
 /// A take. Its words past the settled ones are the same after every call.
-fn take_case(name: &str, receiver: Sample, sender: Sample, ballots: &'static str, cases: &mut Vec<Case>) {
+fn take_case(name: &str, receiver: Sample, sender: Sample, ballots: Ballots, cases: &mut Vec<Case>) {
     let Sample { record, log } = receiver;
     let proved = to_engine(&record);
     let (mut a, mut b, mut c) = (log.clone(), log.clone(), log);
@@ -227,7 +241,7 @@ fn take_case(name: &str, receiver: Sample, sender: Sample, ballots: &'static str
     cases.push(Case {
         call: format!("take, {name}"),
         settled: sender.record.settled,
-        ballots,
+        ballots: ballots.name(),
         engine: call!(unsafe { engine::joukerpan_take(*black_box(&proved), a.as_mut_ptr(), LOG, d.as_ptr(), d.len()) }),
         second: call!(second::take::take(*black_box(&record), &mut b, black_box(&e))),
         by_value: call!(unsafe { by_value::take(*black_box(&record), c.as_mut_ptr(), LOG, f.as_ptr(), f.len()) }),
@@ -241,7 +255,7 @@ fn found_case(cases: &mut Vec<Case>) {
     cases.push(Case {
         call: "found".into(),
         settled: 0,
-        ballots: "empty",
+        ballots: Ballots::EMPTY.name(),
         engine: call!(n, own, of => unsafe { engine::joukerpan_found(n, own, Weights { of }, a.as_ptr(), LOG) }),
         second: call!(n, own, of => plain::found(n, own, of, &b)),
         by_value: call!(n, own, of => unsafe { by_value::found(n, own, Weights { of }, c.as_ptr(), LOG) }),
@@ -251,19 +265,21 @@ fn found_case(cases: &mut Vec<Case>) {
 fn cases() -> Vec<Case> {
     let mut cases = vec![];
     found_case(&mut cases);
-    for ballots in [Ballots::Empty, Ballots::Alike] {
-        let most = if ballots == Ballots::Empty { LOG } else { LOG - TAIL };
-        for settled in [0, 256, most] {
+    for ballots in [Ballots::EMPTY, Ballots::FULL] {
+        for settled in [0, 256, LOG - ballots.entries()] {
+            sound_case(settled, ballots, &mut cases);
             reading_cases(settled, ballots, &mut cases);
             writing_cases(settled, ballots, &mut cases);
             elect_case(settled, ballots, &mut cases);
-            let name = ballots.name();
             let (receiver, sender) = (state(settled, ballots, 0), state(settled, ballots, 1));
-            take_case("nothing new", receiver, sender.clone(), name, &mut cases);
-            if settled > 0 || ballots == Ballots::Alike {
-                take_case("all new", state(0, Ballots::Empty, 0), sender, name, &mut cases);
+            take_case("nothing new", receiver, sender.clone(), ballots, &mut cases);
+            if settled > 0 || ballots == Ballots::FULL {
+                take_case("all new", state(0, Ballots::EMPTY, 0), sender, ballots, &mut cases);
             }
         }
+    }
+    for entries in [1, 2, 4, 8, 16, 24, 31] {
+        sound_case(0, Ballots::Alike(entries), &mut cases);
     }
     elect_case(LOG - TAIL, Ballots::Apart, &mut cases);
     cases.sort_by(|a, b| a.call.cmp(&b.call));

@@ -185,11 +185,10 @@ fn depth(paint: &mut [u64], job: &mut Job) -> usize {
 fn inputs() -> Vec<Input> {
     let mut random = Random::new(1);
     let mut inputs = vec![];
-    for (settled, ballots) in [(992, Ballots::Alike), (992, Ballots::Apart), (0, Ballots::Alike), (LOG, Ballots::Empty)]
-    {
+    for (settled, ballots) in [(992, Ballots::FULL), (992, Ballots::Apart), (0, Ballots::FULL), (LOG, Ballots::EMPTY)] {
         let message = state(settled, ballots, 1).message();
         inputs.push(Input { sample: state(settled, ballots, 0), message: message.clone(), output: vec![0; LONGEST] });
-        inputs.push(Input { sample: state(0, Ballots::Empty, 0), message, output: vec![0; 20] });
+        inputs.push(Input { sample: state(0, Ballots::EMPTY, 0), message, output: vec![0; 20] });
     }
     for _ in 0..SAMPLES {
         let family = Family::new(&mut random);

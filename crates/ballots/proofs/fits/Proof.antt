@@ -6,9 +6,9 @@ use borrow.Author.Tests.{lt-ltb, le-ltb, le-leb, leb-true, lt-leb}
 use borrow.Author.Needs.{needs}
 use Rattle.protocol.specs.Tests.{both, pick}
 use Rattle.entries.proofs.Carries.{alike}
-use Rattle.frame.specs.Soundness.{fitsAt}
-use Rattle.frame.proofs.soundness.fits.Statement.{statement}
-use Rattle.frame.proofs.soundness.fits.Tie as tie
+use Rattle.ballots.specs.Fours.{fitsAt}
+use Rattle.ballots.proofs.fits.Statement.{statement}
+use Rattle.ballots.proofs.fits.Tie as tie
 
 returns : tie.Need-returns
 unfolding fitsAt pick
