@@ -7,32 +7,30 @@ use mathlib.Core.Logic.{_⊎_, inl, inr}
 use Prim.Native.Nat.{ℕ, _+_}
 use native.Mathlib.Omega.{arith}
 use lib.Dec.{eqb, ltb}
-use lib.ListN.{length, getElem?}
+use lib.ListN.{length}
 use borrow.Author.Tests.{eqb-true}
-use Rattle.protocol.specs.Tests.{pick}
+use Rattle.lists.specs.Tests.{pick}
 use Rattle.protocol.specs.Beginning.{begins}
 use Rattle.protocol.specs.Office.{Office, Message, tail}
+use Rattle.protocol.proofs.Limits.{issue-never}
 use Rattle.protocol.specs.Issue.{refuseIssue}
 use Rattle.protocol.specs.Take.{refuseTake}
-use Rattle.protocol.specs.World as P
-use Rattle.protocol.specs.World.{refusal}
-use Rattle.protocol.proofs.Tests.{pick-cases}
+use Rattle.lists.proofs.Tests.{pick-cases}
 use Rattle.frame.specs.Issuing.{issueOf}
 use Rattle.frame.specs.Sending.{sendOf}
 use Rattle.frame.specs.Taking.{takeOf}
 use Rattle.frame.specs.Electing.{electOf}
 use Rattle.frame.proofs.Sound.{sound-true}
-use Rattle.agreement.specs.World.{Desk, World, Call, issue, send, take, elect, deskAt, messageAt, onSome, number, put, post, posted, step, after}
-use Rattle.agreement.specs.Demand.{Founded}
+use Rattle.agreement.specs.World.{Replica, World, Call, issue, send, take, elect, replicaAt, messageAt, onSome, number, put, post, posted, step, after}
+use Rattle.agreement.specs.Demand.{Founded, says}
 use Rattle.agreement.specs.Calls.{Kept}
 use Rattle.agreement.proofs.Places.{set-same}
-use Rattle.agreement.proofs.View.{view, sendDone, callOf, Faithful}
-use Rattle.agreement.proofs.Issued.{issueDesk, issue-refused}
+use Rattle.agreement.proofs.View.{means, sendDone, SoundWorld}
+use Rattle.agreement.proofs.Issued.{issueReplica, issue-number, issue-refused}
 use Rattle.agreement.proofs.Sent.{send-number}
-use Rattle.agreement.proofs.Taken.{takeDesk, take-refused}
+use Rattle.agreement.proofs.Taken.{takeReplica, take-number, take-refused}
 use Rattle.agreement.proofs.Elected.{elect-number}
-use Rattle.agreement.proofs.Numbers.{numbers}
-use Rattle.agreement.proofs.Demand.{faithful-after, one-order}
+use Rattle.agreement.proofs.Demand.{sound-after, one-order}
 
 -- ── the protocol's numbers ──
 refuseTake-is : (k : ℕ) (m : Message) (o : Office) → (refuseTake k m o ≡ 0) ⊎ ((refuseTake k m o ≡ 9) ⊎ (refuseTake k m o ≡ 10))
@@ -47,122 +45,111 @@ refuseTake-is k m o = go (eqb (m .sender) k) (begins (o .log) (m .state .log) ||
     go false true = inl refl
     go false false = inr (inr refl)
 
-taking-is : (k : ℕ) (x : Option Message) (o : Office) → (P.refuseTaking k x o ≡ 0) ⊎ ((P.refuseTaking k x o ≡ 9) ⊎ (P.refuseTaking k x o ≡ 10))
-taking-is k none o = inl refl
-taking-is k (some m) o = refuseTake-is k m o
-
-refuseIssue-not-1 : (k line code : ℕ) (o : Office) → refuseIssue k line code o ≡ 1 → ⊥
-unfolding refuseIssue
-refuseIssue-not-1 k line code o = go (ltb 63 line || ltb 9999 code) (eqb (length (tail o k)) 32) (eqb (length (o .log) + length (tail o k)) 1024)
-  where
-    go : (a b c : Bool) → _≡_ {A = ℕ} (cond a 3 (cond b 4 (cond c 5 0))) 1 → ⊥
-    go true b c h = omega arith
-    go false true c h = omega arith
-    go false false true h = omega arith
-    go false false false h = omega arith
-
-not-1 : (v : P.World) (c : P.Call) → refusal v c ≡ 1 → ⊥
-unfolding refusal
-not-1 v (P.issue k line code) h = refuseIssue-not-1 k line code (P.at v k) h
-not-1 v (P.send k true) h = omega arith
-not-1 v (P.send k false) h = omega arith
-not-1 v (P.take k m) h = go (taking-is k (getElem? (v .sent) m) (P.at v k))
-  where
-    N : ℕ
-    N = P.refuseTaking k (getElem? (v .sent) m) (P.at v k)
-
-    go : (N ≡ 0) ⊎ ((N ≡ 9) ⊎ (N ≡ 10)) → ⊥
-    go (inl q) = omega arith
-    go (inr (inl q)) = omega arith
-    go (inr (inr q)) = omega arith
-not-1 v (P.elect k) h = omega arith
-not-1 v P.idle h = omega arith
-
 -- ── one call ──
-module _ (n : ℕ) (ws : List ℕ) (w : World) (s : Faithful n ws w) where
-  never-unsound : (c : Call) → number w c ≡ 1 → ⊥
-  never-unsound c h = go (numbers n ws w s c)
-    where
-      go : (number w c ≡ 0) ⊎ (number w c ≡ refusal (view w) (callOf w c)) → ⊥
-      go (inl q) = omega arith
-      go (inr q) = not-1 (view w) (callOf w c) (sym q ∙ h)
-
+module _ (n : ℕ) (ws : List ℕ) (w : World) (s : SoundWorld n ws w) where
   elects : (k : ℕ) → number w (elect k) ≡ 0
   unfolding number
-  elects k = go (deskAt w k) refl
+  elects k = go (replicaAt w k) refl
     where
-      go : (x : Option Desk) → deskAt w k ≡ x → onSome x 0 (λ d. electOf (d .held) (d .words) .number) ≡ 0
+      go : (x : Option Replica) → replicaAt w k ≡ x → onSome x 0 (λ d. electOf (d .held) (d .words) .number) ≡ 0
       go none e = refl
-      go (some d) e = elect-number n ws k d (s .manned k d e)
+      go (some d) e = elect-number n ws k d (s .each k d e)
 
   sends : (k : ℕ) (out : List ℕ) → (number w (send k out) ≡ 0) ⊎ (number w (send k out) ≡ 6)
   unfolding number
-  sends k out = go (deskAt w k) refl
+  sends k out = go (replicaAt w k) refl
     where
-      N : Option Desk → ℕ
+      N : Option Replica → ℕ
       N x = onSome x 0 (λ d. sendOf (d .held) (d .words) out .number)
 
-      go : (x : Option Desk) → deskAt w k ≡ x → (N x ≡ 0) ⊎ (N x ≡ 6)
+      go : (x : Option Replica) → replicaAt w k ≡ x → (N x ≡ 0) ⊎ (N x ≡ 6)
       go none e = inl refl
-      go (some d) e = send-number n ws k d (s .manned k d e) out
+      go (some d) e = send-number n ws k d (s .each k d e) out
+
+  take-is : (k m : ℕ) → (number w (take k m) ≡ 0) ⊎ ((number w (take k m) ≡ 9) ⊎ (number w (take k m) ≡ 10))
+  unfolding number
+  take-is k m = go (replicaAt w k) refl (messageAt w m) refl
+    where
+      N : Option Replica → Option (List ℕ) → ℕ
+      N x y = onSome x 0 (λ d. onSome y 0 (λ b. takeOf (d .held) (d .words) b .number))
+
+      go : (x : Option Replica) → replicaAt w k ≡ x → (y : Option (List ℕ)) → messageAt w m ≡ y → (N x y ≡ 0) ⊎ ((N x y ≡ 9) ⊎ (N x y ≡ 10))
+      go none e y f = inl refl
+      go (some d) e none f = inl refl
+      go (some d) e (some b) f = rw (take-number n ws k d (s .each k d e) b (s .spelled m b f)) (refuseTake-is k (means b) (says d))
 
   takes : (k m : ℕ) → (number w (take k m) ≡ 10 → ⊥) → (number w (take k m) ≡ 0) ⊎ (number w (take k m) ≡ 9)
-  unfolding refusal
-  takes k m never = go (numbers n ws w s (take k m))
+  takes k m never = go (take-is k m)
     where
       N : ℕ
-      N = P.refuseTaking k (getElem? (view w .sent) m) (P.at (view w) k)
+      N = number w (take k m)
 
-      by : number w (take k m) ≡ N → (N ≡ 0) ⊎ ((N ≡ 9) ⊎ (N ≡ 10)) → (number w (take k m) ≡ 0) ⊎ (number w (take k m) ≡ 9)
-      by q (inl a) = inl (q ∙ a)
-      by q (inr (inl a)) = inr (q ∙ a)
-      by q (inr (inr a)) = absurd (never (q ∙ a))
-
-      go : (number w (take k m) ≡ 0) ⊎ (number w (take k m) ≡ N) → (number w (take k m) ≡ 0) ⊎ (number w (take k m) ≡ 9)
+      go : (N ≡ 0) ⊎ ((N ≡ 9) ⊎ (N ≡ 10)) → (N ≡ 0) ⊎ (N ≡ 9)
       go (inl q) = inl q
-      go (inr q) = by q (taking-is k (getElem? (view w .sent) m) (P.at (view w) k))
+      go (inr (inl q)) = inr q
+      go (inr (inr q)) = absurd (never q)
 
-  -- a desk put back where it stood
-  put-same : (k : ℕ) (d d' : Desk) → deskAt w k ≡ some d → d' ≡ d → put w k (d' .held) (d' .words) ≡ w
+  never-unsound : (c : Call) → number w c ≡ 1 → ⊥
+  unfolding number
+  never-unsound (issue k line code) h = go (replicaAt w k) refl h
+    where
+      go : (x : Option Replica) → replicaAt w k ≡ x → onSome x 0 (λ d. issueOf (d .held) (d .words) line code .number) ≡ 1 → ⊥
+      go none e h = omega arith
+      go (some d) e h = issue-never k line code (says d) .0 (sym (issue-number n ws k d (s .each k d e) line code) ∙ h)
+  never-unsound (send k out) h = go (sends k out)
+    where
+      go : (number w (send k out) ≡ 0) ⊎ (number w (send k out) ≡ 6) → ⊥
+      go (inl q) = omega arith
+      go (inr q) = omega arith
+  never-unsound (take k m) h = go (take-is k m)
+    where
+      go : (number w (take k m) ≡ 0) ⊎ ((number w (take k m) ≡ 9) ⊎ (number w (take k m) ≡ 10)) → ⊥
+      go (inl q) = omega arith
+      go (inr (inl q)) = omega arith
+      go (inr (inr q)) = omega arith
+  never-unsound (elect k) h = omega (arith, elects k)
+
+  -- a replica put back where it stood
+  put-same : (k : ℕ) (d d' : Replica) → replicaAt w k ≡ some d → d' ≡ d → put w k (d' .held) (d' .words) ≡ w
   put-same k d d' e q =
-      ap (λ (x : Desk). put w k (x .held) (x .words)) q ∙ ap (λ (l : List Desk). record { desks = l; sent = w .sent }) (set-same (w .desks) k d e)
+      ap (λ (x : Replica). put w k (x .held) (x .words)) q ∙ ap (λ (l : List Replica). record { replicas = l; sent = w .sent }) (set-same (w .replicas) k d e)
 
   refused : (c : Call) → (number w c ≡ 0 → ⊥) → step w c ≡ w
   unfolding number step
-  refused (issue k line code) h = go (deskAt w k) refl h
+  refused (issue k line code) h = go (replicaAt w k) refl h
     where
-      go : (x : Option Desk) → deskAt w k ≡ x → (onSome x 0 (λ d. issueOf (d .held) (d .words) line code .number) ≡ 0 → ⊥)
-          → onSome x w (λ d. put w k (issueDesk d line code .held) (issueDesk d line code .words)) ≡ w
+      go : (x : Option Replica) → replicaAt w k ≡ x → (onSome x 0 (λ d. issueOf (d .held) (d .words) line code .number) ≡ 0 → ⊥)
+          → onSome x w (λ d. put w k (issueReplica d line code .held) (issueReplica d line code .words)) ≡ w
       go none e h = refl
-      go (some d) e h = put-same k d (issueDesk d line code) e (issue-refused n ws k d (s .manned k d e) line code h)
-  refused (send k out) h = go (deskAt w k) refl h
+      go (some d) e h = put-same k d (issueReplica d line code) e (issue-refused n ws k d (s .each k d e) line code h)
+  refused (send k out) h = go (replicaAt w k) refl h
     where
-      go : (x : Option Desk) → deskAt w k ≡ x → (onSome x 0 (λ d. sendOf (d .held) (d .words) out .number) ≡ 0 → ⊥)
+      go : (x : Option Replica) → replicaAt w k ≡ x → (onSome x 0 (λ d. sendOf (d .held) (d .words) out .number) ≡ 0 → ⊥)
           → onSome x w (λ d. pick (sendDone d out) (post w (posted d out)) w) ≡ w
       go none e h = refl
       go (some d) e h =
           pick-cases (λ (x : World). x ≡ w) (sendDone d out) (post w (posted d out)) w
           (λ q. absurd (h (eqb-true (sendOf (d .held) (d .words) out .number) 0 q))) (λ _. refl)
-  refused (take k m) h = go (deskAt w k) refl (messageAt w m) refl h
+  refused (take k m) h = go (replicaAt w k) refl (messageAt w m) refl h
     where
-      go : (x : Option Desk) → deskAt w k ≡ x → (y : Option (List ℕ)) → messageAt w m ≡ y
+      go : (x : Option Replica) → replicaAt w k ≡ x → (y : Option (List ℕ)) → messageAt w m ≡ y
           → (onSome x 0 (λ d. onSome y 0 (λ b. takeOf (d .held) (d .words) b .number)) ≡ 0 → ⊥)
-          → onSome x w (λ d. onSome y w (λ b. put w k (takeDesk d b .held) (takeDesk d b .words))) ≡ w
+          → onSome x w (λ d. onSome y w (λ b. put w k (takeReplica d b .held) (takeReplica d b .words))) ≡ w
       go none e y f h = refl
       go (some d) e none f h = refl
-      go (some d) e (some b) f h = put-same k d (takeDesk d b) e (take-refused n ws k d (s .manned k d e) b (s .spelled m b f) h)
+      go (some d) e (some b) f h = put-same k d (takeReplica d b) e (take-refused n ws k d (s .each k d e) b (s .spelled m b f) h)
   refused (elect k) h = absurd (h (elects k))
 
 -- of every list of calls
 pub kept : (n : ℕ) (weights : List ℕ) (start : World) → Founded n weights start → (cs : List Call) → Kept n weights start cs
 kept n ws start f cs =
     let w = after start cs in
-    let s : Faithful n ws w = faithful-after n ws start f cs in
+    let s : SoundWorld n ws w = sound-after n ws start f cs in
     record {
       offices = s .offices;
-      own = λ k d e. s .manned k d e .own;
-      alike = λ k d e. (s .manned k d e .count, s .manned k d e .weights);
-      sound = λ k d e. sound-true (d .held) (d .words) (s .manned k d e .sound);
+      own = λ k d e. s .each k d e .own;
+      alike = λ k d e. (s .each k d e .count, s .each k d e .weights);
+      sound = λ k d e. sound-true (d .held) (d .words) (s .each k d e .sound);
       never-unsound = never-unsound n ws w s;
       elects = elects n ws w s;
       sends = sends n ws w s;

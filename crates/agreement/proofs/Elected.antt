@@ -1,9 +1,9 @@
--- Elect at a desk is the protocol's elect at what the desk says, and is never refused. Assumes nothing.
+-- Elect at a replica is the protocol's elect at what the replica says, and is never refused. Assumes nothing.
 use mathlib.Core.Path.{_≡_, ap}
-use mathlib.Core.Bool.{true, cond}
+use mathlib.Core.Bool.{true}
 use mathlib.Core.List.{List}
 use Prim.Native.Nat.{ℕ}
-use Rattle.protocol.specs.Tests.{pick}
+use Rattle.lists.specs.Tests.{pick}
 use Rattle.protocol.specs.Vote.{byWeights}
 use Rattle.protocol.specs.Office.{Office}
 use Rattle.protocol.specs.Elect.{withElect}
@@ -11,16 +11,16 @@ use Rattle.protocol.proofs.Lawful.{byWeights-lawful, lawful-voted}
 use Rattle.protocol.proofs.Limits.{elect-fine}
 use Rattle.frame.specs.Electing.{electOf, electWords}
 use Rattle.frame.proofs.Sound.{sound-true}
-use Rattle.agreement.specs.World.{Desk}
+use Rattle.agreement.specs.World.{Replica}
 use Rattle.agreement.specs.Demand.{says}
-use Rattle.agreement.proofs.View.{Manned}
-use Rattle.agreement.proofs.Held.{holds, desk-fine, moved-says, moved-manned}
+use Rattle.agreement.proofs.View.{SoundReplica}
+use Rattle.agreement.proofs.Held.{holds, replica-fine, moved-says, moved-sound}
 
--- the desk after the call
-abbrev pub electDesk : Desk → Desk
-electDesk d = record { held = electOf (d .held) (d .words) .«record»; words = electWords (d .held) (d .words) }
+-- the replica after the call
+abbrev pub electReplica : Replica → Replica
+electReplica d = record { held = electOf (d .held) (d .words) .«record»; words = electWords (d .held) (d .words) }
 
-module _ (n : ℕ) (ws : List ℕ) (k : ℕ) (d : Desk) (m : Manned n ws k d) where
+module _ (n : ℕ) (ws : List ℕ) (k : ℕ) (d : Replica) (m : SoundReplica n ws k d) where
   abbrev elected : Office
   elected = withElect (byWeights ws) (says d)
 
@@ -28,15 +28,15 @@ module _ (n : ℕ) (ws : List ℕ) (k : ℕ) (d : Desk) (m : Manned n ws k d) wh
   unfolding electOf pick
   elect-number = rw (sound-true (d .held) (d .words) (m .sound))
 
-  elect-desk : electDesk d ≡ cond true (holds d elected) d
+  elect-replica : electReplica d ≡ pick true (holds d elected) d
   unfolding electOf electWords pick
-  elect-desk = rw (sound-true (d .held) (d .words) (m .sound)) (ap (λ (l : List ℕ). holds d (withElect (byWeights l) (says d))) (m .weights))
+  elect-replica = rw (sound-true (d .held) (d .words) (m .sound)) (ap (λ (l : List ℕ). holds d (withElect (byWeights l) (says d))) (m .weights))
 
-  pub elect-says : says (electDesk d) ≡ elected
-  elect-says = moved-says n ws k d m true elected (electDesk d) elect-desk
+  pub elect-says : says (electReplica d) ≡ pick true elected (says d)
+  elect-says = moved-says n ws k d m true elected (electReplica d) elect-replica
 
-  pub elect-manned : Manned n ws k (electDesk d)
-  elect-manned =
+  pub elect-sound : SoundReplica n ws k (electReplica d)
+  elect-sound =
       let rule = byWeights ws in
-      moved-manned n ws k d m true elected (electDesk d) elect-desk
-      (λ _. elect-fine rule (lawful-voted rule (byWeights-lawful ws)) n (says d) (desk-fine n ws k d m))
+      moved-sound n ws k d m true elected (electReplica d) elect-replica
+      (λ _. elect-fine rule (lawful-voted rule (byWeights-lawful ws)) n (says d) (replica-fine n ws k d m))

@@ -6,17 +6,17 @@ use Rattle.protocol.specs.Office.{fresh}
 use Rattle.frame.specs.declared.Record.{Record}
 use Rattle.frame.specs.Founding.{foundOf}
 use Rattle.frame.proofs.Found.{found-done, found-sound, found-fresh}
-use Rattle.agreement.specs.World.{Desk}
+use Rattle.agreement.specs.World.{Replica}
 use Rattle.agreement.specs.Demand.{says}
-use Rattle.agreement.proofs.View.{Manned}
+use Rattle.agreement.proofs.View.{SoundReplica}
 
--- the desk that a founding makes
-abbrev pub foundDesk : ℕ → List ℕ → ℕ → List ℕ → Desk
-foundDesk n ws k words = record { held = foundOf n k ws words .«record»; words = words }
+-- the replica that a founding makes
+abbrev pub foundReplica : ℕ → List ℕ → ℕ → List ℕ → Replica
+foundReplica n ws k words = record { held = foundOf n k ws words .«record»; words = words }
 
 module _ (n : ℕ) (ws : List ℕ) (k : ℕ) (words : List ℕ) (done : foundOf n k ws words .number ≡ 0) where
-  pub found-manned : Manned n ws k (foundDesk n ws k words)
-  found-manned =
+  pub founding-sound : SoundReplica n ws k (foundReplica n ws k words)
+  founding-sound =
       let made = found-done n k ws words done .made in
       record {
         count = ap (λ (r : Record). r .n) made;
@@ -25,5 +25,5 @@ module _ (n : ℕ) (ws : List ℕ) (k : ℕ) (words : List ℕ) (done : foundOf 
         sound = found-sound n k ws words done;
       }
 
-  pub found-says : says (foundDesk n ws k words) ≡ fresh
+  pub found-says : says (foundReplica n ws k words) ≡ fresh
   found-says = found-fresh n k ws words done

@@ -11,5 +11,6 @@ pub mod Follows
 pub mod Numbers
 pub mod Demand
 pub mod Calls
-pub mod Opening
+pub mod Start
+pub mod ThreeOffices
 pub mod Rehearsed

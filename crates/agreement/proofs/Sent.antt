@@ -1,4 +1,4 @@
--- A done send at a desk posts the spelling of what the desk says, and a send at a desk is refused with 6 alone. Assumes nothing.
+-- A done send at a replica posts the spelling of what the replica says, and a send at a replica is refused with 6 alone. Assumes nothing.
 use mathlib.Core.Path.{_≡_, refl, sym, ap, ap₂, _∙_}
 use mathlib.Core.Bool.{Bool, true, false}
 use mathlib.Core.List.{List}
@@ -7,16 +7,16 @@ use Prim.Native.Nat.{ℕ}
 use lib.Dec.{ltb}
 use lib.ListN as L
 use lib.ListN.{length}
-use Rattle.protocol.specs.Tests.{pick}
+use Rattle.lists.specs.Tests.{pick}
 use Rattle.writer.specs.Written.{contentOf as contentBy}
 use Rattle.frame.specs.Sending.{contentOf, messageOf, sendNumber, sendOf}
 use Rattle.frame.proofs.Sound.{sound-true}
 use Rattle.frame.proofs.Send.{content-valid, content-message, send-wrote}
-use Rattle.agreement.specs.World.{Desk, posted}
+use Rattle.agreement.specs.World.{Replica, posted}
 use Rattle.agreement.specs.Demand.{says}
-use Rattle.agreement.proofs.View.{means, Manned, Spelled, means-content}
+use Rattle.agreement.proofs.View.{means, SoundReplica, Spelled, means-content}
 
-module _ (n : ℕ) (ws : List ℕ) (k : ℕ) (d : Desk) (m : Manned n ws k d) (out : List ℕ) where
+module _ (n : ℕ) (ws : List ℕ) (k : ℕ) (d : Replica) (m : SoundReplica n ws k d) (out : List ℕ) where
   pub send-number : (sendOf (d .held) (d .words) out .number ≡ 0) ⊎ (sendOf (d .held) (d .words) out .number ≡ 6)
   unfolding sendOf sendNumber pick
   send-number = rw (sound-true (d .held) (d .words) (m .sound)) (go (ltb (length out) (length (messageOf (d .held) (d .words)))))

@@ -8,14 +8,14 @@ use mathlib.Core.Logic.{_⊎_}
 use Prim.Native.Nat.{ℕ}
 use lib.ListN.{length}
 use Rattle.frame.specs.Soundness.{soundB}
-use Rattle.agreement.specs.World.{Desk, World, Call, send, take, elect, deskAt, number, step, after}
+use Rattle.agreement.specs.World.{Replica, World, Call, send, take, elect, replicaAt, number, step, after}
 
 pub record Kept (n : ℕ) (weights : List ℕ) (start : World) (cs : List Call) : Type 0 where
   -- there are n offices still; each has its own number, the founding's n and weights, and a record that is sound with its log
-  pub offices : length (after start cs .desks) ≡ n
-  pub own : (k : ℕ) (d : Desk) → deskAt (after start cs) k ≡ some d → d .held .own ≡ k
-  pub alike : (k : ℕ) (d : Desk) → deskAt (after start cs) k ≡ some d → (d .held .n ≡ n) × (d .held .weights ≡ weights)
-  pub sound : (k : ℕ) (d : Desk) → deskAt (after start cs) k ≡ some d → soundB (d .held) (d .words) ≡ true
+  pub offices : length (after start cs .replicas) ≡ n
+  pub own : (k : ℕ) (d : Replica) → replicaAt (after start cs) k ≡ some d → d .held .own ≡ k
+  pub alike : (k : ℕ) (d : Replica) → replicaAt (after start cs) k ≡ some d → (d .held .n ≡ n) × (d .held .weights ≡ weights)
+  pub sound : (k : ℕ) (d : Replica) → replicaAt (after start cs) k ≡ some d → soundB (d .held) (d .words) ≡ true
   -- so no call is refused with 1, and elect is never refused
   pub never-unsound : (c : Call) → number (after start cs) c ≡ 1 → ⊥
   pub elects : (k : ℕ) → number (after start cs) (elect k) ≡ 0

@@ -1,6 +1,7 @@
 -- Demand 3: "One order of edits is found behind all offices." A single claim about the whole list of calls and all its offices. The theorem
 -- is in proofs/Demand.antt:
 --     one-order : (n : ℕ) (weights : List ℕ) (start : World) → Founded n weights start → (cs : List Call) → OneOrder start cs
+-- and, with no hypothesis left, of three offices: `three-offices-one-order` in proofs/ThreeOffices.antt.
 -- "An edit is an entry", and an entry is its value. Assumes nothing.
 use mathlib.Core.Path.{_≡_}
 use mathlib.Core.List.{List, [], _∷_, _++_, map}
@@ -11,42 +12,42 @@ use lib.ListN.{length, getD}
 use Rattle.protocol.specs.Entry.{officeOf, lineOf, codeOf}
 use Rattle.protocol.specs.Beginning.{_⊑_}
 use Rattle.protocol.specs.Office.{Office, path}
-use Rattle.protocol.specs.OneOrder.{longest}
+use Rattle.protocol.specs.Longest.{longest}
 use Rattle.frame.specs.State.{heldBy}
 use Rattle.frame.specs.Founding.{foundOf}
-use Rattle.agreement.specs.World.{Desk, World, Call, issue, deskAt, onSome, number, after}
+use Rattle.agreement.specs.World.{Replica, World, Call, issue, replicaAt, onSome, number, after}
 
 -- "At the start there are n offices, numbers 0 to n−1, with the same n and weights, any that Found allows. Each has the record that its
 -- done founding returned and a log of its own, of any size and contents that Found allows. No message has been sent."
 pub record Founded (n : ℕ) (weights : List ℕ) (start : World) : Type 0 where
   pub any : 1 ≤ n
-  pub offices : length (start .desks) ≡ n
-  pub founded : (k : ℕ) (d : Desk) → deskAt start k ≡ some d
+  pub offices : length (start .replicas) ≡ n
+  pub founded : (k : ℕ) (d : Replica) → replicaAt start k ≡ some d
       → (foundOf n k weights (d .words) .number ≡ 0) × (d .held ≡ foundOf n k weights (d .words) .«record»)
   pub silent : start .sent ≡ []
 
 -- what an office's record and log say: its settled log and the tails of its ballots
-abbrev pub says : Desk → Office
+abbrev pub says : Replica → Office
 says d = heldBy (d .held) (d .words)
 
 -- office k's settled log; empty where there is no such office
 abbrev pub logAt : World → ℕ → List ℕ
-logAt w k = onSome (deskAt w k) [] (λ d. says d .log)
+logAt w k = onSome (replicaAt w k) [] (λ d. says d .log)
 
 -- "What an office has in view at an issue is its own path, by the record and log handed to that call."
 abbrev pub viewAt : World → ℕ → List ℕ
-viewAt w k = onSome (deskAt w k) [] (λ d. path (says d) (d .held .own))
+viewAt w k = onSome (replicaAt w k) [] (λ d. path (says d) (d .held .own))
 
 -- "The order is the longest settled log that any office has after the list; it is empty if nothing was settled."
 unfoldable pub order : World → List Call → List ℕ
-order start cs = longest (map (λ d. says d .log) (after start cs .desks))
+order start cs = longest (map (λ d. says d .log) (after start cs .replicas))
 
 -- "the list has a done issue at that entry's office, with its line and code, and the own path just before that call is" the view
 pub record IssuedIn (start : World) (cs : List Call) (view : List ℕ) (e : ℕ) : Type 0 where
   pub earlier : List Call
   pub later : List Call
   pub listed : earlier ++ (issue (officeOf e) (lineOf e) (codeOf e) ∷ later) ≡ cs
-  pub there : officeOf e < length (start .desks)
+  pub there : officeOf e < length (start .replicas)
   pub done : number (after start earlier) (issue (officeOf e) (lineOf e) (codeOf e)) ≡ 0
   pub exactly : viewAt (after start earlier) (officeOf e) ≡ view
 

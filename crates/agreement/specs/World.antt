@@ -6,7 +6,7 @@ use Prim.Native.Nat.{ℕ}
 use lib.Dec.{eqb}
 use lib.ListN as L
 use lib.ListN.{set, getElem?}
-use Rattle.protocol.specs.Tests.{pick}
+use Rattle.lists.specs.Tests.{pick}
 use Rattle.frame.specs.declared.Record.{Record}
 use Rattle.frame.specs.Issuing.{issueOf}
 use Rattle.frame.specs.Sending.{sendOf, sendBytes}
@@ -14,13 +14,13 @@ use Rattle.frame.specs.Taking.{takeOf, takeWords}
 use Rattle.frame.specs.Electing.{electOf, electWords}
 
 -- one office: its record, and the words of "a log of its own"
-pub record Desk : Type 0 where
+pub record Replica : Type 0 where
   pub held : Record
   pub words : List ℕ
 
 -- the offices, number 0 first, and the bytes of each message sent by now, the newest first
 pub record World : Type 0 where
-  pub desks : List Desk
+  pub replicas : List Replica
   pub sent : List (List ℕ)
 
 -- "issue at one of the offices, any line and code; send at one of them, output of any length; take at one of them, of any message sent by
@@ -32,8 +32,8 @@ pub data Call : Type 0 where
   elect : (k : ℕ) → Call
 
 -- the office that a call names, and the message that a take names; none where there is no such one
-abbrev pub deskAt : World → ℕ → Option Desk
-deskAt w k = getElem? (w .desks) k
+abbrev pub replicaAt : World → ℕ → Option Replica
+replicaAt w k = getElem? (w .replicas) k
 
 abbrev pub messageAt : World → ℕ → Option (List ℕ)
 messageAt w m = getElem? (w .sent) m
@@ -46,30 +46,30 @@ onSome (some a) b f = f a
 -- the call's number. "Each call gets its office's record and log as the last call at that office left them"; "a take is handed exactly the
 -- bytes of one sent message". A call that names no office that is there, or no message sent, is none of the paper's: 0, and nothing changes.
 unfoldable pub number : World → Call → ℕ
-number w (issue k line code) = onSome (deskAt w k) 0 (λ d. issueOf (d .held) (d .words) line code .number)
-number w (send k out) = onSome (deskAt w k) 0 (λ d. sendOf (d .held) (d .words) out .number)
-number w (take k m) = onSome (deskAt w k) 0 (λ d. onSome (messageAt w m) 0 (λ s. takeOf (d .held) (d .words) s .number))
-number w (elect k) = onSome (deskAt w k) 0 (λ d. electOf (d .held) (d .words) .number)
+number w (issue k line code) = onSome (replicaAt w k) 0 (λ d. issueOf (d .held) (d .words) line code .number)
+number w (send k out) = onSome (replicaAt w k) 0 (λ d. sendOf (d .held) (d .words) out .number)
+number w (take k m) = onSome (replicaAt w k) 0 (λ d. onSome (messageAt w m) 0 (λ s. takeOf (d .held) (d .words) s .number))
+number w (elect k) = onSome (replicaAt w k) 0 (λ d. electOf (d .held) (d .words) .number)
 
 -- "Issue, take and elect change their office only": it then has the record answered, and its log the words at the call's exit
 abbrev pub put : World → ℕ → Record → List ℕ → World
-put w k held words = record { desks = set (w .desks) k (record { held = held; words = words }); sent = w .sent }
+put w k held words = record { replicas = set (w .replicas) k (record { held = held; words = words }); sent = w .sent }
 
 -- "A done send adds its message to the sent ones"
 abbrev pub post : World → List ℕ → World
-post w s = record { desks = w .desks; sent = s ∷ w .sent }
+post w s = record { replicas = w .replicas; sent = s ∷ w .sent }
 
 -- "the first bytes of its output, as many as it answers"
-abbrev pub posted : Desk → List ℕ → List ℕ
+abbrev pub posted : Replica → List ℕ → List ℕ
 posted d out = L.take (sendOf (d .held) (d .words) out .length) (sendBytes (d .held) (d .words) out)
 
 -- the world after the call. A refused issue or take changes nothing because its answers say so (Calls.antt, `refused`).
 unfoldable pub step : World → Call → World
-step w (issue k line code) = onSome (deskAt w k) w (λ d. put w k (issueOf (d .held) (d .words) line code .«record») (d .words))
-step w (send k out) = onSome (deskAt w k) w (λ d. pick (eqb (sendOf (d .held) (d .words) out .number) 0) (post w (posted d out)) w)
+step w (issue k line code) = onSome (replicaAt w k) w (λ d. put w k (issueOf (d .held) (d .words) line code .«record») (d .words))
+step w (send k out) = onSome (replicaAt w k) w (λ d. pick (eqb (sendOf (d .held) (d .words) out .number) 0) (post w (posted d out)) w)
 step w (take k m) =
-    onSome (deskAt w k) w (λ d. onSome (messageAt w m) w (λ s. put w k (takeOf (d .held) (d .words) s .«record») (takeWords (d .held) (d .words) s)))
-step w (elect k) = onSome (deskAt w k) w (λ d. put w k (electOf (d .held) (d .words) .«record») (electWords (d .held) (d .words)))
+    onSome (replicaAt w k) w (λ d. onSome (messageAt w m) w (λ s. put w k (takeOf (d .held) (d .words) s .«record») (takeWords (d .held) (d .words) s)))
+step w (elect k) = onSome (replicaAt w k) w (λ d. put w k (electOf (d .held) (d .words) .«record») (electWords (d .held) (d .words)))
 
 -- the world after a list of calls, the oldest first
 unfoldable pub after : World → List Call → World

@@ -16,12 +16,12 @@ use lib.Dec.{eqb, leb, ltb}
 use lib.ListN.{length, getD, take, drop, replicate, getD-replicate, drop-of-length-le, take-append-drop}
 use lib.Seq.{getD-append-add, getD-take, length-take-le}
 use borrow.Author.Tests.{eqb-true, eq-eqb, le-leb, leb-true, lt-ltb, ltb-true, ltb-false}
-use Rattle.protocol.specs.Tests.{allB, both}
-use Rattle.protocol.specs.Entry.{isEntry}
+use Rattle.lists.specs.Tests.{allB, both}
+use Rattle.protocol.specs.Entry.{isEntry, proper}
 use Rattle.protocol.specs.Limits.{tailFine}
-use Rattle.protocol.proofs.Tests.{all-append, all-mono, all-take, and-true, both-0, both-1, both-true}
-use Rattle.entries.proofs.Carries.{alike, zero-next}
-use Rattle.entries.proofs.Walk.{AllWith, and-both, with-done}
+use Rattle.lists.proofs.Tests.{all-append, all-mono, all-take, and-true, both-0, both-1, both-true, alike}
+use Rattle.entries.proofs.Carries.{zero-next}
+use Rattle.lists.proofs.Walk.{AllWith, and-both, with-done}
 use Rattle.ballots.specs.Ballots.{ballotFine, ballotShape, tailOf}
 use Rattle.ballots.specs.Fours.{entryCells, maskWords, ofFour, unusedZero}
 use Rattle.ballots.specs.declared.Ballot.{Ballot}
@@ -101,7 +101,7 @@ unused-none b full none = let e : length (b .cells) ≤ b .len = omega arith in 
 
 -- ── the test of a ballot ──
 zero-entry : (n : ℕ) → 1 ≤ n → isEntry n 0 ≡ true
-unfolding isEntry both
+unfolding isEntry proper both
 zero-entry n some = rw (lt-ltb 0 n (omega arith))
 
 -- where n is not 0 a cell that is zero is an entry too

@@ -5,7 +5,7 @@
 --     tail-of, tails-of         the tail of the ballot that holds a tail
 --     push-held                 an entry more in the cells is an entry more in the tail
 --     none-empty, empty-none    no ballot is the empty tail
---     empty-is, none-fine       the ballot that the test `emptyBallot` passes, and that it is fine
+--     none-fine, empty-fine     no ballot is fine
 -- Assumes nothing.
 use mathlib.Core.Path.{_≡_, refl, sym, ap, ap₂, _∙_}
 use mathlib.Core.Bool.{Bool, true, false}
@@ -17,10 +17,10 @@ use lib.Dec.{eqb, ltb}
 use lib.ListN.{length, getD, take, drop, set, replicate, length-append, length-drop, take-append-drop, length-replicate}
 use lib.Seq.{length-take-le, set-split, drop-drop, take-append-seam, drop-append-seam}
 use borrow.Author.Tests.{eqb-true, leb-true, ltb-true, lt-ltb, eq-eqb, le-leb, lt-leb}
-use Rattle.protocol.specs.Tests.{allB, both, pick}
+use Rattle.lists.specs.Tests.{allB, both, pick}
 use Rattle.protocol.specs.Entry.{isEntry}
 use Rattle.protocol.specs.Limits.{isEmpty, tailFine}
-use Rattle.protocol.proofs.Tests.{both-0, both-1, both-true, both-false-1, all-append, all-at, all-mono, all-take, zeros, all-zeros, getD-map}
+use Rattle.lists.proofs.Tests.{both-0, both-1, both-true, both-false-1, all-append, all-at, all-mono, all-take, zeros, all-zeros, getD-map}
 use Rattle.ballots.specs.Ballots.{ballotShape, ballotFine, emptyBallot, tailOf, ballotOf, noBallot, pushed, isNoBallot, offEnd}
 use Rattle.ballots.specs.declared.Ballot.{Ballot}
 
@@ -128,7 +128,7 @@ empty-none [] h = refl
 empty-none (x ∷ t) h = let z : _≡_ {A = ℕ} 0 1 = cc in absurd (omega arith)
 
 -- what the test whether a ballot is none says
-pub empty-is : (b : Ballot) → emptyBallot b ≡ true → b ≡ noBallot
+empty-is : (b : Ballot) → emptyBallot b ≡ true → b ≡ noBallot
 unfolding emptyBallot
 empty-is b e = λ i. record {
   len = sym (eqb-true 0 (b .len) (both-0 _ _ e)) i;
@@ -142,3 +142,6 @@ empty-is b e = λ i. record {
 pub none-fine : (n settled : ℕ) → settled ≤ 1024 → ballotFine n settled noBallot ≡ true
 unfolding tailFine allB
 none-fine n settled h = fine-tail n settled [] (both-true _ _ refl (both-true _ _ (le-leb (settled + 0) 1024 (omega arith)) refl))
+
+pub empty-fine : (n settled : ℕ) → settled ≤ 1024 → (b : Ballot) → emptyBallot b ≡ true → (ballotFine n settled b ≡ true) × (isNoBallot b ≡ true)
+empty-fine n settled h b e = (ap (ballotFine n settled) (empty-is b e) ∙ none-fine n settled h, ap isNoBallot (empty-is b e))

@@ -1,5 +1,4 @@
 -- Laws that belong to no one function.
+pub mod Eight
 pub mod Fours
 pub mod Laws
-pub mod Same
-pub mod Sums

@@ -1,11 +1,12 @@
--- A ballot as cells and the tail that it holds; when a ballot and the weights are within document 01's limits. Assumes nothing.
+-- A ballot as cells and the tail that it holds; when ballots are within document 01's limits. Assumes nothing.
 use Prim.Native.Nat.{ℕ, _+_, _-_}
-use mathlib.Core.Bool.{Bool, true, false}
-use mathlib.Core.List.{List, [], _∷_, _++_}
+use mathlib.Core.Bool.{Bool}
+use mathlib.Core.List.{List, [], _++_, map}
 use lib.Dec.{ltb, leb, eqb}
 use lib.ListN.{length, take, drop, set, replicate}
-use Rattle.protocol.specs.Tests.{both, pick, allB}
-use Rattle.protocol.specs.Limits.{tailFine}
+use Rattle.lists.specs.Tests.{both, pick, allB}
+use Rattle.protocol.specs.Office.{Office}
+use Rattle.protocol.specs.Limits.{tailFine, tailsFine}
 use Rattle.ballots.specs.declared.Ballot.{Ballot}
 
 -- the tail that a ballot holds
@@ -39,18 +40,18 @@ ballotShape b = both (eqb (length (b .cells)) 32) (both (leb (b .len) 32) (allB 
 unfoldable pub ballotFine : ℕ → ℕ → Ballot → Bool
 ballotFine n settled b = both (ballotShape b) (tailFine n settled (tailOf b))
 
+-- eight ballots of such a record: each in shape, and the tails that they hold within their limits
+unfoldable pub ballotsFine : ℕ → ℕ → List Ballot → Bool
+ballotsFine n settled bs = both (allB ballotShape bs) (tailsFine n settled (map tailOf bs))
+
+-- the office's state in a log's words and eight ballots: "its first settled-length words are the settled log"
+abbrev pub officeIn : List ℕ → ℕ → List Ballot → Office
+officeIn words settled bs = record { log = take settled words; tails = map tailOf bs }
+
+-- a log's words with a settled log in front; "the others .. keep their contents"
+abbrev pub wordsWith : List ℕ → List ℕ → List ℕ
+wordsWith log words = log ++ drop (length log) words
+
 -- the ballot with one entry more; a full one is unchanged
 unfoldable pub pushed : Ballot → ℕ → Ballot
 pushed b e = pick (ltb (b .len) 32) (record { len = b .len + 1; cells = set (b .cells) (b .len) e }) b
-
--- two lists of weights are the same
-unfoldable pub same : List ℕ → List ℕ → Bool
-same [] [] = true
-same [] (v ∷ vs) = false
-same (w ∷ ws) [] = false
-same (w ∷ ws) (v ∷ vs) = both (eqb w v) (same ws vs)
-
--- "sum, the total"
-unfoldable pub totalWeight : List ℕ → ℕ
-totalWeight [] = 0
-totalWeight (w ∷ ws) = w + totalWeight ws

@@ -5,7 +5,7 @@ use mathlib.Core.List.{List, _++_}
 use lib.Dec.{eqb, leb, ltb}
 use lib.ListN.{length, drop, replicate}
 use Rattle.protocol.specs.Entry.{isEntry}
-use Rattle.protocol.specs.Tests.{both, pick, allB}
+use Rattle.lists.specs.Tests.{both, pick, allB}
 use Rattle.ballots.specs.declared.Ballot.{Ballot}
 
 -- a ballot of this length may stand at this place of a record of n offices: no path past 1024, and none from office n on

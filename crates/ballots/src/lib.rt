@@ -1,11 +1,10 @@
-// Ballots by value: the test of one, and the tests of the eight weights.
+// Ballots by value: none, one entry more, and the test of eight.
 ghost use mathlib.Core.Path.{_≡_};
 ghost use lib.Bits.{bitAnd};
-ghost use lib.Dec.{eqb};
-ghost use lib.ListN.{drop};
 ghost use Prim.Native.Nat.{_≤_};
-ghost use Rattle.protocol.specs.Tests.{allB};
-ghost use Rattle.ballots.specs.Ballots.{emptyBallot, totalWeight, noBallot, pushed, same};
+ghost use lib.Dec.{eqb};
+ghost use Rattle.lists.specs.Tests.{allB};
+ghost use Rattle.ballots.specs.Ballots.{emptyBallot, noBallot, pushed, ballotsFine};
 ghost use Rattle.ballots.specs.Fours.{entryCells, fitsAt, maskWords, ofFour, unusedZero};
 
 // A tail of 0 to 32 entries in the first cells. Unused cells are zero; length 0 means none.
@@ -15,7 +14,8 @@ pub struct Ballot {
     pub cells: [u32; 32],
 }
 
-// Walks of fixed length over the cells: they need no copy of the array, as a part of it would.
+// Walks of fixed length over the cells need no copy of the array, as a walk over a part of it would. They go over four ballots at once: the
+// compiler takes a walk over four into its caller, where the ballots need no copy; a walk over one it would call, with a copy for each.
 
 // Whether all the cells are zero.
 fn zero_cells(cells: [u32; 32]) -> bool
@@ -28,11 +28,20 @@ fn zero_cells(cells: [u32; 32]) -> bool
     good
 }
 
-// The two walks over four ballots are public only for `frame`, which tests eight. The compiler takes a walk over four into its caller,
-// where the ballots then need no copy; a walk over one it would call, with a copy for each.
+// Whether every ballot is none, as after an election they often are.
+fn no_ballots(all: [Ballot; 8]) -> bool
+    ensures { λ r. ⌜ r ≡ allB emptyBallot all ⌝ }
+{
+    let mut none = true;
+    for i in 0..8 {
+        let b = all[i];
+        none = none & b.is_none();
+    }
+    none
+}
 
 // Whether all the cells of four ballots are entries for n offices.
-pub fn four_entries(a: Ballot, b: Ballot, c: Ballot, d: Ballot, n: usize) -> bool
+fn four_entries(a: Ballot, b: Ballot, c: Ballot, d: Ballot, n: usize) -> bool
     ensures { λ r. ⌜ r ≡ ofFour (entryCells n) a b c d ⌝ }
 {
     let w = a.cells;
@@ -53,7 +62,7 @@ pub fn four_entries(a: Ballot, b: Ballot, c: Ballot, d: Ballot, n: usize) -> boo
 }
 
 // 32 words without bits and 32 with all: from place 32 - len on they are the masks of the unused cells of a ballot.
-pub fn masks() -> [u32; 64]
+fn masks() -> [u32; 64]
     ensures { λ r. ⌜ r ≡ maskWords ⌝ }
 {
     let mut words: [u32; 64] = [4294967295; 64];
@@ -71,7 +80,7 @@ fn masked(word: u32, mask: u32) -> u32
 }
 
 // Whether the unused cells of four ballots are zero. Full ones have none.
-pub fn four_unused(a: Ballot, b: Ballot, c: Ballot, d: Ballot, masks: &[u32]) -> bool
+fn four_unused(a: Ballot, b: Ballot, c: Ballot, d: Ballot, masks: &[u32]) -> bool
     requires { ⌜ (now masks ≡ maskWords) × ((a .len ≤ 32) × ((b .len ≤ 32) × ((c .len ≤ 32) × (d .len ≤ 32)))) ⌝ }
     ensures { λ r. ⌜ r ≡ ofFour unusedZero a b c d ⌝ }
 {
@@ -106,7 +115,7 @@ impl Ballot {
     pub const PATH: usize = 1024;
 
     // Whether the ballot is none: no entries, and every cell zero.
-    pub fn is_none(self) -> bool
+    fn is_none(self) -> bool
         ensures { λ r. ⌜ r ≡ emptyBallot self ⌝ }
     {
         let cells = self.cells;
@@ -139,7 +148,7 @@ impl Ballot {
 }
 
 // Whether a ballot of this length may stand at this place: with the settled log it makes no path past 1024, and from place n on it is none.
-pub fn fits(len: usize, place: usize, n: usize, settled: usize) -> bool
+fn fits(len: usize, place: usize, n: usize, settled: usize) -> bool
     ensures { λ r. ⌜ r ≡ fitsAt n settled place len ⌝ }
 {
     if place >= n {
@@ -151,37 +160,33 @@ pub fn fits(len: usize, place: usize, n: usize, settled: usize) -> bool
     settled <= Ballot::PATH - len
 }
 
-// Whether the weights from place n on are zero.
-pub fn zero_from(weights: [u16; 8], n: usize) -> bool
-    ensures { λ r. ⌜ r ≡ allB (eqb 0) (drop n weights) ⌝ }
+// Whether eight ballots are within the limits beside a settled log of this length: at once where there are none, else their lengths first,
+// then their cells. It serves a record and a message alike. Public only for the crates above, which prove what it requires.
+pub fn fine(all: [Ballot; 8], n: usize, settled: usize) -> bool
+    requires { ⌜ (1 ≤ n) × (settled ≤ 1024) ⌝ }
+    ensures { λ r. ⌜ r ≡ ballotsFine n settled all ⌝ }
 {
-    for i in n..8 {
-        if weights[i] != 0 {
-            return false;
-        }
+    if no_ballots(all) {
+        return true;
     }
-    true
-}
-
-// The sum of the weights.
-pub fn total_weight(weights: [u16; 8]) -> u32
-    ensures { λ r. ⌜ r ≡ totalWeight weights ⌝ }
-{
-    let mut sum: u32 = 0;
+    let mut fit = true;
     for i in 0..8 {
-        sum = sum + weights[i] as u32;
+        fit = fit & fits(all[i].len, i, n, settled);
     }
-    sum
-}
-
-// Whether the weights are the same.
-pub fn same_weights(weights: [u16; 8], others: [u16; 8]) -> bool
-    ensures { λ r. ⌜ r ≡ same weights others ⌝ }
-{
-    for i in 0..8 {
-        if weights[i] != others[i] {
-            return false;
-        }
+    if !fit {
+        return false;
     }
-    true
+    let a = all[0];
+    let b = all[1];
+    let c = all[2];
+    let d = all[3];
+    let e = all[4];
+    let f = all[5];
+    let g = all[6];
+    let h = all[7];
+    if !(four_entries(a, b, c, d, n) & four_entries(e, f, g, h, n)) {
+        return false;
+    }
+    let masks = masks();
+    four_unused(a, b, c, d, &masks) & four_unused(e, f, g, h, &masks)
 }

@@ -1,6 +1,4 @@
 -- The raised numbers of words: no carry says that each word is an entry, and words may be joined by `|` before the bits are looked at.
---     alike               two tests that hold in the same cases
---     both-comm, both-assoc, both-swap     conjunctions in any order
 --     at-most-256         the offices that a word is raised for
 --     no-carry-raised     one word: no carry exactly where it is an entry
 --     no-carry-or         joined numbers: no carry exactly where neither has one
@@ -17,34 +15,12 @@ use lib.Dec.{eqb, leb, ltb}
 use lib.ListN.{getD, length}
 use lib.Bits.{bitOr, or-add-and, and-le-l, and-le-r, or-shr, or-mod}
 use borrow.Author.Tests.{eqb-true, leb-true, ltb-true, eq-eqb, le-leb, lt-ltb}
-use Rattle.protocol.specs.Tests.{both, pick}
-use Rattle.protocol.specs.Entry.{isEntry}
-use Rattle.protocol.proofs.Tests.{pick-cases, both-0, both-1, both-true}
+use Rattle.lists.specs.Tests.{both, pick}
+use Rattle.protocol.specs.Entry.{isEntry, proper}
+use Rattle.lists.proofs.Tests.{pick-cases, both-0, both-1, both-true, alike, both-comm, both-assoc, both-swap}
 use Rattle.entries.specs.Carries.{raised, noCarry}
-use Rattle.entries.proofs.Walk.{AllWith, with-next, and-both}
+use Rattle.lists.proofs.Walk.{AllWith, with-next, and-both}
 use Rattle.entries.proofs.Word.{few-offices}
-
--- two tests that hold in the same cases
-pub alike : (a b : Bool) → (a ≡ true → b ≡ true) → (b ≡ true → a ≡ true) → a ≡ b
-alike true b p q = sym (p refl)
-alike false true p q = q refl
-alike false false p q = refl
-
--- conjunctions in any order
-pub both-comm : (a b : Bool) → both a b ≡ both b a
-unfolding both
-both-comm true true = refl
-both-comm true false = refl
-both-comm false true = refl
-both-comm false false = refl
-
-pub both-assoc : (a b c : Bool) → both (both a b) c ≡ both a (both b c)
-unfolding both
-both-assoc true b c = refl
-both-assoc false b c = refl
-
-pub both-swap : (a b c : Bool) → both a (both b c) ≡ both b (both a c)
-both-swap a b c = sym (both-assoc a b c) ∙ ap (λ (t : Bool). both t c) (both-comm a b) ∙ both-assoc b a c
 
 ruleset any-order = (both-comm, both-assoc, both-swap)
 
@@ -82,7 +58,7 @@ module _ (n w : ℕ) (h : w < 4294967296) where
 
 -- one word: no carry exactly where it is an entry
 pub no-carry-raised : (n w : ℕ) → w < 4294967296 → noCarry (raised n w) ≡ isEntry n w
-unfolding noCarry isEntry
+unfolding noCarry isEntry proper
 no-carry-raised n w h = rw (code-carries n w h, line-stands n w h, office-carries n w h) (simp any-order) ∙ few-offices n w h
 
 -- two numbers joined are 0 where both are

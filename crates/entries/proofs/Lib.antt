@@ -1,6 +1,4 @@
 -- Laws that belong to no one function.
-
 pub mod Carries
-pub mod Fill
-pub mod Walk
+pub mod LastCode
 pub mod Word

@@ -5,9 +5,9 @@ use Prim.Native.Nat.{ℕ, _<_, _/_}
 use native.Mathlib.Omega.{arith}
 use lib.Dec.{leb, ltb}
 use borrow.Author.Tests.{leb-false, lt-ltb}
-use Rattle.protocol.specs.Tests.{pick}
-use Rattle.protocol.specs.Entry.{isEntry}
-use Rattle.protocol.proofs.Tests.{pick-cases}
+use Rattle.lists.specs.Tests.{pick}
+use Rattle.protocol.specs.Entry.{isEntry, proper}
+use Rattle.lists.proofs.Tests.{pick-cases}
 
 -- a word's office is below 256, so a limit above that tests as 256 does
 pub few-offices : (n v : ℕ) → v < 4294967296 → isEntry (pick (leb n 256) n 256) v ≡ isEntry n v

@@ -2,7 +2,7 @@
 use Prim.Native.Nat.{ℕ, _+_, _-_, _*_, _/_, _%_}
 use mathlib.Core.Bool.{Bool}
 use lib.Dec.{eqb, ltb, leb}
-use Rattle.protocol.specs.Tests.{both, pick}
+use Rattle.lists.specs.Tests.{both, pick}
 
 -- a word's office, the upper two bits of its line and half its code, raised for n offices: the office carries into bit 31, the code into
 -- bit 15, and the line's two bits stand at bits 21 and 22

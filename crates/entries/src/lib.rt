@@ -1,7 +1,7 @@
 // Entries as 32-bit words: packing, the tests of words, and walks over a slice of them.
 ghost use mathlib.Core.Path.{_≡_};
 ghost use lib.Dec.{eqb, leb};
-ghost use Rattle.protocol.specs.Tests.{allB, pick};
+ghost use Rattle.lists.specs.Tests.{allB, pick};
 ghost use Rattle.protocol.specs.Entry.{value, lineOf, isEntry};
 ghost use Rattle.protocol.specs.Frames.{lastCode};
 ghost use Rattle.entries.specs.Carries.{raised, noCarry};

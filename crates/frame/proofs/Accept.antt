@@ -13,29 +13,30 @@ use lib.Dec.{eqb}
 use lib.ListN.{length, take, drop, replicate}
 use lib.Seq.{take-append-seam, take-at}
 use borrow.Author.Tests.{eqb-true, ne-eqb}
-use Rattle.protocol.specs.Tests.{pick}
+use Rattle.lists.specs.Tests.{pick}
 use Rattle.protocol.specs.Beginning.{begins}
 use Rattle.protocol.specs.Office.{Office, Message}
 use Rattle.protocol.specs.Take.{withTake, refuseTake}
-use Rattle.protocol.proofs.Tests.{both-0, both-1, take-map}
+use Rattle.lists.proofs.Tests.{both-0, both-1, take-map}
 use Rattle.protocol.proofs.Limits as Limits
-use Rattle.ballots.specs.Ballots.{tailOf, ballotOf}
+use Rattle.ballots.specs.Ballots.{tailOf, ballotOf, wordsWith}
 use Rattle.ballots.proofs.Laws.{tails-of}
-use Rattle.ballots.proofs.Same.{same-true}
-use Rattle.spelling.specs.Numbers.{Bytes}
+use Rattle.lists.proofs.Same.{same-true}
+use Rattle.numbers.specs.Numbers.{Bytes}
 use Rattle.spelling.specs.Content.{Content, asMessage, eightTails, validContent}
 use Rattle.spelling.specs.Spelling.{spelling}
 use Rattle.spelling.specs.Reading.{reading}
 use Rattle.spelling.proofs.Valid.{valid-facts, valid-office}
 use Rattle.spelling.proofs.Laws.{reading-spelling, spelling-reading}
 use Rattle.writer.specs.Written as written
-use Rattle.frame.specs.State.{heldBy, holding, wordsWith}
-use Rattle.frame.specs.Soundness.{Head, Sound}
+use Rattle.frame.specs.State.{heldBy, holding, freshRecord}
+use Rattle.protocol.specs.Limits.{Head}
+use Rattle.frame.specs.Soundness.{Sound}
 use Rattle.frame.specs.Sending.{contentOf, messageOf}
-use Rattle.frame.specs.Taking.{sameOffices, refuseContent, takeNumber, takeOf, takeWords}
+use Rattle.frame.specs.Taking.{sameOffices, takeNumber, takeOf, takeWords}
 use Rattle.frame.specs.declared.Record.{Record}
 use Rattle.frame.proofs.State.{held-by, held-fine, sound-of}
-use Rattle.frame.proofs.Take.{Accepted, accepted, take-refused, take-done-is, taken-office, not-read, read-number}
+use Rattle.frame.proofs.Take.{Accepted, accepted, take-refused, take-done-is, taken-office, not-read, other, like}
 
 number-is : (r : Record) (words s : List ℕ) → takeOf r words s .number ≡ takeNumber r words s
 unfolding takeOf
@@ -44,7 +45,7 @@ number-is r words s = refl
 -- ── the record after a call ──
 pub take-keeps : (r : Record) (words s : List ℕ) → (takeOf r words s .number ≡ 0 → ⊥) → (takeOf r words s .«record» ≡ r) × (takeWords r words s ≡ words)
 take-keeps r words s h =
-    let e = take-refused r words s (takeNumber r words s) refl (ne-eqb _ 0 (λ q. h (number-is r words s ∙ q))) _ refl in
+    let e = take-refused r words s (takeNumber r words s) refl (λ q. h (number-is r words s ∙ q)) in
     (ap (λ t. t .«record») (sym (e .0)), sym (e .1))
 
 -- an accepted message says a content; of bytes it is valid
@@ -93,7 +94,7 @@ module _ (r : Record) (words s : List ℕ) (done : takeOf r words s .number ≡ 
 
     -- "accepts no other spelling": the message is what send writes for a sound record, the sender's as the message tells it
     sender : Record
-    sender = record { n = r .n; own = found .content .sender; weights = r .weights; settled = r .settled; ballots = r .ballots }
+    sender = freshRecord (r .n) (found .content .sender) (r .weights)
 
     sender-head : Head (r .n) (found .content .sender) (r .weights)
     sender-head =
@@ -105,7 +106,7 @@ module _ (r : Record) (words s : List ℕ) (done : takeOf r words s .number ≡ 
           most = H .most;
           member = subst (λ (n : ℕ). found .content .sender < n) same-count (valid-facts (found .content) valid .sender-below);
           rest = H .rest;
-          total = H .total;
+          total-some = H .total-some;
         }
 
     abbrev state : Office
@@ -148,12 +149,11 @@ refuse-seven k m o = go (eqb (m .sender) k) (begins (o .log) (m .state .log) || 
 
 module _ (r : Record) (words : List ℕ) (S : Sound r words) where
   read-seven : (s : List ℕ) (c : Content) → reading s ≡ some c → takeNumber r words s ≡ 7 → ⊥
-  unfolding refuseContent pick
-  read-seven s c e q = go (sameOffices r c) (sym (read-number r words s S c e) ∙ q)
+  read-seven s c e q = go (sameOffices r c) refl
     where
-      go : (b : Bool) → _≡_ {A = ℕ} (pick b (refuseTake (r .own) (asMessage c) (heldBy r words)) 8) 7 → ⊥
-      go true h = refuse-seven (r .own) (asMessage c) (heldBy r words) h
-      go false h = omega arith
+      go : (b : Bool) → sameOffices r c ≡ b → ⊥
+      go true d = refuse-seven (r .own) (asMessage c) (heldBy r words) (sym (like r words s S c e d) ∙ q)
+      go false d = omega (arith, other r words s S c e d, q)
 
   pub reads-spellings : (c : Content) → validContent c ≡ true → takeNumber r words (spelling c) ≡ 7 → ⊥
   reads-spellings c v = read-seven (spelling c) c (reading-spelling c v)

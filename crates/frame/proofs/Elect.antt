@@ -5,7 +5,6 @@
 --     elect-sound, elect-state   a done elect leaves a sound record with its words, and the protocol's state
 --     elect-grows, elect-ends    its count is the log's growth, and no entry wins afterwards
 --     elect-keeps        a refused one leaves both
---     elect-quiet        and so does one without ballots, which settles nothing
 -- Assumes nothing.
 use mathlib.Core.Path.{_≡_, refl, sym, ap, ap₂, subst₂, _∙_}
 use mathlib.Core.Bool.{Bool, true, false}
@@ -16,25 +15,22 @@ use native.Mathlib.Numerals.{add-one}
 use native.Mathlib.Omega.{arith}
 use lib.ListN.{length, take, drop, set, length-append}
 use lib.Seq.{set-split, drop-append-add, drop-drop}
-use Rattle.protocol.specs.Tests.{both, pick, allB}
+use Rattle.lists.specs.Tests.{pick}
 use Rattle.protocol.specs.Entry.{isEntry}
 use Rattle.protocol.specs.Vote.{Rule}
 use Rattle.protocol.specs.Office.{Office, votes}
 use Rattle.protocol.specs.Elect.{lose, settle, tailEntries, next, electing, withElect, electCount}
-use Rattle.protocol.proofs.Tests.{both-0, both-1}
 use Rattle.protocol.proofs.Vote.{byWeights-voted}
 use Rattle.protocol.proofs.Limits as Limits
 use Rattle.protocol.proofs.Elect.{elect-none, elect-some, elect-log, elect-stops}
-use Rattle.ballots.specs.Ballots.{tailOf, ballotOf, emptyBallot}
+use Rattle.ballots.specs.Ballots.{tailOf, ballotOf, wordsWith}
 use Rattle.ballots.specs.declared.Ballot.{Ballot}
-use Rattle.ballots.proofs.Laws.{empty-is}
-use Rattle.frame.specs.State.{heldBy, holding, wordsWith}
-use Rattle.frame.specs.Soundness.{frontFine, soundB, Sound}
+use Rattle.frame.specs.State.{heldBy, withHeld, holding}
+use Rattle.frame.specs.Soundness.{soundB, Sound}
 use Rattle.frame.specs.Electing.{ruleOf, electedOf, electOf, electWords, winnerOf, stepOf, stepWords}
 use Rattle.frame.specs.declared.Record.{Record}
 use Rattle.frame.specs.declared.electing.Elected.{Elected}
 use Rattle.frame.proofs.Sound.{sound}
-use Rattle.frame.proofs.Front.{quiet-sound}
 use Rattle.frame.proofs.State.{log-length, held, held-by, held-fine, words-kept, words-length, sound-of}
 
 -- ── one step ──
@@ -59,15 +55,9 @@ module _ (r : Record) (words : List ℕ) (S : Sound r words) (e : ℕ) (w : winn
 
   -- the next record holds the state with e settled
   step-held : (bs : List Ballot) → bs ≡ map ballotOf (map (lose e) (map tailOf (r .ballots)))
-      → _≡_ {A = Record} (record { n = r .n; own = r .own; weights = r .weights; settled = r .settled + 1; ballots = bs }) (holding r (stepped r words e))
+      → withHeld r (r .settled + 1) bs ≡ holding r (stepped r words e)
   unfolding settle
-  step-held bs q = λ i. record {
-    n = r .n;
-    own = r .own;
-    weights = r .weights;
-    settled = sym next-length i;
-    ballots = q i;
-  }
+  step-held bs q = ap₂ (withHeld r) (sym next-length) q
 
   -- and so do the words with e written behind the settled log
   step-words : set words (r .settled) e ≡ wordsWith (stepped r words e .log) words
@@ -85,7 +75,7 @@ module _ (r : Record) (words : List ℕ) (S : Sound r words) (e : ℕ) (w : winn
   step-settled = next-length
 
   pub step-won : (bs : List Ballot) → bs ≡ map ballotOf (map (lose e) (map tailOf (r .ballots)))
-      → (_≡_ {A = Record} (record { n = r .n; own = r .own; weights = r .weights; settled = r .settled + 1; ballots = bs }) (stepOf r words)) × (set words (r .settled) e ≡ stepWords r words)
+      → (withHeld r (r .settled + 1) bs ≡ stepOf r words) × (set words (r .settled) e ≡ stepWords r words)
   unfolding stepOf stepWords
   step-won bs q = (
     step-held bs q ∙ ap (λ (x : Option ℕ). next x r (λ f. holding r (stepped r words f))) (sym w),
@@ -203,39 +193,6 @@ module _ (r₀ : Record) (words₀ : List ℕ) (r : Record) (words : List ℕ) (
 pub elect-unsound : (r : Record) (words : List ℕ) → soundB r words ≡ false → (_≡_ {A = Elected} (record { «record» = r; number = 1; count = 0 }) (electOf r words)) × (words ≡ electWords r words)
 unfolding electOf electWords pick
 elect-unsound r words e = (simp e, simp e)
-
--- without ballots the tails have no entries
-no-entries : (bs : List Ballot) → allB emptyBallot bs ≡ true → tailEntries (map tailOf bs) ≡ 0
-unfolding allB
-no-entries [] q = refl
-no-entries (b ∷ bs) q = ap₂ (λ (k m : ℕ). k + m) (ap (λ (x : Ballot). length (tailOf x)) (empty-is b (both-0 _ _ q))) (no-entries bs (both-1 _ _ q))
-
--- and without entries no step is made
-no-step : (rule : Rule) (o : Office) → tailEntries (o .tails) ≡ 0 → withElect rule o ≡ o
-unfolding withElect electing
-no-step rule o z = ap (λ (k : ℕ). electing rule k o) z
-
--- so elect settles nothing, and leaves the record and its words
-pub elect-quiet : (r : Record) (words : List ℕ) → both (allB emptyBallot (r .ballots)) (frontFine (r .n) (r .own) (r .weights) (r .settled) words) ≡ true → length (r .ballots) ≡ 8
-    → (_≡_ {A = Elected} (record { «record» = r; number = 0; count = 0 }) (electOf r words)) × (words ≡ electWords r words)
-unfolding electOf electWords pick
-elect-quiet r words q l =
-    (rw e (λ i. record { «record» = made i; number = 0; count = count i }), rw e kept)
-  where
-    e : soundB r words ≡ true
-    e = quiet-sound r words q l
-
-    same : electedOf r words ≡ heldBy r words
-    same = no-step (ruleOf r) (heldBy r words) (no-entries (r .ballots) (both-0 _ _ q))
-
-    made : r ≡ holding r (electedOf r words)
-    made = sym (ap (holding r) same ∙ held r words (sound r words e))
-
-    count : 0 ≡ electCount (ruleOf r) (heldBy r words)
-    count = omega (arith, ap (λ (o : Office). length (o .log)) same)
-
-    kept : words ≡ wordsWith (electedOf r words .log) words
-    kept = sym (ap (λ (o : Office). wordsWith (o .log) words) same ∙ words-kept r words (sound r words e))
 
 pub elect-zero : (r : Record) (words : List ℕ) → soundB r words ≡ true → electOf r words .number ≡ 0
 unfolding electOf pick

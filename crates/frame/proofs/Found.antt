@@ -10,14 +10,15 @@ use native.Mathlib.Omega.{arith}
 use lib.Dec.{leb}
 use lib.ListN.{length}
 use borrow.Author.Tests.{leb-true}
-use Rattle.protocol.specs.Tests.{pick}
+use Rattle.lists.specs.Tests.{pick}
 use Rattle.protocol.specs.Office.{fresh}
 use Rattle.protocol.proofs.Limits as Limits
-use Rattle.frame.specs.State.{heldBy, zeroRecord}
-use Rattle.frame.specs.Soundness.{roomy, headFine, Head, Sound}
-use Rattle.frame.specs.Founding.{freshRecord, foundNumber, foundOf}
+use Rattle.protocol.specs.Limits.{headFine, Head}
+use Rattle.soundness.specs.Soundness.{longEnough}
+use Rattle.frame.specs.State.{heldBy, freshRecord, zeroRecord}
+use Rattle.frame.specs.Soundness.{Sound}
+use Rattle.frame.specs.Founding.{foundNumber, foundOf}
 use Rattle.frame.specs.declared.Record.{Record}
-use Rattle.frame.proofs.Sound.{head}
 use Rattle.frame.proofs.State.{held-by, sound-of}
 
 -- what a done founding found, and the record that it made
@@ -27,11 +28,11 @@ pub record FoundDone (n own : ℕ) (ws words : List ℕ) : Type 0 where
   pub made : foundOf n own ws words .«record» ≡ freshRecord n own ws
 
 pub found-done : (n own : ℕ) (ws words : List ℕ) → foundOf n own ws words .number ≡ 0 → FoundDone n own ws words
-unfolding foundOf foundNumber roomy pick
+unfolding foundOf foundNumber longEnough pick
 found-done n own ws words q = go (leb 1024 (length words)) refl (headFine n own ws) refl q
   where
     go : (a : Bool) → leb 1024 (length words) ≡ a → (b : Bool) → headFine n own ws ≡ b → _≡_ {A = ℕ} (pick a (pick b 0 2) 1) 0 → FoundDone n own ws words
-    go true e true f z = record { room = leb-true 1024 (length words) e; head = head n own ws f; made = rw (e, f) }
+    go true e true f z = record { room = leb-true 1024 (length words) e; head = Limits.head n own ws f; made = rw (e, f) }
     go true e false f z = absurd (omega arith)
     go false e b f z = absurd (omega arith)
 
@@ -47,7 +48,7 @@ module _ (n own : ℕ) (ws words : List ℕ) (q : foundOf n own ws words .number
 
 pub found-zero : (n own : ℕ) (ws words : List ℕ) → (foundOf n own ws words .number ≡ 0 → ⊥) → foundOf n own ws words .«record» ≡ zeroRecord
 unfolding foundOf foundNumber pick
-found-zero n own ws words q = go (roomy words) (headFine n own ws) q
+found-zero n own ws words q = go (longEnough words) (headFine n own ws) q
   where
     go : (a b : Bool) → (_≡_ {A = ℕ} (pick a (pick b 0 2) 1) 0 → ⊥) → pick a (pick b (freshRecord n own ws) zeroRecord) zeroRecord ≡ zeroRecord
     go true true z = absurd (z refl)

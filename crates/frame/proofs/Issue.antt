@@ -15,15 +15,15 @@ use lib.ListN.{length, getD, set}
 use borrow.Author.Tests.{eq-eqb, ne-eqb}
 use Rattle.protocol.specs.Entry.{value}
 use Rattle.protocol.specs.Office.{tail}
-use Rattle.protocol.specs.Issue.{withIssue, refuseIssue}
-use Rattle.protocol.proofs.Tests.{pick-true, pick-false, map-set}
+use Rattle.protocol.specs.Issue.{withIssue, refusalAt, refuseIssue}
+use Rattle.lists.proofs.Tests.{pick-true, pick-false, map-set}
 use Rattle.protocol.proofs.Limits as Limits
-use Rattle.ballots.specs.Ballots.{tailOf, ballotOf, offEnd, pushed}
+use Rattle.ballots.specs.Ballots.{tailOf, ballotOf, offEnd, pushed, wordsWith}
 use Rattle.ballots.specs.declared.Ballot.{Ballot}
 use Rattle.ballots.proofs.Laws as B
-use Rattle.frame.specs.State.{heldBy, wordsWith}
+use Rattle.frame.specs.State.{heldBy, withHeld}
 use Rattle.frame.specs.Soundness.{soundB, Sound}
-use Rattle.frame.specs.Issuing.{refusalAt, issueNumber, issuedRecord, issueOf}
+use Rattle.frame.specs.Issuing.{issueNumber, issuedRecord, issueOf}
 use Rattle.frame.specs.declared.Record.{Record}
 use Rattle.frame.specs.declared.issuing.Issued.{Issued}
 use Rattle.frame.proofs.Sound.{sound, sound-true}
@@ -47,15 +47,9 @@ module _ (r : Record) (words : List ℕ) (S : Sound r words) (line code : ℕ) w
 
   -- an entry more in the own ballot is an entry more in the own tail
   pub issue-held : (b : Ballot) → b ≡ pushed (getD (r .ballots) (r .own) offEnd) entry → len < 32
-      → _≡_ {A = Record} (record { n = r .n; own = r .own; weights = r .weights; settled = r .settled; ballots = set (r .ballots) (r .own) b }) (issuedRecord r words line code)
+      → withHeld r (r .settled) (set (r .ballots) (r .own) b) ≡ issuedRecord r words line code
   unfolding withIssue
-  issue-held b q h = λ i. record {
-    n = r .n;
-    own = r .own;
-    weights = r .weights;
-    settled = sym (log-length r words S) i;
-    ballots = sym ballots i;
-  }
+  issue-held b q h = ap₂ (withHeld r) (sym (log-length r words S)) (sym ballots)
     where
       grown : ballotOf (tail (heldBy r words) (r .own) ++ entry ∷ []) ≡ b
       grown =
@@ -73,7 +67,7 @@ module _ (r : Record) (words : List ℕ) (S : Sound r words) (line code : ℕ) w
 
   -- the number by the record's own lengths
   pub number-at : (k : ℕ) → k ≡ refusalAt line code (r .settled) len → k ≡ issueNumber r words line code
-  unfolding refusalAt refuseIssue
+  unfolding refuseIssue
   number-at k q = number-sound k (q ∙ sym (ap₂ (λ (s l : ℕ). refusalAt line code s l) (log-length r words S) tail-is))
 
 issued-words : (r : Record) (words : List ℕ) (S : Sound r words) (line code : ℕ) → wordsWith (withIssue (r .own) (value (r .own) line code) (heldBy r words) .log) words ≡ words
@@ -151,7 +145,7 @@ allowed r words line code q =
     }
 
 pub issue-done : (r : Record) (words : List ℕ) (line code : ℕ) → issueNumber r words line code ≡ 0 → (b : Ballot) → b ≡ pushed (getD (r .ballots) (r .own) offEnd) (value (r .own) line code)
-    → _≡_ {A = Issued} (record { number = 0; «record» = record { n = r .n; own = r .own; weights = r .weights; settled = r .settled; ballots = set (r .ballots) (r .own) b } }) (issueOf r words line code)
+    → _≡_ {A = Issued} (record { number = 0; «record» = withHeld r (r .settled) (set (r .ballots) (r .own) b) }) (issueOf r words line code)
 unfolding issueOf
 issue-done r words line code q b p =
     let A = allowed r words line code q in

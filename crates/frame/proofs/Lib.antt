@@ -2,9 +2,7 @@
 pub mod Accept
 pub mod Elect
 pub mod Found
-pub mod Front
 pub mod Issue
-pub mod Places
 pub mod Promise
 pub mod Send
 pub mod Shown

@@ -12,13 +12,13 @@ use lib.Dec.{eqb}
 use lib.ListN.{length}
 use lib.Seq.{getD-set-same}
 use borrow.Author.Tests.{eq-eqb, eqb-true, eqb-false}
-use Rattle.protocol.specs.Tests.{pick}
+use Rattle.lists.specs.Tests.{pick}
 use Rattle.protocol.specs.Entry.{value, lineOf, codeOf}
 use Rattle.protocol.specs.Office.{Office, tail, path}
 use Rattle.protocol.specs.Issue.{withIssue}
 use Rattle.protocol.specs.Frames.{lastCode}
 use Rattle.protocol.proofs.Limits as Limits
-use Rattle.entries.proofs.Walk.{last-append}
+use Rattle.entries.proofs.LastCode.{last-append}
 use Rattle.frame.specs.State.{heldBy}
 use Rattle.frame.specs.Soundness.{soundB}
 use Rattle.frame.specs.Issuing.{issueOf}

@@ -1,32 +1,29 @@
 -- Send: each way out of the call, and what a done one wrote.
 --     send-unsound                            refused with 1
---     writable, send-written                  refused with 6 or done, by what was written
---     bare-writable, send-bare                the same where there are no ballots
+--     writable, send-short, send-done         refused with 6 or done, by what was written
 --     content-valid, content-message          what the message of a sound record says is valid, and is the own office's state
 --     send-wrote, send-read                   the bytes of a done send are the message, and it is read back
 -- Assumes nothing.
 use mathlib.Core.Path.{_≡_, refl, sym, ap, _∙_}
 use mathlib.Core.Bool.{Bool, true, false}
-use mathlib.Core.List.{List, []}
+use mathlib.Core.List.{List}
 use mathlib.Core.Option.{some}
 use Prim.Native.Nat.{ℕ, _<_}
 use native.Mathlib.Omega.{arith}
-use lib.Dec.{eqb, ltb}
+use lib.Dec.{ltb}
 use lib.ListN.{length, take, drop}
 use lib.Seq.{take-append-seam}
-use borrow.Author.Tests.{eqb-false, eqb-true}
-use Rattle.ballots.specs.Ballots.{ballotShape, emptyBallot}
-use Rattle.ballots.specs.declared.Ballot.{Ballot}
-use Rattle.protocol.specs.Tests.{allB, pick}
+use Rattle.lists.specs.Tests.{pick}
+use Rattle.lists.proofs.Tests.{all-mono}
+use Rattle.ballots.specs.Ballots.{ballotFine, ballotShape}
+use Rattle.ballots.proofs.Eight.{shape-of}
 use Rattle.protocol.proofs.Limits.{fine-of}
 use Rattle.spelling.specs.Content.{asMessage, validContent}
 use Rattle.spelling.specs.Reading.{reading}
 use Rattle.spelling.specs.Spelling.{headBytes, spelling}
-use Rattle.spelling.proofs.Ballots.{by-test}
 use Rattle.spelling.proofs.Laws.{reading-spelling}
-use Rattle.writer.specs.Written as written
 use Rattle.writer.specs.Written.{Writable, writtenBytes, writtenLength}
-use Rattle.writer.proofs.Whole.{answer-fits, answer-short, bare-message}
+use Rattle.writer.proofs.Whole.{answer-fits, answer-short}
 use Rattle.writer.proofs.Contents as contents
 use Rattle.frame.specs.State.{heldBy}
 use Rattle.frame.specs.Soundness.{soundB, Sound}
@@ -50,16 +47,15 @@ unfolding spelling headBytes
 message-some r words = omega arith
 
 module _ (r : Record) (words : List ℕ) (S : Sound r words) where
-  -- what the writer requires, with these ballots, and without any
-  writable-with : (bs : List Ballot) → allB ballotShape bs ≡ true → Writable (r .own) (r .n) words (r .settled) bs
-  writable-with bs e = record { few-offices = S .head .most; sender-below = S .head .member; settled-few = S .most; log-long = omega arith; shapes = e }
-
+  -- what the writer requires
   pub writable : Writable (r .own) (r .n) words (r .settled) (r .ballots)
-  writable = writable-with (r .ballots) (contents.shapes-of (r .n) (r .settled) (r .ballots) (S .fine))
-
-  pub bare-writable : Writable (r .own) (r .n) words (r .settled) []
-  unfolding allB
-  bare-writable = writable-with [] refl
+  writable = record {
+    few-offices = S .head .most;
+    sender-below = S .head .member;
+    settled-few = S .most;
+    log-long = omega arith;
+    shapes = all-mono (ballotFine (r .n) (r .settled)) ballotShape (shape-of (r .n) (r .settled)) (r .ballots) (S .fine);
+  }
 
   pub content-valid : validContent (contentOf r words) ≡ true
   content-valid =
@@ -74,32 +70,19 @@ module _ (r : Record) (words : List ℕ) (S : Sound r words) where
 
   -- the writer's answer k, and the output after it
   module _ (out : List ℕ) {k : ℕ} {out' : List ℕ} (answer : k ≡ writtenLength (messageOf r words) out) (after : out' ≡ writtenBytes (messageOf r words) out) where
-    send-short : k ≡ 0 → Sends r words out (record { number = 6; length = 0 }) out'
+    pub send-short : k ≡ 0 → Sends r words out (record { number = 6; length = 0 }) out'
     unfolding sendOf sendBytes sendNumber writtenBytes pick
     send-short h =
         let s = sound-true r words S in
         let l = answer-short (messageOf r words) out (message-some r words) (sym answer ∙ h) in
         (simp (s, l), simp (s, l) (after ∙ simp l))
 
-    send-done : (k ≡ 0 → ⊥) → Sends r words out (record { number = 0; length = k }) out'
+    pub send-done : (k ≡ 0 → ⊥) → Sends r words out (record { number = 0; length = k }) out'
     unfolding sendOf sendBytes sendNumber writtenLength writtenBytes pick
     send-done h =
         let s = sound-true r words S in
         let l = answer-fits (messageOf r words) out (λ e. h (answer ∙ e)) in
         (simp (s, l) (ap (λ (x : ℕ). record { number = 0; length = x }) (answer ∙ simp l)), simp (s, l) (after ∙ simp l))
-
-    pub send-written : Sends r words out (record { number = pick (eqb k 0) 6 0; length = k }) out'
-    unfolding pick
-    send-written = by-test _ (eqb k 0) (λ q. rw (eqb-true k 0 q) (send-short (eqb-true k 0 q))) (λ q. rw q (send-done (eqb-false k 0 q)))
-
-  -- and where it wrote the message without ballots, as there are none
-  pub send-bare : allB emptyBallot (r .ballots) ≡ true → (out : List ℕ) {k : ℕ} {out' : List ℕ}
-      → k ≡ writtenLength (written.messageOf (r .own) (r .n) (r .weights) words (r .settled) []) out
-      → out' ≡ writtenBytes (written.messageOf (r .own) (r .n) (r .weights) words (r .settled) []) out
-      → Sends r words out (record { number = pick (eqb k 0) 6 0; length = k }) out'
-  send-bare q out answer after =
-      let m = sym (bare-message (r .own) (r .n) (r .weights) words (r .settled) (r .ballots) q) in
-      send-written out (answer ∙ ap (λ (b : List ℕ). writtenLength b out) m) (after ∙ ap (λ (b : List ℕ). writtenBytes b out) m)
 
 -- what a done send found and left
 pub send-sound : (r : Record) (words out : List ℕ) → sendNumber r words out ≡ 0 → soundB r words ≡ true

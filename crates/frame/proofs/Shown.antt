@@ -1,26 +1,18 @@
 -- What both frames answer, in the order of the numbers: 1, 3, and the last code in the entries p.
 --     shown-past, shown-done       of the entries
 --     frame-unsound, frame-shown   of the record
---     quiet-path                   without ballots the own path is the settled log
 -- Assumes nothing.
-use mathlib.Core.Path.{_≡_, sym, ap, _∙_}
+use mathlib.Core.Path.{_≡_}
 use mathlib.Core.Bool.{true, false}
-use mathlib.Core.List.{List, _++_, append-nil}
+use mathlib.Core.List.{List}
 use Prim.Native.Nat.{ℕ, _<_, _≤_}
-use lib.ListN.{length, take}
 use borrow.Author.Tests.{le-leb, lt-leb}
-use Rattle.protocol.specs.Tests.{allB, pick}
+use Rattle.lists.specs.Tests.{pick}
 use Rattle.protocol.specs.Frames.{lastCode}
-use Rattle.protocol.specs.Office.{path}
-use Rattle.protocol.proofs.Tests.{all-at}
-use Rattle.ballots.specs.Ballots.{emptyBallot, offEnd, tailOf}
-use Rattle.ballots.proofs.Laws.{empty-is}
 use Rattle.frame.specs.Soundness.{soundB}
 use Rattle.frame.specs.Frames.{frameOf, shownIn}
-use Rattle.frame.specs.State.{heldBy}
 use Rattle.frame.specs.declared.Record.{Record}
 use Rattle.frame.specs.declared.frames.Framed.{Framed}
-use Rattle.frame.proofs.State.{tail-at}
 
 module _ (line : ℕ) (p : List ℕ) where
   pub shown-past : 63 < line → _≡_ {A = Framed} (record { number = 3; code = 0 }) (shownIn line p)
@@ -39,7 +31,3 @@ module _ (r : Record) (words : List ℕ) where
   pub frame-shown : (line : ℕ) (p : List ℕ) → soundB r words ≡ true → shownIn line p ≡ frameOf r words line p
   unfolding frameOf pick
   frame-shown line p e = rw e
-
-  pub quiet-path : allB emptyBallot (r .ballots) ≡ true → r .own < length (r .ballots) → take (r .settled) words ≡ path (heldBy r words) (r .own)
-  quiet-path e h =
-      sym (ap (λ (t : List ℕ). take (r .settled) words ++ t) (tail-at r words (r .own) ∙ ap tailOf (empty-is _ (all-at emptyBallot offEnd (r .ballots) (r .own) e h))) ∙ append-nil _)

@@ -16,13 +16,13 @@ use lib.Dec.{ltb, eqb}
 use lib.ListN.{length, getD, drop, set, replicate, length-map, length-drop, length-replicate}
 use lib.Seq.{set-getD}
 use borrow.Author.Tests.{eqb-true}
-use Rattle.protocol.specs.Tests.{allB}
+use Rattle.lists.specs.Tests.{allB}
 use Rattle.protocol.specs.Entry.{isEntry}
 use Rattle.protocol.specs.Vote.{Votes, winner}
 use Rattle.protocol.specs.Office.{first, votes}
 use Rattle.protocol.specs.Elect.{lose}
-use Rattle.protocol.proofs.Tests.{both-0, both-1, both-true, all-at, all-getD, all-drop, all-mono, drop-map, getD-map}
-use Rattle.entries.proofs.Fill.{filled, front-step, fill-here, fill-rest}
+use Rattle.lists.proofs.Tests.{both-0, both-1, both-true, all-at, all-getD, all-drop, all-mono, drop-map, getD-map}
+use Rattle.lists.proofs.Fill.{filled, front-step, fill-here, fill-rest}
 use Rattle.ballots.specs.Ballots.{tailOf, ballotOf, noBallot, offEnd, ballotShape, ballotFine, isNoBallot}
 use Rattle.ballots.specs.declared.Ballot.{Ballot}
 use Rattle.ballots.proofs.Laws as B
@@ -31,7 +31,7 @@ use Rattle.tallies.specs.declared.Winner.{Winner}
 use Rattle.tallies.specs.declared.Winner.the-variants.{Entry, Nobody}
 use Rattle.tallies.proofs.Walks.{winner-some, winner-none}
 use Rattle.tallies.proofs.Cells.{vote-none, cast-vote, lost-for, lost-other, lost-none}
-use Rattle.frame.specs.State.{heldBy}
+use Rattle.frame.specs.State.{heldBy, withHeld}
 use Rattle.frame.specs.Soundness.{Sound}
 use Rattle.frame.specs.Electing.{winnerOf}
 use Rattle.frame.specs.declared.Record.{Record}
@@ -77,7 +77,7 @@ Settling e bs xs i = xs ≡ filled (map (lost e) bs) bs i
 
 -- the record with these ballots
 abbrev pub withBallots : Record → List Ballot → Record
-withBallots r bs = record { n = r .n; own = r .own; weights = r .weights; settled = r .settled; ballots = bs }
+withBallots r bs = withHeld r (r .settled) bs
 
 -- a turn that makes xs of the ballots leaves the rest of the record
 pub next-turn : (r next out : Record) (e : ℕ) (bs : List Ballot) (k : ℕ) → next ≡ withBallots r (next .ballots) → (xs : List Ballot) → out ≡ withBallots next xs → Settling e bs xs k

@@ -6,7 +6,7 @@
 --     ready, take-made                  the work on such a message may be done, and is what the definition says
 -- Assumes nothing.
 use mathlib.Core.Path.{_≡_, refl, sym, ap, ap₂, subst, _∙_}
-use mathlib.Core.Bool.{Bool, true, false, cond}
+use mathlib.Core.Bool.{Bool, true, false, not, cond}
 use mathlib.Core.List.{List, _++_, map}
 use mathlib.Core.Option.{Option, none, some}
 use Prim.Native.Nat.{ℕ, _+_, _-_, _*_, _<_, _≤_}
@@ -15,39 +15,38 @@ use lib.Dec.{eqb}
 use lib.ListN.{length, take, drop, replicate, length-append, length-drop, length-replicate, length-take, take-append-drop, length-map}
 use lib.Seq.{take-at}
 use borrow.Author.Tests.{eq-eqb, ne-eqb}
-use Rattle.protocol.specs.Tests.{both, pick, allB}
+use Rattle.lists.specs.Tests.{both, pick, allB, same}
 use Rattle.protocol.specs.Office.{Office, Message}
+use Rattle.protocol.specs.Beginning.{comparable}
 use Rattle.protocol.specs.Take.{withTake, refuseTake}
-use Rattle.protocol.proofs.Tests.{both-0, both-false-0, zeros}
-use Rattle.ballots.specs.Ballots.{tailOf, ballotOf, same}
-use Rattle.ballots.proofs.Same.{same-true, same-refl}
+use Rattle.lists.proofs.Tests.{both-0, both-false-0, pick-false, zeros}
+use Rattle.ballots.specs.Ballots.{tailOf, ballotOf, wordsWith}
+use Rattle.lists.proofs.Same.{same-true, same-refl}
 use Rattle.ballots.proofs.Laws.{held-all, tails-of}
-use Rattle.spelling.specs.Numbers.{runAt}
+use Rattle.numbers.specs.Numbers.{runAt}
 use Rattle.spelling.specs.Content.{Content, asMessage, eightTails}
-use Rattle.spelling.specs.Reading.{reading, recordAt, messageOk, contentAt, countAt, settledAt, restAt}
-use Rattle.spelling.proofs.Head.{Head, head-facts}
-use Rattle.spelling.proofs.Ballots.{tailsAt-length}
-use Rattle.spelling.proofs.Runs.{runAt-length}
-use Rattle.spelling.proofs.Laws.{reading-is, reading-log, reading-room}
-use Rattle.reader.specs.Read.{readingOf, eightWeights, ballotsOf}
-use Rattle.reader.specs.declared.Reading.{Reading}
-use Rattle.intake.specs.Intake.{messageIn, mergedOf, either, Ready}
+use Rattle.spelling.specs.Reading.{reading, recordAt}
+use Rattle.spelling.specs.Spelling.{headSize}
+use Rattle.spelling.proofs.Valid.{Valid, valid-facts, log-length}
+use Rattle.spelling.proofs.Laws.{reading-valid, reading-log, reading-room}
+use Rattle.reading.specs.Read.{readingOf, eightWeights, ballotsOf}
+use Rattle.reading.specs.declared.Reading.{Reading}
+use Rattle.intake.specs.Intake.{messageIn, mergedOf, Ready}
 use Rattle.intake.specs.declared.Merged.{Merged}
-use Rattle.reader.proofs.Answers.{read-some, read-none, rest-of-message}
-use Rattle.frame.specs.State.{heldBy, holding, wordsWith}
+use Rattle.reading.proofs.Answers.{read-some, read-none, rest-of-message}
+use Rattle.frame.specs.State.{withHeld, heldBy, holding}
 use Rattle.frame.specs.Soundness.{soundB, Sound}
-use Rattle.frame.specs.Taking.{sameOffices, refuseContent, onReading, takeNumber, takenOffice, takeOf, takeWords, refusedWith}
+use Rattle.frame.specs.Taking.{sameOffices, onReading, takeNumber, takenOffice, takeOf, takeWords}
 use Rattle.frame.specs.declared.Record.{Record}
 use Rattle.frame.specs.declared.taking.Taken.{Taken}
 use Rattle.frame.proofs.Sound.{sound, sound-true}
 
--- what an answer and the words after it are to be
-abbrev pub Takes : Record → List ℕ → List ℕ → Taken → List ℕ → Type 0
-Takes r words s answer words' = (answer ≡ takeOf r words s) × (words' ≡ takeWords r words s)
-
-pub take-refused : (r : Record) (words s : List ℕ) (x : ℕ) → takeNumber r words s ≡ x → eqb x 0 ≡ false → (answer : Taken) → answer ≡ refusedWith x r → Takes r words s answer words
-unfolding takeOf takeWords pick
-take-refused r words s x e d answer q = (q ∙ simp (e, d), simp (e, d))
+pub take-refused : (r : Record) (words s : List ℕ) (x : ℕ) → x ≡ takeNumber r words s → (x ≡ 0 → ⊥)
+    → (_≡_ {A = Taken} (record { number = x; «record» = r }) (takeOf r words s)) × (words ≡ takeWords r words s)
+unfolding takeOf takeWords
+take-refused r words s x e d =
+    let no : eqb (takeNumber r words s) 0 ≡ false = ne-eqb (takeNumber r words s) 0 (λ z. d (e ∙ z)) in
+    ((λ i. record { number = e i; «record» = sym (pick-false (eqb (takeNumber r words s) 0) (holding r (takenOffice r words s)) r no) i }), sym (pick-false (eqb (takeNumber r words s) 0) _ words no))
 
 -- ── what is read ──
 -- the fields of a reading are what the message says
@@ -56,7 +55,7 @@ pub record Says (m : Reading) (c : Content) : Type 0 where
   pub n : m .n ≡ c .n
   pub weights : m .weights ≡ eightWeights (c .n) (c .weights)
   pub settled : m .settled ≡ length (c .log)
-  pub head : m .head ≡ 6 + 2 * c .n
+  pub head : m .head ≡ headSize (c .n)
   pub ballots : m .ballots ≡ map ballotOf (asMessage c .state .tails)
 
 says : (m : Reading) (o : Option Content) (c : Content) → m ≡ readingOf o → o ≡ some c → Says m c
@@ -72,27 +71,9 @@ says m o c e q =
       ballots = ap (λ (x : Reading). x .ballots) w;
     }
 
--- what the layout alone says of a content that was read
-record Layout (c : Content) : Type 0 where
-  count : c .n ≤ 8
-  below : c .sender < c .n
-  weights : length (c .weights) ≡ c .n
-  log : length (c .log) ≤ 1024
-  tails : length (c .tails) ≡ c .n
-
-layout : (s : List ℕ) (c : Content) → reading s ≡ some c → Layout c
-unfolding messageOk contentAt
-layout s c e =
-    let r = reading-is s c e in
-    let h : Head s = head-facts s (both-0 _ _ (r .0)) in
-    subst (λ (d : Content). Layout d) (r .1)
-    (record {
-      count = h .few-offices;
-      below = h .sender-below;
-      weights = runAt-length 2 _ (countAt s) _;
-      log = omega (arith, h .settled-few, runAt-length 6 recordAt (settledAt s) (restAt s));
-      tails = tailsAt-length 0 (countAt s) _;
-    })
+-- what was read is within the limits
+valid : (s : List ℕ) (c : Content) → reading s ≡ some c → Valid c
+valid s c e = valid-facts c (reading-valid s c e)
 
 -- ── the number ──
 module _ (r : Record) (words s : List ℕ) where
@@ -106,17 +87,13 @@ module _ (r : Record) (words s : List ℕ) where
     not-read e = rw (sound-true r words S, e)
 
     module _ (c : Content) (e : reading s ≡ some c) where
-      pub read-number : takeNumber r words s ≡ refuseContent r words c
+      pub other : sameOffices r c ≡ false → takeNumber r words s ≡ 8
       unfolding takeNumber pick
-      read-number = rw (sound-true r words S, e)
+      other d = rw (sound-true r words S, e, d)
 
-      other : sameOffices r c ≡ false → takeNumber r words s ≡ 8
-      unfolding refuseContent pick
-      other d = read-number ∙ rw d
-
-      like : sameOffices r c ≡ true → takeNumber r words s ≡ refuseTake (r .own) (asMessage c) (heldBy r words)
-      unfolding refuseContent pick
-      like d = read-number ∙ rw d
+      pub like : sameOffices r c ≡ true → takeNumber r words s ≡ refuseTake (r .own) (asMessage c) (heldBy r words)
+      unfolding takeNumber pick
+      like d = rw (sound-true r words S, e, d)
 
 -- eight weights with zeros behind the first n are the same as n weights are
 eight-take : (n : ℕ) (ws vs : List ℕ) → length ws ≡ n → eightWeights n ws ≡ vs → ws ≡ take n vs
@@ -165,20 +142,20 @@ module _ (k : ℕ) (c : Content) (o : Office) where
   unfolding refuseTake asMessage
   number-9 e = rw (eq-eqb (c .sender) k e)
 
-  number-10 : (c .sender ≡ k → ⊥) → either (o .log) (c .log) ≡ false → refuseTake k (asMessage c) o ≡ 10
+  number-10 : (c .sender ≡ k → ⊥) → comparable (o .log) (c .log) ≡ false → refuseTake k (asMessage c) o ≡ 10
   unfolding refuseTake asMessage
   number-10 n e = rw (ne-eqb (c .sender) k n, e)
 
-  done-either : refuseTake k (asMessage c) o ≡ 0 → either (o .log) (c .log) ≡ true
+  done-comparable : refuseTake k (asMessage c) o ≡ 0 → comparable (o .log) (c .log) ≡ true
   unfolding refuseTake asMessage
-  done-either e = go (eqb (c .sender) k) (either (o .log) (c .log)) e
+  done-comparable e = go (eqb (c .sender) k) (comparable (o .log) (c .log)) e
     where
       go : (a b : Bool) → _≡_ {A = ℕ} (cond a 9 (cond b 0 10)) 0 → b ≡ true
       go true b e = absurd (omega arith)
       go false true e = refl
       go false false e = absurd (omega arith)
 
-  number-0 : (c .sender ≡ k → ⊥) → either (o .log) (c .log) ≡ true → refuseTake k (asMessage c) o ≡ 0
+  number-0 : (c .sender ≡ k → ⊥) → comparable (o .log) (c .log) ≡ true → refuseTake k (asMessage c) o ≡ 0
   unfolding refuseTake asMessage
   number-0 n e = rw (ne-eqb (c .sender) k n, e)
 
@@ -207,8 +184,8 @@ module _ {r : Record} {words s : List ℕ} {m : Reading} (H : Heard r words s m)
   says-c : Says m c
   says-c = says m (reading s) c (H .is) (found .1)
 
-  layout-c : Layout c
-  layout-c = layout s c (found .1)
+  valid-c : Valid c
+  valid-c = valid s c (found .1)
 
   pub other-count : (m .n ≡ r .n → ⊥) → takeNumber r words s ≡ 8
   other-count h = other r words s (H .sounds) c (found .1) (differ r c (λ e. h (says-c .n ∙ e)))
@@ -220,7 +197,7 @@ module _ {r : Record} {words s : List ℕ} {m : Reading} (H : Heard r words s m)
   head-room = omega (arith, reading-room s c (found .1), says-c .head)
 
   offices : m .n ≡ r .n → (b : Bool) → same (m .weights) (r .weights) ≡ b → sameOffices r c ≡ b
-  offices n b p = same-offices r c words (H .sounds) (layout-c .weights) (sym (says-c .n) ∙ n) b (ap (λ (ws : List ℕ). same ws (r .weights)) (sym (says-c .weights)) ∙ p)
+  offices n b p = same-offices r c words (H .sounds) (valid-c .weights-length) (sym (says-c .n) ∙ n) b (ap (λ (ws : List ℕ). same ws (r .weights)) (sym (says-c .weights)) ∙ p)
 
   pub other-weights : m .n ≡ r .n → same (m .weights) (r .weights) ≡ false → takeNumber r words s ≡ 8
   other-weights n h = other r words s (H .sounds) c (found .1) (offices n false h)
@@ -235,16 +212,16 @@ module _ {r : Record} {words s : List ℕ} {m : Reading} (A : Alike r words s m)
   number : takeNumber r words s ≡ refuseTake (r .own) (asMessage d) (heldBy r words)
   number = like r words s (A .heard .sounds) d (found (A .heard) .1) (offices (A .heard) (A .n) true (A .weights))
 
-  compared : either (take (r .settled) words) (logIn m s) ≡ either (take (r .settled) words) (d .log)
-  compared = ap (either (take (r .settled) words)) (log-in m s d (says-c (A .heard)) (found (A .heard) .1))
+  compared : comparable (take (r .settled) words) (logIn m s) ≡ comparable (take (r .settled) words) (d .log)
+  compared = ap (comparable (take (r .settled) words)) (log-in m s d (says-c (A .heard)) (found (A .heard) .1))
 
   pub from-self : m .sender ≡ r .own → takeNumber r words s ≡ 9
   from-self h = number ∙ number-9 (r .own) d (heldBy r words) (sym sender-d ∙ h)
 
-  pub apart : (m .sender ≡ r .own → ⊥) → either (take (r .settled) words) (logIn m s) ≡ false → takeNumber r words s ≡ 10
+  pub apart : (m .sender ≡ r .own → ⊥) → comparable (take (r .settled) words) (logIn m s) ≡ false → takeNumber r words s ≡ 10
   apart h e = number ∙ number-10 (r .own) d (heldBy r words) (λ q. h (sender-d ∙ q)) (sym compared ∙ e)
 
-  pub accepts : (m .sender ≡ r .own → ⊥) → either (take (r .settled) words) (logIn m s) ≡ true → takeNumber r words s ≡ 0
+  pub accepts : (m .sender ≡ r .own → ⊥) → comparable (take (r .settled) words) (logIn m s) ≡ true → takeNumber r words s ≡ 0
   accepts h e = number ∙ number-0 (r .own) d (heldBy r words) (λ q. h (sender-d ∙ q)) (sym compared ∙ e)
 
 -- ── an accepted message ──
@@ -256,15 +233,18 @@ pub record Accepted (r : Record) (words s : List ℕ) : Type 0 where
   pub done : refuseTake (r .own) (asMessage content) (heldBy r words) ≡ 0
 
 pub accepted : (r : Record) (words s : List ℕ) → takeNumber r words s ≡ 0 → Accepted r words s
-unfolding takeNumber refuseContent pick
+unfolding takeNumber pick
 accepted r words s e = go (soundB r words) refl (reading s) refl e
   where
+    behind : Content → ℕ
+    behind c = pick (not (sameOffices r c)) 8 (refuseTake (r .own) (asMessage c) (heldBy r words))
+
     like-offices : (S : soundB r words ≡ true) (c : Content) → reading s ≡ some c → (b : Bool) → sameOffices r c ≡ b
-        → _≡_ {A = ℕ} (pick b (refuseTake (r .own) (asMessage c) (heldBy r words)) 8) 0 → Accepted r words s
+        → _≡_ {A = ℕ} (pick (not b) 8 (refuseTake (r .own) (asMessage c) (heldBy r words))) 0 → Accepted r words s
     like-offices S c q true o e = record { sounds = sound r words S; content = c; reads = q; offices = o; done = e }
     like-offices S c q false o e = absurd (omega arith)
 
-    go : (b : Bool) → soundB r words ≡ b → (x : Option Content) → reading s ≡ x → _≡_ {A = ℕ} (pick b (onReading x 7 (refuseContent r words)) 1) 0 → Accepted r words s
+    go : (b : Bool) → soundB r words ≡ b → (x : Option Content) → reading s ≡ x → _≡_ {A = ℕ} (pick (not b) 1 (onReading x 7 behind)) 0 → Accepted r words s
     go false S x q e = absurd (omega arith)
     go true S none q e = absurd (omega arith)
     go true S (some c) q e = like-offices S c q (sameOffices r c) refl e
@@ -288,10 +268,6 @@ take-answer r words s next e q = λ i. record { number = sym e i; «record» = q
 abbrev pub restOf : Reading → List ℕ → List ℕ
 restOf m s = take (length s - m .head) (drop (m .head) s)
 
-eight-tails : (c : Content) → Layout c → length (asMessage c .state .tails) ≡ 8
-unfolding asMessage eightTails
-eight-tails c l = rw (length-append, length-replicate) (omega (arith, l .tails, l .count))
-
 module _ (r : Record) (words s : List ℕ) (m : Reading) (e : takeNumber r words s ≡ 0) (is : m ≡ readingOf (reading s)) where
   taken : Accepted r words s
   taken = accepted r words s e
@@ -302,8 +278,8 @@ module _ (r : Record) (words s : List ℕ) (m : Reading) (e : takeNumber r words
   says-it : Says m said
   says-it = says m (reading s) said is (taken .reads)
 
-  layout-it : Layout said
-  layout-it = layout s said (taken .reads)
+  valid-it : Valid said
+  valid-it = valid s said (taken .reads)
 
   in-message : logIn m s ≡ said .log
   in-message = log-in m s said says-it (taken .reads)
@@ -326,22 +302,22 @@ module _ (r : Record) (words s : List ℕ) (m : Reading) (e : takeNumber r words
       let l = reading-room s said (taken .reads) in
       record {
         own-below = omega (arith, H .member, H .most);
-        sender-below = omega (arith, says-it .sender, layout-it .below, layout-it .count);
+        sender-below = omega (arith, says-it .sender, valid-it .sender-below, valid-it .few-offices);
         settled-within = omega (arith, S .most, S .room);
-        theirs-within = omega (arith, says-it .settled, layout-it .log, S .room);
+        theirs-within = omega (arith, says-it .settled, log-length said valid-it, S .room);
         records-within = simp (length-take, length-drop) (omega (arith, l, says-it .head, says-it .settled));
-        comparable = ap (either (take (r .settled) words)) in-message ∙ done-either (r .own) said (heldBy r words) (taken .done);
+        compared = ap (comparable (take (r .settled) words)) in-message ∙ done-comparable (r .own) said (heldBy r words) (taken .done);
         held = held-all (r .n) (r .settled) (r .ballots) (S .fine);
-        theirs-eight = ap length (says-it .ballots) ∙ length-map (asMessage said .state .tails) ballotOf ∙ eight-tails said layout-it;
+        theirs-eight = ap length (says-it .ballots) ∙ length-map (asMessage said .state .tails) ballotOf ∙ valid-it .office .eight;
         theirs-held = ap (map ballotOf) held-tails ∙ sym (says-it .ballots);
       }
 
   pub take-made : (q : Merged) (ws : List ℕ) → q ≡ mergedOf (withTake (r .own) (messageIn (restOf m s) m) (heldBy r words))
       → ws ≡ wordsWith (withTake (r .own) (messageIn (restOf m s) m) (heldBy r words) .log) words
-      → (_≡_ {A = Record} (record { n = r .n; own = r .own; weights = r .weights; settled = q .settled; ballots = q .ballots }) (takeOf r words s .«record»)) × (ws ≡ takeWords r words s)
+      → (withHeld r (q .settled) (q .ballots) ≡ takeOf r words s .«record») × (ws ≡ takeWords r words s)
   take-made q ws eq ew =
       let o : withTake (r .own) (messageIn (restOf m s) m) (heldBy r words) ≡ takenOffice r words s = ap (λ (x : Message). withTake (r .own) x (heldBy r words)) is-message ∙ sym (taken-office r words s taken) in
       let d = take-done-is r words s e in (
-        ap (λ (x : Merged). record { n = r .n; own = r .own; weights = r .weights; settled = x .settled; ballots = x .ballots }) (eq ∙ ap mergedOf o) ∙ sym (d .0),
+        ap (λ (x : Merged). withHeld r (x .settled) (x .ballots)) (eq ∙ ap mergedOf o) ∙ sym (d .0),
         ew ∙ ap (λ (x : Office). wordsWith (x .log) words) o ∙ sym (d .1),
       )

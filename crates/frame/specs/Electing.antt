@@ -2,11 +2,12 @@
 use Prim.Native.Nat.{ℕ}
 use mathlib.Core.List.{List}
 use mathlib.Core.Option.{Option}
-use Rattle.protocol.specs.Tests.{pick}
+use Rattle.lists.specs.Tests.{pick}
 use Rattle.protocol.specs.Vote.{Rule, byWeights}
 use Rattle.protocol.specs.Office.{Office, votes}
 use Rattle.protocol.specs.Elect.{settle, next, withElect, electCount}
-use Rattle.frame.specs.State.{heldBy, holding, wordsWith}
+use Rattle.frame.specs.State.{heldBy, holding}
+use Rattle.ballots.specs.Ballots.{wordsWith}
 use Rattle.frame.specs.Soundness.{soundB}
 use Rattle.frame.specs.declared.Record.{Record}
 use Rattle.frame.specs.declared.electing.Elected.{Elected}

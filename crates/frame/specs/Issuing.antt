@@ -1,19 +1,14 @@
 -- "Issue (line, code) appends the entry to the office's own ballot." Assumes nothing.
-use Prim.Native.Nat.{ℕ, _+_}
-use mathlib.Core.Bool.{_||_, cond}
+use Prim.Native.Nat.{ℕ}
 use mathlib.Core.List.{List}
-use lib.Dec.{eqb, ltb}
-use Rattle.protocol.specs.Tests.{pick}
+use lib.Dec.{eqb}
+use Rattle.lists.specs.Tests.{pick}
 use Rattle.protocol.specs.Entry.{value}
 use Rattle.protocol.specs.Issue.{withIssue, refuseIssue}
 use Rattle.frame.specs.State.{heldBy, holding}
 use Rattle.frame.specs.Soundness.{soundB}
 use Rattle.frame.specs.declared.Record.{Record}
 use Rattle.frame.specs.declared.issuing.Issued.{Issued}
-
--- the protocol's refusals by the lengths of the settled log and of the own tail
-unfoldable pub refusalAt : ℕ → ℕ → ℕ → ℕ → ℕ
-refusalAt line code settled len = cond (ltb 63 line || ltb 9999 code) 3 (cond (eqb len 32) 4 (cond (eqb (settled + len) 1024) 5 0))
 
 -- 1: "record unsound, or log below 1024 words"; 3, 4 and 5 are the protocol's
 unfoldable pub issueNumber : Record → List ℕ → ℕ → ℕ → ℕ

@@ -1,23 +1,33 @@
--- A record with its log and the office's state that they hold, both ways. Assumes nothing.
+-- A record with its log and the office's state that they hold, both ways. A record is made here and nowhere else in the definitions.
+-- Assumes nothing.
 use Prim.Native.Nat.{ℕ}
-use mathlib.Core.List.{List, _++_, map}
-use lib.ListN.{length, take, drop, replicate}
+use mathlib.Core.List.{List, [], map}
+use lib.ListN.{length, replicate}
 use Rattle.protocol.specs.Office.{Office}
-use Rattle.ballots.specs.Ballots.{tailOf, ballotOf, noBallot}
+use Rattle.ballots.specs.Ballots.{ballotOf, noBallot, officeIn}
+use Rattle.ballots.specs.declared.Ballot.{Ballot}
 use Rattle.frame.specs.declared.Record.{Record}
 
--- "its first settled-length words are the settled log"; each ballot holds a tail
+-- the state that the record and its log hold
 abbrev pub heldBy : Record → List ℕ → Office
-heldBy r words = record { log = take (r .settled) words; tails = map tailOf (r .ballots) }
+heldBy r words = officeIn words (r .settled) (r .ballots)
 
--- the record r with that state: offices, own office and weights stay
+-- the record r with another settled length and other ballots: offices, own office and weights stay
+abbrev pub withHeld : Record → ℕ → List Ballot → Record
+withHeld r settled ballots = record { n = r .n; own = r .own; weights = r .weights; settled = settled; ballots = ballots }
+
+-- the record r with that state
 abbrev pub holding : Record → Office → Record
-holding r o = record { n = r .n; own = r .own; weights = r .weights; settled = length (o .log); ballots = map ballotOf (o .tails) }
+holding r o = withHeld r (length (o .log)) (map ballotOf (o .tails))
 
--- the log's words with a settled log in front; "the others .. keep their contents"
-abbrev pub wordsWith : List ℕ → List ℕ → List ℕ
-wordsWith log words = log ++ drop (length log) words
+-- "a fresh record has an empty log and no ballots"
+abbrev pub freshRecord : ℕ → ℕ → List ℕ → Record
+freshRecord n own ws = record { n = n; own = own; weights = ws; settled = 0; ballots = replicate 8 noBallot }
 
 -- "all-zero record"
 abbrev pub zeroRecord : Record
-zeroRecord = record { n = 0; own = 0; weights = replicate 8 0; settled = 0; ballots = replicate 8 noBallot }
+zeroRecord = freshRecord 0 0 (replicate 8 0)
+
+-- what an array of records gives past its end
+abbrev pub offEnd : Record
+offEnd = record { n = 0; own = 0; weights = []; settled = 0; ballots = [] }

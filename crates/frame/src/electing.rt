@@ -3,8 +3,6 @@ ghost use mathlib.Core.Path.{_≡_};
 ghost use Rattle.frame.specs.Soundness.{Sound};
 ghost use Rattle.frame.specs.Electing.{stepOf, stepWords, electOf, electWords};
 use crate::Record;
-use crate::soundness::quiet;
-use crate::soundness::whole;
 use ballots::Ballot;
 use tallies::Winner;
 
@@ -53,20 +51,18 @@ impl Record {
         }
     }
 
-    // Repeats the step until no entry wins, and answers how many entries it settled; by the ballots, whatever they are.
-    fn steps(self, log: &mut [u32]) -> Elected
+    // Elect repeats the step until no entry wins, and answers how many entries it settled.
+    pub fn elect(self, log: &mut [u32]) -> Elected
         ensures { λ r. ⌜ (r ≡ electOf self (now (log .entry))) × (now (log .exit) ≡ electWords self (now (log .entry))) ⌝ }
     {
-        let start = self.settled;
-        let weights = self.weights;
-        let all = self.ballots;
-        if !whole(self.n, self.own, weights, start, all, &log[..]) {
+        if !self.sound(&log[..]) {
             return Elected {
                 record: self,
                 number: 1,
                 count: 0,
             };
         }
+        let start = self.settled;
         let mut now = self;
         loop {
             let before = now.settled;
@@ -79,23 +75,7 @@ impl Record {
         Elected {
             record: now,
             number: 0,
-            count: count,
+            count,
         }
-    }
-
-    // Elect repeats the step until no entry wins, and answers how many entries it settled. Without ballots there is no vote, and so no winner.
-    pub fn elect(self, log: &mut [u32]) -> Elected
-        ensures { λ r. ⌜ (r ≡ electOf self (now (log .entry))) × (now (log .exit) ≡ electWords self (now (log .entry))) ⌝ }
-    {
-        let weights = self.weights;
-        let all = self.ballots;
-        if quiet(self.n, self.own, weights, self.settled, all, &log[..]) {
-            return Elected {
-                record: self,
-                number: 0,
-                count: 0,
-            };
-        }
-        self.steps(log)
     }
 }

@@ -2,7 +2,6 @@
 ghost use mathlib.Core.Path.{_≡_};
 ghost use Rattle.frame.specs.Founding.{foundOf};
 use crate::Record;
-use crate::soundness;
 use ballots::Ballot;
 
 #[repr(C)]

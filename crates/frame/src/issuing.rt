@@ -1,11 +1,10 @@
 // Issuing an entry.
 ghost use mathlib.Core.Path.{_≡_};
 ghost use Prim.Native.Nat.{_≤_};
-ghost use Rattle.frame.specs.Issuing.{refusalAt, issueOf};
+ghost use Rattle.protocol.specs.Entry.{proper};
+ghost use Rattle.protocol.specs.Issue.{refusalAt};
+ghost use Rattle.frame.specs.Issuing.{issueOf};
 use crate::Record;
-use crate::soundness::quiet;
-use crate::soundness::whole;
-use ballots::Ballot;
 
 #[repr(C)]
 pub struct Issued {
@@ -13,15 +12,19 @@ pub struct Issued {
     pub number: u32,
 }
 
+// Whether an entry may have this line and code.
+fn proper(line: u32, code: u32) -> bool
+    ensures { λ r. ⌜ r ≡ proper line code ⌝ }
+{
+    (line < Record::LINES) & (code < Record::CODES)
+}
+
 // The number of an issue on a sound record, by the lengths of its log and of its own tail.
 fn refusal(line: u32, code: u32, settled: usize, len: usize) -> u32
     requires { ⌜ (settled ≤ 1024) × (len ≤ 32) ⌝ }
     ensures { λ r. ⌜ r ≡ refusalAt line code settled len ⌝ }
 {
-    if line >= Record::LINES {
-        return 3;
-    }
-    if code >= Record::CODES {
+    if !proper(line, code) {
         return 3;
     }
     if len == Record::TAIL {
@@ -34,56 +37,30 @@ fn refusal(line: u32, code: u32, settled: usize, len: usize) -> u32
 }
 
 impl Record {
-    // The entry appended to the own ballot, whatever it is. The number is found before anything is written.
-    fn append(self, log: &[u32], line: u32, code: u32) -> Issued
-        ensures { λ r. ⌜ r ≡ issueOf self (now (log .entry)) line code ⌝ }
-    {
-        let mut next = self;
-        let own = self.own;
-        let weights = self.weights;
-        let all = self.ballots;
-        let mut number: u32 = 1;
-        if whole(self.n, own, weights, self.settled, all, log) {
-            let b = next.ballots[own];
-            number = refusal(line, code, next.settled, b.len);
-            if number == 0 {
-                let grown = b.push(entries::pack(own as u8, line as u8, code as u16));
-                next.ballots[own] = grown;
-            }
-        }
-        Issued {
-            record: next,
-            number: number,
-        }
-    }
-
-    // Issue (line, code): the entry (own office, line, code) is appended to the own ballot. Without ballots it is the first there, and the
-    // other seven are none: they are made and not copied.
+    // Issue (line, code): the entry (own office, line, code) is appended to the own ballot.
     pub fn issue(self, log: &[u32], line: u32, code: u32) -> Issued
         ensures { λ r. ⌜ r ≡ issueOf self (now (log .entry)) line code ⌝ }
     {
-        let n = self.n;
+        if !self.sound(log) {
+            return Issued {
+                record: self,
+                number: 1,
+            };
+        }
         let own = self.own;
-        let weights = self.weights;
-        let settled = self.settled;
-        let all = self.ballots;
-        if !quiet(n, own, weights, settled, all, log) {
-            return self.append(log, line, code);
+        let b = self.ballots[own];
+        let number = refusal(line, code, self.settled, b.len);
+        if number != 0 {
+            return Issued {
+                record: self,
+                number,
+            };
         }
-        let none = Ballot::none();
-        let mut ballots = [none; 8];
-        let number = refusal(line, code, settled, 0);
-        if number == 0 {
-            let first = none.push(entries::pack(own as u8, line as u8, code as u16));
-            ballots[own] = first;
+        let mut next = self;
+        next.ballots[own] = b.push(entries::pack(own as u8, line as u8, code as u16));
+        Issued {
+            record: next,
+            number: 0,
         }
-        let record = Record {
-            n,
-            own,
-            weights,
-            settled,
-            ballots,
-        };
-        Issued { record, number }
     }
 }

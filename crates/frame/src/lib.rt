@@ -1,5 +1,7 @@
 // An office's record, and the calls of the shared coding frame on it. A call takes the record by value and its log as a lent slice;
 // its answer has the paper's number, 0 when it is done, behind the next record where there is one.
+ghost use mathlib.Core.Path.{_≡_};
+ghost use Rattle.frame.specs.Soundness.{soundB};
 use ballots::Ballot;
 
 pub mod electing;
@@ -8,7 +10,6 @@ pub mod frames;
 pub mod issuing;
 pub mod sending;
 mod settling;
-mod soundness;
 pub mod taking;
 
 // n offices with their weights, the own office, the settled length and each office's ballot. The settled entries are the log's first words.
@@ -33,4 +34,13 @@ impl Record {
 
     // Entries in the settled log, and words in the lent buffer at least.
     pub const LOG: usize = 1024;
+
+    // Whether the record with its log is sound.
+    pub fn sound(self, log: &[u32]) -> bool
+        ensures { λ r. ⌜ r ≡ soundB self (now (log .entry)) ⌝ }
+    {
+        let weights = self.weights;
+        let ballots = self.ballots;
+        soundness::sound(self.n, self.own, weights, self.settled, ballots, log)
+    }
 }

@@ -8,12 +8,12 @@ impl Record {
     pub fn settled<'a>(self, log: &'a [u32], number: &mut u32) -> &'a [u32]
         ensures { λ r. ⌜ (now r ≡ settledOf self (now (log .entry))) × (now (number .exit) ≡ settledNumber self (now (log .entry))) ⌝ }
     {
-        let settled = self.settled;
         if !self.sound(log) {
             *number = 1;
             return &log[..0];
         }
         *number = 0;
+        let settled = self.settled;
         &log[..settled]
     }
 }

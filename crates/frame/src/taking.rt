@@ -1,11 +1,10 @@
 // Taking a message.
 ghost use mathlib.Core.Path.{_≡_};
 ghost use Rattle.spelling.specs.Reading.{reading};
-ghost use Rattle.reader.specs.Read.{readingOf};
-ghost use Rattle.frame.specs.Soundness.{Sound};
-ghost use Rattle.frame.specs.Taking.{takeNumber, takeOf, takeWords, refusedWith};
+ghost use Rattle.reading.specs.Read.{readingOf};
+ghost use Rattle.frame.specs.Taking.{takeNumber, takeOf, takeWords};
 use crate::Record;
-use reader::Reading;
+use reading::Reading;
 
 #[repr(C)]
 pub struct Taken {
@@ -14,14 +13,33 @@ pub struct Taken {
 }
 
 impl Record {
-    // The answer of a refused call: the record as it was.
-    fn refused(self, number: u32) -> Taken
-        ensures { λ r. ⌜ r ≡ refusedWith number self ⌝ }
+    // The number of a take, in the order of the definition; m is what the message was read as.
+    fn take_number(self, log: &[u32], msg: &[u8], m: Reading) -> u32
+        requires { ⌜ m ≡ readingOf (reading (now msg)) ⌝ }
+        ensures { λ r. ⌜ r ≡ takeNumber self (now (log .entry)) (now (msg .entry)) ⌝ }
     {
-        Taken {
-            number: number,
-            record: self,
+        if !self.sound(log) {
+            return 1;
         }
+        if !m.ok {
+            return 7;
+        }
+        if m.n != self.n {
+            return 8;
+        }
+        let theirs = m.weights;
+        let weights = self.weights;
+        if !lists::same_eight(theirs, weights) {
+            return 8;
+        }
+        if m.sender == self.own {
+            return 9;
+        }
+        let head = m.head;
+        if !intake::comparable(log, self.settled, &msg[head..], m.settled) {
+            return 10;
+        }
+        0
     }
 
     // Takes an accepted message: the settled length and the ballots that the message makes of them.
@@ -40,45 +58,22 @@ impl Record {
         next
     }
 
-    // Takes a message, with a record that is sound with its log.
-    fn take_sound(self, log: &mut [u32], msg: &[u8]) -> Taken
-        requires { ⌜ Sound self (now log) ⌝ }
-        ensures { λ r. ⌜ (r ≡ takeOf self (now (log .entry)) (now (msg .entry))) × (now (log .exit) ≡ takeWords self (now (log .entry)) (now (msg .entry))) ⌝ }
-    {
-        let settled = self.settled;
-        let weights = self.weights;
-        let m = reader::read(msg);
-        let theirs = m.weights;
-        let head = m.head;
-        if !m.ok {
-            return self.refused(7);
-        }
-        if m.n != self.n {
-            return self.refused(8);
-        }
-        if !ballots::same_weights(theirs, weights) {
-            return self.refused(8);
-        }
-        if m.sender == self.own {
-            return self.refused(9);
-        }
-        if !intake::comparable(&log[..], settled, &msg[head..], m.settled) {
-            return self.refused(10);
-        }
-        let next = self.take_accepted(log, msg, m);
-        Taken {
-            number: 0,
-            record: next,
-        }
-    }
-
     // Take: an accepted message is worked into the record and its log; a refused one changes nothing.
     pub fn take(self, log: &mut [u32], msg: &[u8]) -> Taken
         ensures { λ r. ⌜ (r ≡ takeOf self (now (log .entry)) (now (msg .entry))) × (now (log .exit) ≡ takeWords self (now (log .entry)) (now (msg .entry))) ⌝ }
     {
-        if !self.sound(&log[..]) {
-            return self.refused(1);
+        let m = reading::read(msg);
+        let number = self.take_number(&log[..], msg, m);
+        if number != 0 {
+            return Taken {
+                record: self,
+                number,
+            };
         }
-        self.take_sound(log, msg)
+        let next = self.take_accepted(log, msg, m);
+        Taken {
+            record: next,
+            number: 0,
+        }
     }
 }

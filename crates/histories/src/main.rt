@@ -1,4 +1,4 @@
 // Random histories: the rehearsal program, run on the stored worlds of every kind.
 fn main() {
-    rehearsing::rehearse();
+    rehearsal_io::rehearse();
 }

@@ -1,5 +1,5 @@
 -- The settled log beside a message's: the comparison of the two, and the words after the log has caught up.
---     either-shorter, either-longer      of two lists the shorter one decides whether one is a beginning of the other
+--     by-shorter, by-longer              of two lists the shorter one decides whether one is a beginning of the other
 --     decides-own, decides-theirs        the same of the log's words and the message's log records
 --     keeps, grows, Longer               the settled length and the words after the log has caught up
 --     Caught, caught                     what the settled log has before it is the message's, and what it lacked
@@ -14,16 +14,17 @@ use lib.Dec.{ltb}
 use lib.ListN.{length, take, drop, length-drop, take-append-drop}
 use lib.Seq.{sets, length-take-le, drop-append-le, take-at}
 use borrow.Author.Tests.{lt-ltb, le-ltb, ltb-true, ltb-false}
-use Rattle.protocol.specs.Tests.{pick}
-use Rattle.protocol.specs.Beginning.{_⊑_, _⊏_, begins}
-use Rattle.protocol.proofs.Tests.{pick-cases}
+use Rattle.lists.specs.Tests.{pick}
+use Rattle.protocol.specs.Beginning.{_⊑_, _⊏_, begins, comparable}
+use Rattle.lists.proofs.Tests.{pick-cases}
 use Rattle.protocol.proofs.Beginning.{⊑-cases, ⊏-length, ⊑-length, ⊑-rest, ⊑-refl, begins-true, begins-of}
-use Rattle.paths.proofs.Walks.{take-from}
-use Rattle.spelling.specs.Numbers.{runAt}
+use Rattle.merging.proofs.Walks.{take-from}
+use Rattle.numbers.specs.Numbers.{runAt}
 use Rattle.spelling.specs.Reading.{recordAt}
-use Rattle.spelling.proofs.Runs.{runAt-length}
-use Rattle.reader.proofs.Logs.{same-shorter, same-longer, extended}
-use Rattle.intake.specs.Intake.{either, caughtLength, caughtWords}
+use Rattle.numbers.proofs.Runs.{runAt-length}
+use Rattle.reading.proofs.Logs.{same-shorter, same-longer, extended}
+use Rattle.intake.specs.Intake.{caughtLength, caughtWords}
+use Rattle.ballots.specs.Ballots.{wordsWith}
 
 -- a beginning that is not shorter is the list itself
 not-shorter : (a b : List ℕ) → a ⊑ b → length b ≤ length a → b ⊑ a
@@ -33,16 +34,16 @@ not-shorter a b p h = go (⊑-cases a b p)
     go (inl e) = subst (λ (l : List ℕ). b ⊑ l) (sym e) (⊑-refl b)
     go (inr q) = absurd (omega (arith, ⊏-length a b q))
 
-pub either-shorter : (a b : List ℕ) → length a ≤ length b → either a b ≡ begins a b
-either-shorter a b h = go (begins a b) refl (begins b a) refl
+by-shorter : (a b : List ℕ) → length a ≤ length b → comparable a b ≡ begins a b
+by-shorter a b h = go (begins a b) refl (begins b a) refl
   where
     go : (x : Bool) → begins a b ≡ x → (y : Bool) → begins b a ≡ y → (x || y) ≡ x
     go true p y q = refl
     go false p false q = refl
     go false p true q = sym (begins-of a b (not-shorter b a (begins-true b a q) h)) ∙ p
 
-pub either-longer : (a b : List ℕ) → length b ≤ length a → either a b ≡ begins b a
-either-longer a b h = or-comm (begins a b) (begins b a) ∙ either-shorter b a h
+by-longer : (a b : List ℕ) → length b ≤ length a → comparable a b ≡ begins b a
+by-longer a b h = or-comm (begins a b) (begins b a) ∙ by-shorter b a h
 
 -- ── the message's log where it stands: k log records in the rest of the message ──
 module _ (log rest : List ℕ) (settled k : ℕ) (room : settled ≤ length log) where
@@ -58,16 +59,16 @@ module _ (log rest : List ℕ) (settled k : ℕ) (room : settled ≤ length log)
   again : runAt 6 recordAt (length theirs) rest ≡ theirs
   again = ap (λ (j : ℕ). runAt 6 recordAt j rest) theirs-length
 
-  pub decides-own : settled ≤ k → begins (take settled log) (runAt 6 recordAt settled rest) ≡ either (take settled log) theirs
+  pub decides-own : settled ≤ k → begins (take settled log) (runAt 6 recordAt settled rest) ≡ comparable (take settled log) theirs
   decides-own h =
       same-shorter log rest theirs settled again room (omega (arith, theirs-length))
-      ∙ sym (either-shorter (take settled log) theirs (omega (arith, theirs-length, own-long)))
+      ∙ sym (by-shorter (take settled log) theirs (omega (arith, theirs-length, own-long)))
 
-  pub decides-theirs : k ≤ settled → begins (take k log) (runAt 6 recordAt k rest) ≡ either (take settled log) theirs
+  pub decides-theirs : k ≤ settled → begins (take k log) (runAt 6 recordAt k rest) ≡ comparable (take settled log) theirs
   decides-theirs h =
       ap (λ (j : ℕ). begins (take j log) (runAt 6 recordAt j rest)) (sym theirs-length)
       ∙ same-longer log rest theirs settled again room (omega (arith, theirs-length))
-      ∙ sym (either-longer (take settled log) theirs (omega (arith, theirs-length, own-long)))
+      ∙ sym (by-longer (take settled log) theirs (omega (arith, theirs-length, own-long)))
 
 -- what is left of the log where its settled part is not the shorter one, and where it is
 pub keeps : (words rest : List ℕ) (settled k : ℕ) → k ≤ settled → (settled ≡ caughtLength settled (runAt 6 recordAt k rest)) × (words ≡ caughtWords words settled (runAt 6 recordAt k rest))
@@ -95,10 +96,6 @@ longer-end rest settled k =
     pick-cases (λ (e : ℕ). Longer settled k e) (ltb settled (length (runAt 6 recordAt k rest))) (length (runAt 6 recordAt k rest)) settled
     (λ t. let q = ltb-true settled (length (runAt 6 recordAt k rest)) t in record { past-own = omega arith; past-theirs = omega arith; within = λ most a b. omega arith })
     (λ t. let q = ltb-false settled (length (runAt 6 recordAt k rest)) t in record { past-own = omega arith; past-theirs = omega arith; within = λ most a b. omega arith })
-
--- words with a log in front of those past it
-abbrev pub wordsWith : List ℕ → List ℕ → List ℕ
-wordsWith log words = log ++ drop (length log) words
 
 -- the words from one place of a list up to another
 abbrev pub part : List ℕ → ℕ → ℕ → List ℕ

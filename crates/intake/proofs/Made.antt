@@ -1,39 +1,40 @@
 -- The code's work on a message is the protocol's take: `merged`. Assumes nothing.
 use mathlib.Core.Path.{_≡_, refl, sym, ap, ap₂, subst, _∙_}
-use mathlib.Core.Bool.{true}
-use mathlib.Core.Logic.{_⊎_, inl, inr}
+use mathlib.Core.Bool.{Bool, true, false, _||_}
+use mathlib.Core.Logic.{inl, inr}
 use mathlib.Core.List.{List, [], _∷_, map}
 use Prim.Native.Nat.{ℕ, zero, suc, _<_, _≤_}
 use native.Mathlib.Nat.{not-suc-le-zero, le-of-suc-le-suc}
 use native.Mathlib.Omega.{arith}
 use lib.ListN.{length, getD, take, set, length-map}
-use Rattle.protocol.specs.Beginning.{begins}
-use Rattle.protocol.specs.Take.{offers, withTake}
-use Rattle.protocol.proofs.Tests.{or-true, map-set, getD-map}
+use Rattle.protocol.specs.Beginning.{begins, comparable}
+use Rattle.protocol.specs.Take.{offers}
+use Rattle.lists.specs.Tests.{pick}
+use Rattle.lists.proofs.Tests.{map-set, getD-map}
 use Rattle.protocol.proofs.Beginning.{begins-true}
 use Rattle.ballots.specs.declared.Ballot.{Ballot}
-use Rattle.ballots.specs.Ballots.{tailOf, ballotOf, offEnd}
-use Rattle.paths.specs.Paths.{pastBallot, adopted}
-use Rattle.paths.proofs.Laws.{Taking, take-past}
-use Rattle.spelling.specs.Numbers.{runAt}
+use Rattle.ballots.specs.Ballots.{tailOf, ballotOf, offEnd, officeIn, wordsWith}
+use Rattle.merging.specs.Merging.{pastBallot, adoptedAll}
+use Rattle.merging.proofs.Laws.{Taking, take-past}
+use Rattle.numbers.specs.Numbers.{runAt}
 use Rattle.spelling.specs.Reading.{recordAt}
-use Rattle.spelling.proofs.Runs.{runAt-length}
-use Rattle.reader.specs.declared.Reading.{Reading}
-use Rattle.intake.specs.Intake.{officeIn, messageIn, mergedOf, either, caughtLength, caughtWords, Ready}
+use Rattle.numbers.proofs.Runs.{runAt-length}
+use Rattle.reading.specs.declared.Reading.{Reading}
+use Rattle.intake.specs.Intake.{messageIn, takenIn, mergedOf, caughtLength, caughtWords, Ready}
 use Rattle.intake.specs.declared.Merged.{Merged}
-use Rattle.intake.proofs.Caught.{Caught, caught, part, Comparable, wordsWith, Longer, longer-end}
+use Rattle.intake.proofs.Caught.{Caught, caught, part, Comparable, Longer, longer-end}
 
 getD-any : {A : Type 0} (l : List A) (i : ℕ) (a b : A) → i < length l → getD l i a ≡ getD l i b
 getD-any [] i a b h = absurd (not-suc-le-zero h)
 getD-any (x ∷ l) zero a b h = refl
 getD-any (x ∷ l) (suc i) a b h = getD-any l i a b (le-of-suc-le-suc h)
 
-compared : (a b : List ℕ) → either a b ≡ true → Comparable a b
-compared a b e = go (or-true (begins a b) (begins b a) e)
+compared : (a b : List ℕ) → comparable a b ≡ true → Comparable a b
+compared a b = go (begins a b) refl
   where
-    go : (begins a b ≡ true) ⊎ (begins b a ≡ true) → Comparable a b
-    go (inl p) = inl (begins-true a b p)
-    go (inr p) = inr (begins-true b a p)
+    go : (x : Bool) → begins a b ≡ x → (x || begins b a) ≡ true → Comparable a b
+    go true p e = inl (begins-true a b p)
+    go false p e = inr (begins-true b a e)
 
 module _ (words : List ℕ) (settled : ℕ) (ballots : List Ballot) (own : ℕ) (rest : List ℕ) (m : Reading) (R : Ready words settled ballots own rest m) where
   abbrev theirs : List ℕ
@@ -58,7 +59,7 @@ module _ (words : List ℕ) (settled : ℕ) (ballots : List Ballot) (own : ℕ) 
   caught-up : Caught words settled theirs (part new settled endOf) (part new (m .settled) endOf)
   caught-up =
       subst (λ (k : ℕ). Caught words settled theirs (part new settled endOf) (part new k endOf)) long
-      (caught words settled theirs (R .settled-within) (omega (arith, long, R .theirs-within)) (compared (take settled words) theirs (R .comparable)))
+      (caught words settled theirs (R .settled-within) (omega (arith, long, R .theirs-within)) (compared (take settled words) theirs (R .compared)))
 
   taking : Taking own (messageIn rest m) (officeIn words settled ballots) (part new settled endOf) (part new (m .settled) endOf)
   taking = take-past own (messageIn rest m) (officeIn words settled ballots) (part new settled endOf) (part new (m .settled) endOf) (caught-up .whole) (caught-up .one)
@@ -78,16 +79,16 @@ module _ (words : List ℕ) (settled : ℕ) (ballots : List Ballot) (own : ℕ) 
 
   -- the ballots that the code makes
   abbrev adoptedBy : List ℕ → ℕ → List Ballot
-  adoptedBy ws k = adopted (part ws (m .settled) k) (map (pastBallot (part ws settled k)) ballots) offered
+  adoptedBy ws k = adoptedAll (part ws (m .settled) k) (map (pastBallot (part ws settled k)) ballots) offered
 
-  ballots-made : map ballotOf (withTake own (messageIn rest m) (officeIn words settled ballots) .tails) ≡ adoptedBy new endOf
+  ballots-made : map ballotOf (takenIn words settled ballots own rest m .tails) ≡ adoptedBy new endOf
   ballots-made =
       taking .ballots
-      ∙ ap₂ (λ (bs qs : List Ballot). adopted (part new (m .settled) endOf) (map (pastBallot (part new settled endOf)) bs) qs) (R .held) offers-made
+      ∙ ap₂ (λ (bs qs : List Ballot). adoptedAll (part new (m .settled) endOf) (map (pastBallot (part new settled endOf)) bs) qs) (R .held) offers-made
 
   pub merged : (k : ℕ) (ws : List ℕ) (bs : List Ballot) → k ≡ endOf → ws ≡ new → bs ≡ adoptedBy ws k
-      → (_≡_ {A = Merged} (record { settled = k; ballots = bs }) (mergedOf (withTake own (messageIn rest m) (officeIn words settled ballots))))
-      × (ws ≡ wordsWith (withTake own (messageIn rest m) (officeIn words settled ballots) .log) words)
+      → (_≡_ {A = Merged} (record { settled = k; ballots = bs }) (mergedOf (takenIn words settled ballots own rest m)))
+      × (ws ≡ wordsWith (takenIn words settled ballots own rest m .log) words)
   merged k ws bs ek ew eb = (
     (λ i. record { settled = (ek ∙ sym (ap length (taking .log) ∙ caught-up .long)) i; ballots = (eb ∙ ap₂ adoptedBy ew ek ∙ sym ballots-made) i }),
     ew ∙ sym (ap (λ (l : List ℕ). wordsWith l words) (taking .log) ∙ caught-up .kept),

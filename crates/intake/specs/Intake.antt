@@ -1,24 +1,21 @@
 -- An office's log and ballots beside a message that was read, and what a take makes of them. Assumes nothing.
 use Prim.Native.Nat.{ℕ, _*_, _<_, _≤_}
 use mathlib.Core.Path.{_≡_}
-use mathlib.Core.Bool.{Bool, true, _||_}
+use mathlib.Core.Bool.{true}
 use mathlib.Core.List.{List, map}
 use lib.Dec.{ltb}
 use lib.ListN.{length, take, drop}
 use lib.Seq.{sets}
-use Rattle.protocol.specs.Tests.{pick}
-use Rattle.protocol.specs.Beginning.{begins}
+use Rattle.lists.specs.Tests.{pick}
+use Rattle.protocol.specs.Beginning.{comparable}
 use Rattle.protocol.specs.Office.{Office, Message}
+use Rattle.protocol.specs.Take.{withTake}
 use Rattle.ballots.specs.declared.Ballot.{Ballot}
-use Rattle.ballots.specs.Ballots.{tailOf, ballotOf}
-use Rattle.spelling.specs.Numbers.{runAt}
+use Rattle.ballots.specs.Ballots.{tailOf, ballotOf, officeIn}
+use Rattle.numbers.specs.Numbers.{runAt}
 use Rattle.spelling.specs.Reading.{recordAt}
-use Rattle.reader.specs.declared.Reading.{Reading}
+use Rattle.reading.specs.declared.Reading.{Reading}
 use Rattle.intake.specs.declared.Merged.{Merged}
-
--- the office's state in its log's words and its ballots
-abbrev pub officeIn : List ℕ → ℕ → List Ballot → Office
-officeIn words settled ballots = record { log = take settled words; tails = map tailOf ballots }
 
 -- the message that was read: its log records stand in the rest after the head
 abbrev pub messageIn : List ℕ → Reading → Message
@@ -28,9 +25,9 @@ messageIn rest m = record { sender = m .sender; state = record { log = runAt 6 r
 abbrev pub mergedOf : Office → Merged
 mergedOf o = record { settled = length (o .log); ballots = map ballotOf (o .tails) }
 
--- one of two logs is a beginning of the other
-abbrev pub either : List ℕ → List ℕ → Bool
-either a b = begins a b || begins b a
+-- the office's state after it took the message that was read
+abbrev pub takenIn : List ℕ → ℕ → List Ballot → ℕ → List ℕ → Reading → Office
+takenIn words settled ballots own rest m = withTake own (messageIn rest m) (officeIn words settled ballots)
 
 -- "if the message's log extends the settled log, the record writes the missing entries from its own length onward": the settled length
 -- and the log's words after that
@@ -47,7 +44,7 @@ pub record Ready (words : List ℕ) (settled : ℕ) (ballots : List Ballot) (own
   pub settled-within : settled ≤ length words
   pub theirs-within : m .settled ≤ length words
   pub records-within : 6 * m .settled ≤ length rest
-  pub comparable : either (take settled words) (runAt 6 recordAt (m .settled) rest) ≡ true
+  pub compared : comparable (take settled words) (runAt 6 recordAt (m .settled) rest) ≡ true
   pub held : map ballotOf (map tailOf ballots) ≡ ballots
   pub theirs-eight : length (m .ballots) ≡ 8
   pub theirs-held : map ballotOf (map tailOf (m .ballots)) ≡ m .ballots

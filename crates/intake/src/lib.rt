@@ -1,15 +1,15 @@
 // Take's work on a log and eight ballots, from a message that was read: the two logs compared, the log caught up, the ballots brought past
 // it and offered the message's. Public only for the crate above, which proves what the functions require.
 ghost use mathlib.Core.Path.{_≡_};
-ghost use mathlib.Core.List.{_++_};
 ghost use Prim.Native.Nat.{_*_, _≤_};
-ghost use lib.ListN.{length, take, drop};
-ghost use Rattle.protocol.specs.Take.{withTake};
-ghost use Rattle.spelling.specs.Numbers.{runAt};
+ghost use lib.ListN.{length, take};
+ghost use Rattle.numbers.specs.Numbers.{runAt};
 ghost use Rattle.spelling.specs.Reading.{recordAt};
-ghost use Rattle.intake.specs.Intake.{officeIn, messageIn, mergedOf, either, caughtLength, caughtWords, Ready};
+ghost use Rattle.intake.specs.Intake.{takenIn, mergedOf, caughtLength, caughtWords, Ready};
+ghost use Rattle.ballots.specs.Ballots.{wordsWith};
+ghost use Rattle.protocol.specs.Beginning.{comparable};
 use ballots::Ballot;
-use reader::Reading;
+use reading::Reading;
 
 // A settled length and the ballots beside that log.
 pub struct Merged {
@@ -20,12 +20,12 @@ pub struct Merged {
 // Whether one of the two settled logs is a beginning of the other: the log's first words, and the message's k log records.
 pub fn comparable(log: &[u32], settled: usize, rest: &[u8], k: usize) -> bool
     requires { ⌜ (settled ≤ length (now log)) × (6 * k ≤ length (now rest)) ⌝ }
-    ensures { λ r. ⌜ r ≡ either (take settled (now (log .entry))) (runAt 6 recordAt k (now (rest .entry))) ⌝ }
+    ensures { λ r. ⌜ r ≡ comparable (take settled (now (log .entry))) (runAt 6 recordAt k (now (rest .entry))) ⌝ }
 {
     if settled <= k {
-        return reader::same_log(log, rest, settled);
+        return reading::same_log(log, rest, settled);
     }
-    reader::same_log(log, rest, k)
+    reading::same_log(log, rest, k)
 }
 
 // Where the message's log is the longer, writes the missing entries from the settled length onward; answers the new settled length.
@@ -36,7 +36,7 @@ fn catch_up(log: &mut [u32], settled: usize, rest: &[u8], k: usize) -> usize
     if k <= settled {
         return settled;
     }
-    reader::extend(log, settled, rest, k);
+    reading::extend(log, settled, rest, k);
     k
 }
 
@@ -51,14 +51,14 @@ pub fn take_in(
     m: Reading,
 ) -> Merged
     requires { ⌜ Ready (now log) settled ballots own (now rest) m ⌝ }
-    ensures merged { λ r. ⌜ r ≡ mergedOf (withTake own (messageIn (now (rest .entry)) m) (officeIn (now (log .entry)) settled ballots)) ⌝ }
-    ensures words { λ _. ⌜ now (log .exit) ≡ withTake own (messageIn (now (rest .entry)) m) (officeIn (now (log .entry)) settled ballots) .log ++ drop (length (withTake own (messageIn (now (rest .entry)) m) (officeIn (now (log .entry)) settled ballots) .log)) (now (log .entry)) ⌝ }
+    ensures merged { λ r. ⌜ r ≡ mergedOf (takenIn (now (log .entry)) settled ballots own (now (rest .entry)) m) ⌝ }
+    ensures words { λ _. ⌜ now (log .exit) ≡ wordsWith (takenIn (now (log .entry)) settled ballots own (now (rest .entry)) m .log) (now (log .entry)) ⌝ }
 {
     let theirs = m.settled;
     let sender = m.sender;
     let offers = m.ballots;
     let end = catch_up(log, settled, rest, theirs);
-    let next = paths::merge(
+    let next = merging::merge(
         ballots,
         offers,
         own,

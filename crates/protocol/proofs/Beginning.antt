@@ -10,7 +10,7 @@ use lib.ListN as L
 use lib.ListN.{length, drop}
 use borrow.Author.Tests.{eqb-true, eq-eqb}
 use Rattle.protocol.specs.Beginning.{_⊑_, _⊏_, begins, extends}
-use Rattle.protocol.proofs.Tests.{and-true}
+use Rattle.lists.proofs.Tests.{and-true}
 
 pub ⊑-refl : (a : List ℕ) → a ⊑ a
 ⊑-refl [] = tt
@@ -65,11 +65,11 @@ pub ⊑-antisym : (a b : List ℕ) → a ⊑ b → b ⊑ a → a ≡ b
     go (inr h) = absurd (⊏-irrefl a (⊏-⊑-trans a b a h q))
 
 -- two beginnings of one list
-pub ⊑-either : (a b c : List ℕ) → a ⊑ c → b ⊑ c → (a ⊑ b) ⊎ (b ⊏ a)
-⊑-either [] b c p q = inl tt
-⊑-either (x ∷ a) [] c p q = inr tt
-⊑-either (x ∷ a) (y ∷ b) [] p q = absurd p
-⊑-either (x ∷ a) (y ∷ b) (z ∷ c) p q = go (⊑-either a b c (p .1) (q .1))
+pub ⊑-comparable : (a b c : List ℕ) → a ⊑ c → b ⊑ c → (a ⊑ b) ⊎ (b ⊏ a)
+⊑-comparable [] b c p q = inl tt
+⊑-comparable (x ∷ a) [] c p q = inr tt
+⊑-comparable (x ∷ a) (y ∷ b) [] p q = absurd p
+⊑-comparable (x ∷ a) (y ∷ b) (z ∷ c) p q = go (⊑-comparable a b c (p .1) (q .1))
   where
     go : (a ⊑ b) ⊎ (b ⊏ a) → ((x ∷ a) ⊑ (y ∷ b)) ⊎ ((y ∷ b) ⊏ (x ∷ a))
     go (inl h) = inl (p .0 ∙ sym (q .0), h)

@@ -6,14 +6,15 @@ use mathlib.Core.Bool.{true, false}
 use Prim.Native.Nat.{ℕ, _+_}
 use lib.Dec.{ltb}
 use lib.ListN.{replicate}
-use Rattle.protocol.specs.Entry.{value}
+use Rattle.protocol.specs.Entry.{value, proper}
 use Rattle.protocol.specs.Beginning.{begins, extends}
 use Rattle.protocol.specs.Vote.{tally, unheard, supported, wins, winner, byWeights}
 use Rattle.protocol.specs.Office.{Office, Message, votes, fresh}
-use Rattle.protocol.specs.Issue.{refuseIssue}
+use Rattle.lists.specs.Tests.{both, pick}
+use Rattle.protocol.specs.Issue.{refusalAt, refuseIssue}
 use Rattle.protocol.specs.Take.{rebase, catchUp, withTake, refuseTake}
 use Rattle.protocol.specs.Elect.{settle, electing, withElect, electCount}
-use Rattle.protocol.specs.World.{World, take, names, refusal, done, step}
+use Rattle.protocol.proofs.World.{World, take, names, refusal, done, step}
 
 -- ── the cases' entries, weights and states ──
 abbrev a : ℕ
@@ -160,5 +161,5 @@ pub limits :
     (refuseIssue 0 63 9999 (full 0 31) ≡ 0) × (refuseIssue 0 63 9999 (full 0 32) ≡ 4) × (refuseIssue 0 64 9999 (full 0 32) ≡ 3) ×
     (refuseIssue 0 63 9999 (full 1023 0) ≡ 0) × (refuseIssue 0 63 9999 (full 1024 0) ≡ 5) × (refuseIssue 0 63 9999 (full 992 31) ≡ 0) ×
     (refuseIssue 0 63 9999 (full 993 31) ≡ 5) × (refuseIssue 0 63 9999 (full 992 32) ≡ 4)
-unfolding refuseIssue
+unfolding refuseIssue refusalAt proper both pick
 limits = (refl, refl, refl, refl, refl, refl, refl, refl, refl, refl, refl)

@@ -103,7 +103,8 @@ module _ (rule : Rule) (law : NamesVoted rule) where
       Stops : Office → Type 0
       Stops r = rule (r .log) (votes r) ≡ none
 
-      go : ((e : ℕ) → tailEntries (settle e o .tails) ≤ fuel → Stops (electing rule fuel (settle e o))) → (r : Option ℕ) → rule (o .log) (votes o) ≡ r → Stops (next r o (λ e. electing rule fuel (settle e o)))
+      go : ((e : ℕ) → tailEntries (settle e o .tails) ≤ fuel → Stops (electing rule fuel (settle e o)))
+          → (r : Option ℕ) → rule (o .log) (votes o) ≡ r → Stops (next r o (λ e. electing rule fuel (settle e o)))
       go ih none q = q
       go ih (some e) q = ih e (omega (arith, settle-shorter o e q))
 

@@ -7,7 +7,7 @@ use Rattle.protocol.specs.Beginning.{_⊑_}
 use Rattle.protocol.specs.Vote.{Rule}
 use Rattle.protocol.specs.Office.{Office, votes}
 use Rattle.protocol.specs.Elect.{settle, electing, withElect}
-use Rattle.protocol.specs.World.{Call}
+use Rattle.protocol.proofs.World.{Call}
 use Rattle.protocol.proofs.Beginning.{⊑-refl, ⊑-trans, ⊑-antisym, ⊑-append}
 use Rattle.protocol.proofs.Lawful.{Lawful}
 use Rattle.protocol.proofs.Office.{settle-path, next-cases}
@@ -46,7 +46,8 @@ module _ (rule : Rule) (n : ℕ) (law : Lawful rule) where
       go (inl a) (inl b) = inl (a ∙ b)
       go (inl a) (inr b) = inr (⊑-antisym (r .log) (t .order) (t .passing .settled) (subst (λ (z : List ℕ). z ⊑ r .log) (b ∙ sym a) (t .low)))
 
-  electing-passing : (cs : List Call) (k : ℕ) → OwnIssued rule n cs → (fuel : ℕ) (q : List ℕ) (o : Office) → EachElected rule n law cs q → Passing rule n law cs q k o → Elects cs q k o (electing rule fuel o)
+  electing-passing : (cs : List Call) (k : ℕ) → OwnIssued rule n cs → (fuel : ℕ) (q : List ℕ) (o : Office)
+      → EachElected rule n law cs q → Passing rule n law cs q k o → Elects cs q k o (electing rule fuel o)
   unfolding electing settle
   electing-passing cs k pr zero q o ok m = no-more cs q k o ok m
   electing-passing cs k pr (suc fuel) q o ok m =

@@ -13,16 +13,17 @@ use Rattle.protocol.specs.Entry.{value}
 use Rattle.protocol.specs.Beginning.{_⊑_, _⊏_, begins}
 use Rattle.protocol.specs.Vote.{Rule}
 use Rattle.protocol.specs.Office.{Message, tail}
-use Rattle.protocol.specs.Issue.{withIssue, refuseIssue}
+use Rattle.protocol.specs.Issue.{withIssue}
 use Rattle.protocol.specs.Take.{refuseTake}
 use Rattle.protocol.specs.Elect.{withElect}
-use Rattle.protocol.specs.World.{Call, issue, send, take, elect, idle, names, taking, refuseTaking, refusal, done, step}
-use Rattle.protocol.proofs.Tests.{and-true, or-right, if-cases}
-use Rattle.protocol.proofs.Beginning.{⊑-refl, ⊏-⊑, ⊑-either, begins-of}
+use Rattle.protocol.proofs.World.{World, Call, issue, send, take, elect, idle, names, taking, refuseTaking, refusal, done, step}
+use Rattle.lists.proofs.Tests.{and-true, or-right, if-cases}
+use Rattle.protocol.proofs.Beginning.{⊑-refl, ⊏-⊑, ⊑-comparable, begins-of}
 use Rattle.protocol.proofs.Lawful.{Lawful}
 use Rattle.protocol.proofs.History.{past-refl, after, after-length, officeAt, logAt}
 use Rattle.protocol.proofs.Known.{Sent}
 use Rattle.protocol.proofs.Invariant.{Invariant, NextWorld, advance, same-left, same-next, put-next, invariant-start}
+use Rattle.protocol.proofs.Limits.{issue-never}
 use Rattle.protocol.proofs.IssueKeeps.{issue-change}
 use Rattle.protocol.proofs.TakeKeeps.{known-message, taking-change}
 use Rattle.protocol.proofs.ElectKeeps.{elect-change}
@@ -31,12 +32,6 @@ use Rattle.protocol.proofs.ElectKeeps.{elect-change}
 ten-not : (t : Bool) → t ≡ true → _≡_ {A = ℕ} (cond t 0 10) 10 → ⊥
 ten-not true e h = omega arith
 ten-not false e h = true≢false (sym e)
-
-issue-not : (a b c : Bool) → _≡_ {A = ℕ} (cond a 3 (cond b 4 (cond c 5 0))) 10 → ⊥
-issue-not true b c h = omega arith
-issue-not false true c h = omega arith
-issue-not false false true h = omega arith
-issue-not false false false h = omega arith
 
 send-not : (a : Bool) → _≡_ {A = ℕ} (cond a 0 6) 10 → ⊥
 send-not true h = omega arith
@@ -47,8 +42,11 @@ module _ (rule : Rule) (n : ℕ) (law : Lawful rule) where
   there : (cs : List Call) (k : ℕ) → ltb k (length (after rule n cs .offices)) ≡ true → k < n
   there cs k h = omega (arith, ltb-true k (length (after rule n cs .offices)) h, after-length rule n cs)
 
-  -- a sent message holds what its office is now
-  send-next : (c : Call) (cs : List Call) (inv : Invariant rule n law cs) (k : ℕ) → NextWorld rule n law c cs (inv .order) (record { offices = after rule n cs .offices; sent = record { sender = k; state = officeAt rule n k cs } ∷ after rule n cs .sent })
+  -- the world with a message of office k, which holds what the office is now
+  abbrev withSent : List Call → ℕ → World
+  withSent cs k = record { offices = after rule n cs .offices; sent = record { sender = k; state = officeAt rule n k cs } ∷ after rule n cs .sent }
+
+  send-next : (c : Call) (cs : List Call) (inv : Invariant rule n law cs) (k : ℕ) → NextWorld rule n law c cs (inv .order) (withSent cs k)
   send-next c cs inv k = record {
     order = inv .order;
     grows = ⊑-refl (inv .order);
@@ -58,11 +56,14 @@ module _ (rule : Rule) (n : ℕ) (law : Lawful rule) where
     sent = new;
   }
     where
-      new : (i : ℕ) (m : Message) → getElem? (record { sender = k; state = officeAt rule n k cs } ∷ after rule n cs .sent) i ≡ some m → Sent rule n cs m
-      new zero m e = (cs, past-refl cs, ap (λ (x : Message). officeAt rule n (x .sender) cs) (sym (Option·some-injective _ m e)) ∙ ap (λ (x : Message). x .state) (Option·some-injective _ m e))
+      new : (i : ℕ) (m : Message) → getElem? (withSent cs k .sent) i ≡ some m → Sent rule n cs m
+      new zero m e =
+          let same = Option·some-injective _ m e in
+          (cs, past-refl cs, ap (λ (x : Message). officeAt rule n (x .sender) cs) (sym same) ∙ ap (λ (x : Message). x .state) same)
       new (suc i) m e = inv .sent i m e
 
-  done-next : (c : Call) (cs : List Call) (inv : Invariant rule n law cs) → names (after rule n cs) c ≡ true → refusal (after rule n cs) c ≡ 0 → NextWorld rule n law c cs (inv .order) (done rule (after rule n cs) c)
+  done-next : (c : Call) (cs : List Call) (inv : Invariant rule n law cs) → names (after rule n cs) c ≡ true → refusal (after rule n cs) c ≡ 0
+      → NextWorld rule n law c cs (inv .order) (done rule (after rule n cs) c)
   unfolding done names
   done-next (issue k line code) cs inv h r =
       put-next rule n law (issue k line code) cs inv k (withIssue k (value k line code) (officeAt rule n k cs)) (there cs k h) (issue-change rule n law cs inv k line code r (there cs k h))
@@ -88,7 +89,7 @@ module _ (rule : Rule) (n : ℕ) (law : Lawful rule) where
   take-never : (cs : List Call) → Invariant rule n law cs → (k : ℕ) (m : Option Message) (i : ℕ) → getElem? (after rule n cs .sent) i ≡ m → refuseTaking k m (officeAt rule n k cs) ≡ 10 → ⊥
   unfolding refuseTake
   take-never cs inv k none i e h = omega arith
-  take-never cs inv k (some m) i e h = go (eqb (m .sender) k) (⊑-either l (m .state .log) (inv .order) (inv .logs k) (known-message rule n law cs inv i m e .settled)) h
+  take-never cs inv k (some m) i e h = go (eqb (m .sender) k) (⊑-comparable l (m .state .log) (inv .order) (inv .logs k) (known-message rule n law cs inv i m e .settled)) h
     where
       l : List ℕ
       l = logAt rule n k cs
@@ -99,9 +100,8 @@ module _ (rule : Rule) (n : ℕ) (law : Lawful rule) where
       go false (inr z) h = ten-not _ (ap (λ (b : Bool). begins l (m .state .log) || b) (begins-of (m .state .log) l (⊏-⊑ (m .state .log) l z)) ∙ or-right (begins l (m .state .log))) h
 
   pub never-10 : (cs : List Call) → Invariant rule n law cs → (c : Call) → refusal (after rule n cs) c ≡ 10 → ⊥
-  unfolding refusal refuseIssue
-  never-10 cs inv (issue k line code) h =
-      issue-not (ltb 63 line || ltb 9999 code) (eqb (length (tail (officeAt rule n k cs) k)) 32) (eqb (length (logAt rule n k cs) + length (tail (officeAt rule n k cs) k)) 1024) h
+  unfolding refusal
+  never-10 cs inv (issue k line code) h = issue-never k line code (officeAt rule n k cs) .1 h
   never-10 cs inv (send k room) h = send-not room h
   never-10 cs inv (take k i) h = take-never cs inv k (getElem? (after rule n cs .sent) i) i refl h
   never-10 cs inv (elect k) h = omega arith

@@ -1,23 +1,23 @@
--- What is known of any entry that an office holds, settled or not.
+-- What is known of any entry that an office holds, settled or not, after every list of calls.
 --     held-issued      it was issued by its own office, under a log that is a beginning of the holder's
 --     issued-once      one path in view, one entry: no office issues two entries with the same path in view
 --     never-again      after its issue the office never has that path in view again
 -- Assumes nothing.
 use mathlib.Core.Path.{_≡_, subst}
 use mathlib.Core.List.{List, _∷_}
-use Prim.Native.Nat.{ℕ}
+use Prim.Native.Nat.{ℕ, _<_}
 use Rattle.protocol.specs.Entry.{officeOf}
 use Rattle.protocol.specs.Beginning.{_⊑_, _⊏_}
 use Rattle.protocol.specs.Vote.{Rule}
 use Rattle.protocol.specs.Office.{tail, path}
-use Rattle.protocol.specs.World.{Call, issue, refusal}
+use Rattle.protocol.proofs.World.{Call, issue, refusal}
 use Rattle.protocol.proofs.Beginning.{⊑-append, ⊑-⊏-trans, ⊏-irrefl, snoc-⊏}
 use Rattle.protocol.proofs.Lawful.{Lawful}
 use Rattle.protocol.proofs.History.{Past, past-refl, past-trans, officeAt, logAt, ownAt}
 use Rattle.protocol.proofs.Steady.{past-moves, Voted, voted-unique, voted-later}
 use Rattle.protocol.proofs.Issued.{Issued, EachIssued}
 use Rattle.protocol.proofs.Settled.{order-issued, ballot-issued}
-use Rattle.protocol.proofs.Invariant.{Invariant}
+use Rattle.protocol.proofs.EveryCall.{invariant}
 use Rattle.protocol.proofs.OneOrder.{parts-of}
 
 module _ (rule : Rule) (n : ℕ) where
@@ -45,7 +45,9 @@ module _ (rule : Rule) (n : ℕ) where
       let kept : own ⊑ p = subst (λ (z : List ℕ). own ⊑ z) same (past-moves rule n (past-trans (v .past) h) k .1 (⊑-⊏-trans log p own low past)) in
       ⊏-irrefl own (⊑-⊏-trans own p own kept past)
 
-  -- in any office of the world, for its log and each of its ballots' paths
-  pub held-issued : (law : Lawful rule) (cs : List Call) → Invariant rule n law cs → (k j : ℕ) → EachIssued rule n cs (logAt rule n k cs) (path (officeAt rule n k cs) j)
-  held-issued law cs inv k j =
-      ballot-issued rule n law cs (inv .order) (officeAt rule n k cs) (order-issued rule n law cs (inv .order) (inv .elected) (inv .issued)) (inv .logs k) (inv .known cs (past-refl cs) k) (inv .issued) j
+  -- after every list of calls, in any office of the world, for its log and each of its ballots' paths
+  pub held-issued : Lawful rule → 0 < n → (cs : List Call) (k j : ℕ) → EachIssued rule n cs (logAt rule n k cs) (path (officeAt rule n k cs) j)
+  held-issued law pos cs k j =
+      let inv = invariant rule n law pos cs in
+      let order = order-issued rule n law cs (inv .order) (inv .elected) (inv .issued) in
+      ballot-issued rule n law cs (inv .order) (officeAt rule n k cs) order (inv .logs k) (inv .known cs (past-refl cs) k) (inv .issued) j

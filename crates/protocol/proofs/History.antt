@@ -14,8 +14,8 @@ use Rattle.protocol.specs.Entry.{value}
 use Rattle.protocol.specs.Vote.{Rule}
 use Rattle.protocol.specs.Office.{Office, fresh, path}
 use Rattle.protocol.specs.Issue.{withIssue}
-use Rattle.protocol.specs.World.{World, Call, issue, send, take, elect, idle, founded, at, names, refusal, done, step}
-use Rattle.protocol.proofs.Tests.{and-of, if-cases, getD-replicate}
+use Rattle.protocol.proofs.World.{World, Call, issue, send, take, elect, idle, founded, at, names, refusal, done, step}
+use Rattle.lists.proofs.Tests.{and-of, if-cases, getD-replicate}
 
 -- h is g or a moment before it
 pub data Past (h : List Call) : List Call → Type 0 where
@@ -29,10 +29,10 @@ pub past-trans : {a b c : List Call} → Past a b → Past b c → Past a c
 past-trans {a} p (now e) = subst (λ (g : List Call). Past a g) e p
 past-trans p (before q) = before (past-trans p q)
 
-pub past-either : {a b g : List Call} → Past a g → Past b g → Past a b ⊎ Past b a
-past-either {b} (now e) q = inr (subst (λ (g : List Call). Past b g) (sym e) q)
-past-either {a} (before p) (now e) = inl (subst (λ (g : List Call). Past a g) (sym e) (before p))
-past-either (before p) (before q) = past-either p q
+pub past-comparable : {a b g : List Call} → Past a g → Past b g → Past a b ⊎ Past b a
+past-comparable {b} (now e) q = inr (subst (λ (g : List Call). Past b g) (sym e) q)
+past-comparable {a} (before p) (now e) = inl (subst (λ (g : List Call). Past a g) (sym e) (before p))
+past-comparable (before p) (before q) = past-comparable p q
 
 pub past-cases : {h g : List Call} {c : Call} → Past h (c ∷ g) → (c ∷ g ≡ h) ⊎ Past h g
 past-cases (now e) = inl (sym e)

@@ -11,7 +11,7 @@ use lib.Seq.{getD-set-same, getD-set-other}
 use Rattle.protocol.specs.Beginning.{_⊑_, _⊏_}
 use Rattle.protocol.specs.Vote.{Rule}
 use Rattle.protocol.specs.Office.{Office, Message, fresh, path}
-use Rattle.protocol.specs.World.{World, Call, at, put}
+use Rattle.protocol.proofs.World.{World, Call, at, put}
 use Rattle.protocol.proofs.Beginning.{⊑-refl, ⊑-trans, ⊑-antisym, ⊏-nil, snoc-⊏}
 use Rattle.protocol.proofs.Lawful.{Lawful}
 use Rattle.protocol.proofs.History.{Past, before, past-refl, past-trans, past-cases, past-nil, after, after-length, officeAt, logAt, ownAt, start, fresh-path}
@@ -143,10 +143,14 @@ module _ (rule : Rule) (n : ℕ) (law : Lawful rule) where
     elected = λ p e i. absurd (⊏-nil p (snoc-⊏ p [] e i));
     longest = (0, pos, ap (λ (o : Office). o .log) (sym (start rule n 0)));
     logs = λ k. subst (λ (o : Office). o .log ⊑ []) (start rule n k) tt;
-    known = λ h p k. subst (λ (g : List Call). BallotsKnown rule n [] (officeAt rule n k g)) (past-nil p) (subst (λ (o : Office). BallotsKnown rule n [] o) (start rule n k) none-known);
-    issued = λ h p k. subst (λ (g : List Call). EachIssued rule n [] (logAt rule n k g) (ownAt rule n k g)) (past-nil p) (subst (λ (o : Office). EachIssued rule n [] (o .log) (path o k)) (start rule n k) (rw (fresh-path k) (empty-issued rule n)));
+    known = λ h p k. subst (λ (g : List Call). BallotsKnown rule n [] (officeAt rule n k g)) (past-nil p)
+        (subst (λ (o : Office). BallotsKnown rule n [] o) (start rule n k) none-known);
+    issued = λ h p k. subst (λ (g : List Call). EachIssued rule n [] (logAt rule n k g) (ownAt rule n k g)) (past-nil p) (none-issued k);
     sent = λ i m e. absurd (Option·none-ne-some m e);
   }
     where
+      none-issued : (k : ℕ) → EachIssued rule n [] (logAt rule n k []) (ownAt rule n k [])
+      none-issued k = subst (λ (o : Office). EachIssued rule n [] (o .log) (path o k)) (start rule n k) (rw (fresh-path k) (empty-issued rule n))
+
       none-known : BallotsKnown rule n [] fresh
       none-known j x = absurd (⊏-nil [] (subst (λ (z : List ℕ). [] ⊏ z) (fresh-path j) x))

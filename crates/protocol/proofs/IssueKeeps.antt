@@ -8,7 +8,7 @@ use Rattle.protocol.specs.Beginning.{_⊑_, _⊏_}
 use Rattle.protocol.specs.Vote.{Rule}
 use Rattle.protocol.specs.Office.{Office, tail, path}
 use Rattle.protocol.specs.Issue.{withIssue}
-use Rattle.protocol.specs.World.{Call, issue, refusal}
+use Rattle.protocol.proofs.World.{Call, issue, refusal}
 use Rattle.protocol.proofs.Beginning.{⊑-refl, ⊑-append, snoc-cases}
 use Rattle.protocol.proofs.Lawful.{Lawful}
 use Rattle.protocol.proofs.Office.{issue-path}
@@ -62,13 +62,26 @@ module _ (rule : Rule) (n : ℕ) (law : Lawful rule) where
 
       new : path o' k ≡ path o k ++ (e ∷ []) → (p : List ℕ) (x : ℕ) → ((p ++ (x ∷ [])) ⊑ path o k) ⊎ ((p ≡ path o k) × (x ≡ e)) → Issued rule n (c ∷ cs) (o .log) p x
       new q p x (inl i) = old p x i
-      new q p x (inr i) = record { k = k; line = line; code = code; moment = cs; call = past-refl (c ∷ cs); known = b; done = r; entry = sym (i .1); view = sym (i .0); heard = ⊑-refl (o .log); cast = rw (i .0, i .1) (vote q) }
+      new q p x (inr i) = record {
+        k = k;
+        line = line;
+        code = code;
+        moment = cs;
+        call = past-refl (c ∷ cs);
+        known = b;
+        done = r;
+        entry = sym (i .1);
+        view = sym (i .0);
+        heard = ⊑-refl (o .log);
+        cast = rw (i .0, i .1) (vote q);
+      }
 
       own : (path o' k ≡ path o k) ⊎ ((k ≡ k) × (path o' k ≡ path o k ++ (e ∷ []))) → EachIssued rule n (c ∷ cs) (o .log) (path o' k)
       own (inl q) = rw q old
       own (inr q) = rw (q .1) (λ p x i. new (q .1) p x (snoc-cases p (path o k) x e i))
 
-  pub issue-change : (cs : List Call) (inv : Invariant rule n law cs) (k line code : ℕ) → refusal (after rule n cs) (issue k line code) ≡ 0 → k < n → NextOffice rule n law (issue k line code) cs (inv .order) k (withIssue k (value k line code) (officeAt rule n k cs))
+  pub issue-change : (cs : List Call) (inv : Invariant rule n law cs) (k line code : ℕ) → refusal (after rule n cs) (issue k line code) ≡ 0 → k < n
+      → NextOffice rule n law (issue k line code) cs (inv .order) k (withIssue k (value k line code) (officeAt rule n k cs))
   unfolding withIssue
   issue-change cs inv k line code r b = record {
     order = inv .order;

@@ -7,9 +7,9 @@ use Rattle.protocol.specs.Entry.{value}
 use Rattle.protocol.specs.Beginning.{_⊑_}
 use Rattle.protocol.specs.Vote.{Rule}
 use Rattle.protocol.specs.Office.{tail}
-use Rattle.protocol.specs.World.{Call, issue, refusal}
+use Rattle.protocol.proofs.World.{Call, issue, refusal}
 use Rattle.protocol.proofs.Beginning.{⊑-trans, ⊏-⊑, ⊑-append, ⊏-nil, snoc-⊏}
-use Rattle.protocol.proofs.History.{Past, past-trans, after, officeAt, logAt, ownAt}
+use Rattle.protocol.proofs.History.{Past, past-refl, past-trans, after, officeAt, logAt, ownAt}
 use Rattle.protocol.proofs.Steady.{Voted}
 
 module _ (rule : Rule) (n : ℕ) where
@@ -36,11 +36,27 @@ module _ (rule : Rule) (n : ℕ) where
   abbrev pub OwnIssued : List Call → Type 0
   OwnIssued cs = (h : List Call) → Past h cs → (k : ℕ) → EachIssued cs (logAt rule n k h) (ownAt rule n k h)
 
+  -- of a later moment, and under another log that begins with the issuer's
+  pub issued-at : {h cs : List Call} {l p : List ℕ} {e : ℕ} → Past h cs → (l' : List ℕ) (i : Issued h l p e) → logAt rule n (i .k) (i .moment) ⊑ l' → Issued cs l' p e
+  issued-at a l' i within = record {
+    k = i .k;
+    line = i .line;
+    code = i .code;
+    moment = i .moment;
+    call = past-trans (i .call) a;
+    known = i .known;
+    done = i .done;
+    entry = i .entry;
+    view = i .view;
+    heard = within;
+    cast = i .cast;
+  }
+
   pub issued-later : {h cs : List Call} {l p : List ℕ} {e : ℕ} → Past h cs → Issued h l p e → Issued cs l p e
-  issued-later a i = record { k = i .k; line = i .line; code = i .code; moment = i .moment; call = past-trans (i .call) a; known = i .known; done = i .done; entry = i .entry; view = i .view; heard = i .heard; cast = i .cast }
+  issued-later {l} a i = issued-at a l i (i .heard)
 
   pub issued-under : {cs : List Call} {l p : List ℕ} {e : ℕ} (l' : List ℕ) (i : Issued cs l p e) → logAt rule n (i .k) (i .moment) ⊑ l' → Issued cs l' p e
-  issued-under l' i h = record { k = i .k; line = i .line; code = i .code; moment = i .moment; call = i .call; known = i .known; done = i .done; entry = i .entry; view = i .view; heard = h; cast = i .cast }
+  issued-under {cs} l' i h = issued-at (past-refl cs) l' i h
 
   pub each-issued-wider : (cs : List Call) (l l' q : List ℕ) → l ⊑ l' → EachIssued cs l q → EachIssued cs l' q
   each-issued-wider cs l l' q h f p e j = let i = f p e j in issued-under l' i (⊑-trans (logAt rule n (i .k) (i .moment)) l l' (i .heard) h)

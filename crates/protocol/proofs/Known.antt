@@ -7,9 +7,9 @@ use Prim.Native.Nat.{ℕ}
 use Rattle.protocol.specs.Beginning.{_⊑_, _⊏_}
 use Rattle.protocol.specs.Vote.{Rule}
 use Rattle.protocol.specs.Office.{Office, Message, path}
-use Rattle.protocol.specs.World.{Call}
+use Rattle.protocol.proofs.World.{Call}
 use Rattle.protocol.proofs.Beginning.{⊑-⊏-trans}
-use Rattle.protocol.proofs.History.{Past, past-trans, past-either, officeAt, logAt, ownAt}
+use Rattle.protocol.proofs.History.{Past, past-trans, past-comparable, officeAt, logAt, ownAt}
 use Rattle.protocol.proofs.Steady.{past-moves}
 
 module _ (rule : Rule) (n : ℕ) where
@@ -32,8 +32,8 @@ module _ (rule : Rule) (n : ℕ) where
   snapshot-later p s = record { moment = s .moment; past = past-trans (s .past) p; within = s .within; own = s .own }
 
   -- two paths of one office that extend a log are beginnings of one another, whoever has them
-  pub snapshots-either : {cs : List Call} {k : ℕ} {l p q : List ℕ} → Snapshot cs k l p → Snapshot cs k l q → l ⊏ p → l ⊏ q → (p ⊑ q) ⊎ (q ⊑ p)
-  snapshots-either {cs} {k} {l} {p} {q} a b hp hq = go (past-either (a .past) (b .past))
+  pub snapshots-comparable : {cs : List Call} {k : ℕ} {l p q : List ℕ} → Snapshot cs k l p → Snapshot cs k l q → l ⊏ p → l ⊏ q → (p ⊑ q) ⊎ (q ⊑ p)
+  snapshots-comparable {cs} {k} {l} {p} {q} a b hp hq = go (past-comparable (a .past) (b .past))
     where
       later : (p q : List ℕ) (a : Snapshot cs k l p) (b : Snapshot cs k l q) → l ⊏ p → Past (a .moment) (b .moment) → p ⊑ q
       later p q a b h m =

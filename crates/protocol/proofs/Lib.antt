@@ -1,15 +1,14 @@
 -- The laws of document 01's definitions, and demand 3 on lists.
 -- the lettered cases
 pub mod Cases
--- tests, runs of stores, beginnings, the winning rule, the calls at one office
-pub mod Tests
-pub mod Stores
+-- beginnings, the winning rule, the calls at one office
 pub mod Beginning
 pub mod Vote
 pub mod Office
 pub mod Elect
 pub mod Limits
--- demand 3: what is asked of the rule, the four invariants, each call, the theorem
+-- demand 3: the world, what is asked of the rule, the four invariants, each call, the theorem
+pub mod World
 pub mod Lawful
 pub mod History
 pub mod Steady
@@ -22,6 +21,7 @@ pub mod IssueKeeps
 pub mod TakeKeeps
 pub mod ElectKeeps
 pub mod EveryCall
+pub mod Longest
 pub mod OneOrder
 pub mod Machine
 pub mod Held

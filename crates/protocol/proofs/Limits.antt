@@ -1,30 +1,31 @@
 -- The limits of an office's state, as facts by name, and that every call keeps them.
 --     Fine, fine, fine-of       the facts behind the test `officeFine`, and both ways between them
+--     Head, head, head-true     the same of the numbers that founding is given
 --     fresh-fine, issue-fine, settle-fine, elect-fine, catchUp-fine, take-fine      each call keeps them
 --     issue-done, take-done     what a call that is done found
 -- Assumes nothing.
 use mathlib.Core.Path.{_≡_, refl, sym, ap, subst, _∙_}
-use mathlib.Core.Bool.{Bool, true, false, _||_, cond, true≢false}
+use mathlib.Core.Bool.{Bool, true, false, _||_, not, cond, true≢false}
 use mathlib.Core.List.{List, [], _∷_, _++_, append-nil}
 use mathlib.Core.Option.{none, some, Option·none-ne-some, Option·some-injective}
 use mathlib.Core.Logic.{_⊎_, inl, inr}
 use Prim.Native.Nat.{ℕ, zero, suc, _+_, _-_, _<_, _≤_}
 use native.Mathlib.Decide.{decLt}
 use native.Mathlib.Omega.{arith}
-use lib.Dec.{eqb, ltb}
+use lib.Dec.{eqb}
 use lib.ListN.{length, drop, replicate, length-append, length-map, length-set, length-drop}
 use lib.Seq.{drop-set-lt}
-use borrow.Author.Tests.{eqb-true, eqb-false, leb-true, ltb-false, eq-eqb, le-leb, lt-ltb}
-use Rattle.protocol.specs.Tests.{allB}
-use Rattle.protocol.specs.Entry.{value, officeOf, lineOf, codeOf, isEntry}
+use borrow.Author.Tests.{eqb-true, eqb-false, leb-true, ltb-true, eq-eqb, le-leb, lt-ltb}
+use Rattle.lists.specs.Tests.{allB, pick}
+use Rattle.protocol.specs.Entry.{value, officeOf, lineOf, codeOf, proper, isEntry}
 use Rattle.protocol.specs.Beginning.{_⊑_, _⊏_, begins, extends}
 use Rattle.protocol.specs.Vote.{Rule}
 use Rattle.protocol.specs.Office.{Office, Message, fresh, tail, first, votes}
-use Rattle.protocol.specs.Limits.{isEmpty, tailFine, officeFine}
-use Rattle.protocol.specs.Issue.{withIssue, refuseIssue}
+use Rattle.protocol.specs.Limits.{isOffice, total, weightsFine, headFine, Head, isEmpty, logFine, tailFine, tailsFine, officeFine}
+use Rattle.protocol.specs.Issue.{withIssue, refusalAt, refuseIssue}
 use Rattle.protocol.specs.Take.{rebased, rebase, catchUp, adopt, adopts, adopting, offers, withTake, refuseTake}
 use Rattle.protocol.specs.Elect.{lose, settle, electing, withElect}
-use Rattle.protocol.proofs.Tests.{both-0, both-1, both-true, all-getD, all-one, all-append, all-map, all-set, all-drop, all-replicate, drop-map, if-cases}
+use Rattle.lists.proofs.Tests.{both-0, both-1, both-true, all-getD, all-one, all-append, all-map, all-set, all-drop, all-replicate, drop-map, if-cases}
 use Rattle.protocol.proofs.Beginning.{⊑-refl, ⊑-cases, ⊏-⊑, ⊑-⊏-trans, ⊑-length, ⊏-length, ⊏-irrefl, ⊑-append, ⊑-trans, begins-true, extends-true, extends-false}
 use Rattle.protocol.proofs.Vote.{NamesVoted}
 use Rattle.protocol.proofs.Office.{rebased-nil, next-cases}
@@ -55,20 +56,23 @@ pub record Fine (n : ℕ) (o : Office) : Type 0 where
   pub rest : allB isEmpty (drop n (o .tails)) ≡ true
 
 pub fine : (n : ℕ) (o : Office) → officeFine n o ≡ true → Fine n o
-unfolding officeFine
-fine n o e = record {
-  eight = eqb-true (length (o .tails)) 8 (both-0 _ _ e);
-  most = leb-true (length (o .log)) 1024 (both-0 _ _ (both-1 _ _ e));
-  entries = both-0 _ _ (both-1 _ _ (both-1 _ _ e));
-  tails = both-0 _ _ (both-1 _ _ (both-1 _ _ (both-1 _ _ e)));
-  rest = both-1 _ _ (both-1 _ _ (both-1 _ _ (both-1 _ _ e)));
-}
+unfolding officeFine logFine tailsFine
+fine n o e =
+    let log = both-0 _ _ e in
+    let tails = both-1 _ _ e in
+    record {
+      eight = eqb-true (length (o .tails)) 8 (both-0 _ _ tails);
+      most = leb-true (length (o .log)) 1024 (both-0 _ _ log);
+      entries = both-1 _ _ log;
+      tails = both-0 _ _ (both-1 _ _ tails);
+      rest = both-1 _ _ (both-1 _ _ tails);
+    }
 
 pub fine-of : (n : ℕ) (o : Office) → Fine n o → officeFine n o ≡ true
-unfolding officeFine
+unfolding officeFine logFine tailsFine
 fine-of n o f =
-    both-true _ _ (eq-eqb (length (o .tails)) 8 (f .eight))
-    (both-true _ _ (le-leb (length (o .log)) 1024 (f .most)) (both-true _ _ (f .entries) (both-true _ _ (f .tails) (f .rest))))
+    both-true _ _ (both-true _ _ (le-leb (length (o .log)) 1024 (f .most)) (f .entries))
+    (both-true _ _ (eq-eqb (length (o .tails)) 8 (f .eight)) (both-true _ _ (f .tails) (f .rest)))
 
 nil-fine : (n settled : ℕ) → settled ≤ 1024 → FineTail n settled []
 unfolding allB
@@ -84,6 +88,29 @@ unfolding isEmpty
 empty-nil [] e = refl
 empty-nil (x ∷ t) e = absurd (true≢false (sym e))
 
+-- ── the numbers that founding is given ──
+pub head : (n own : ℕ) (ws : List ℕ) → headFine n own ws ≡ true → Head n own ws
+unfolding headFine isOffice weightsFine
+head n own ws e =
+    let o = both-0 _ _ e in
+    let w = both-1 _ _ e in
+    let w1 = both-1 _ _ w in
+    record {
+      eight = eqb-true _ _ (both-0 _ _ w);
+      weights = both-0 _ _ w1;
+      some = leb-true _ _ (both-0 _ _ o);
+      most = leb-true _ _ (both-0 _ _ (both-1 _ _ o));
+      member = ltb-true _ _ (both-1 _ _ (both-1 _ _ o));
+      rest = both-0 _ _ (both-1 _ _ w1);
+      total-some = leb-true _ _ (both-1 _ _ (both-1 _ _ w1));
+    }
+
+pub head-true : (n own : ℕ) (ws : List ℕ) → Head n own ws → headFine n own ws ≡ true
+unfolding headFine isOffice weightsFine
+head-true n own ws H =
+    both-true _ _ (both-true _ _ (le-leb 1 n (H .some)) (both-true _ _ (le-leb n 8 (H .most)) (lt-ltb own n (H .member))))
+    (both-true _ _ (eq-eqb (length ws) 8 (H .eight)) (both-true _ _ (H .weights) (both-true _ _ (H .rest) (le-leb 1 (total ws) (H .total-some)))))
+
 -- ── a fresh office ──
 pub fresh-fine : (n : ℕ) → Fine n fresh
 unfolding allB isEmpty
@@ -96,9 +123,11 @@ fresh-fine n = record {
 }
 
 -- ── issue ──
-pub value-entry : (n office line code : ℕ) → office < n → n ≤ 8 → line ≤ 63 → code ≤ 9999 → isEntry n (value office line code) ≡ true
-unfolding isEntry
-value-entry n office line code h m l c =
+pub value-entry : (n office line code : ℕ) → office < n → n ≤ 8 → proper line code ≡ true → isEntry n (value office line code) ≡ true
+unfolding isEntry proper
+value-entry n office line code h m p =
+    let l : line ≤ 63 = leb-true line 63 (both-0 _ _ p) in
+    let c : code ≤ 9999 = leb-true code 9999 (both-1 _ _ p) in
     both-true _ _ (lt-ltb (officeOf (value office line code)) n (omega arith))
     (both-true _ _ (le-leb (lineOf (value office line code)) 63 (omega arith)) (le-leb (codeOf (value office line code)) 9999 (omega arith)))
 
@@ -122,33 +151,48 @@ issue-fine n k e o f h p short room =
 
 -- what a done issue found
 pub record IssueDone (k line code : ℕ) (o : Office) : Type 0 where
+  pub limits : proper line code ≡ true
   pub line-ok : line ≤ 63
   pub code-ok : code ≤ 9999
   pub short : length (tail o k) ≡ 32 → ⊥
   pub room : length (o .log) + length (tail o k) ≡ 1024 → ⊥
 
 pub issue-done : (k line code : ℕ) (o : Office) → refuseIssue k line code o ≡ 0 → IssueDone k line code o
-unfolding refuseIssue
-issue-done k line code o h = go (ltb 63 line) refl (ltb 9999 code) refl (eqb (length (tail o k)) 32) refl (eqb (length (o .log) + length (tail o k)) 1024) refl h
+unfolding refuseIssue refusalAt proper pick
+issue-done k line code o h = go (proper line code) refl (eqb (length (tail o k)) 32) refl (eqb (length (o .log) + length (tail o k)) 1024) refl h
   where
-    go : (a : Bool) → ltb 63 line ≡ a → (b : Bool) → ltb 9999 code ≡ b → (c : Bool) → eqb (length (tail o k)) 32 ≡ c → (d : Bool) → eqb (length (o .log) + length (tail o k)) 1024 ≡ d
-        → _≡_ {A = ℕ} (cond (a || b) 3 (cond c 4 (cond d 5 0))) 0 → IssueDone k line code o
-    go true p b q c r d s x = absurd (omega arith)
-    go false p true q c r d s x = absurd (omega arith)
-    go false p false q true r d s x = absurd (omega arith)
-    go false p false q false r true s x = absurd (omega arith)
-    go false p false q false r false s x = record {
-      line-ok = omega (arith, ltb-false 63 line p);
-      code-ok = omega (arith, ltb-false 9999 code q);
+    go : (a : Bool) → proper line code ≡ a → (c : Bool) → eqb (length (tail o k)) 32 ≡ c → (d : Bool) → eqb (length (o .log) + length (tail o k)) 1024 ≡ d
+        → _≡_ {A = ℕ} (pick (not a) 3 (pick c 4 (pick d 5 0))) 0 → IssueDone k line code o
+    go false p c r d s x = absurd (omega arith)
+    go true p true r d s x = absurd (omega arith)
+    go true p false r true s x = absurd (omega arith)
+    go true p false r false s x = record {
+      limits = p;
+      line-ok = leb-true line 63 (both-0 _ _ p);
+      code-ok = leb-true code 9999 (both-1 _ _ p);
       short = eqb-false (length (tail o k)) 32 r;
       room = eqb-false (length (o .log) + length (tail o k)) 1024 s;
     }
+
+-- an issue is done, or refused with 3, 4 or 5: never with 1, which the state of a sound record does not meet, or with 10
+pub issue-never : (k line code : ℕ) (o : Office) → (refuseIssue k line code o ≡ 1 → ⊥) × (refuseIssue k line code o ≡ 10 → ⊥)
+unfolding refuseIssue refusalAt pick
+issue-never k line code o = go (not (proper line code)) (eqb (length (tail o k)) 32) (eqb (length (o .log) + length (tail o k)) 1024)
+  where
+    other : (x : ℕ) → (x ≡ 1 → ⊥) → (x ≡ 10 → ⊥) → (x ≡ 1 → ⊥) × (x ≡ 10 → ⊥)
+    other x p q = (p, q)
+
+    go : (a b c : Bool) → let x : ℕ = pick a 3 (pick b 4 (pick c 5 0)) in (x ≡ 1 → ⊥) × (x ≡ 10 → ⊥)
+    go true b c = other 3 (λ e. omega arith) (λ e. omega arith)
+    go false true c = other 4 (λ e. omega arith) (λ e. omega arith)
+    go false false true = other 5 (λ e. omega arith) (λ e. omega arith)
+    go false false false = other 0 (λ e. omega arith) (λ e. omega arith)
 
 pub issue-done-fine : (n k line code : ℕ) (o : Office) → Fine n o → k < n → n ≤ 8 → refuseIssue k line code o ≡ 0 → Fine n (withIssue k (value k line code) o)
 issue-done-fine n k line code o f h m r =
     let d = issue-done k line code o r in
     let t = tail-at n o f k in
-    issue-fine n k (value k line code) o f h (value-entry n k line code h m (d .line-ok) (d .code-ok)) (below _ 32 (t .short) (d .short)) (below _ 1024 (t .room) (d .room))
+    issue-fine n k (value k line code) o f h (value-entry n k line code h m (d .limits)) (below _ 32 (t .short) (d .short)) (below _ 1024 (t .room) (d .room))
   where
     below : (x y : ℕ) → x ≤ y → (x ≡ y → ⊥) → x < y
     below x y a b = go (decLt x y)

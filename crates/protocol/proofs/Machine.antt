@@ -1,18 +1,70 @@
--- A machine that follows document 01's steps has one order. Assumes nothing.
+-- Demand 3 of a machine: states W that are viewed as worlds of offices, and calls C that are viewed as calls of such a world. A machine that
+-- follows document 01's steps has one order. Assumes nothing.
 use mathlib.Core.Path.{_≡_, refl, sym, ap, subst, _∙_}
 use mathlib.Core.List.{List, [], _∷_, _++_}
 use Prim.Native.Nat.{ℕ, _<_}
 use native.Mathlib.Omega.{arith}
 use lib.ListN as L
 use lib.ListN.{getD}
+use Rattle.protocol.specs.Entry.{value, officeOf, lineOf, codeOf}
 use Rattle.protocol.specs.Vote.{Rule}
 use Rattle.protocol.specs.Office.{path}
-use Rattle.protocol.specs.World.{World, Call, issue, at, refusal, run}
-use Rattle.protocol.specs.OneOrder.{longest, settledLogs, world, IssuedIn, OneOrder}
-use Rattle.protocol.specs.Machine.{Machine, runs, Follows, reached, IssuedBy, OneOrderOf}
+use Rattle.protocol.specs.Longest.{longest}
 use Rattle.protocol.proofs.Lawful.{Lawful}
-use Rattle.protocol.proofs.OneOrder.{one-order-of}
+use Rattle.protocol.proofs.World.{World, Call, issue, at, founded, refusal, step, run}
+use Rattle.protocol.proofs.OneOrder.{world, settledLogs, IssuedIn, OrderBehind, OneOrder, one-order-of}
 
+pub record Machine : Type 1 where
+  pub W : Type 0
+  pub C : Type 0
+  pub start : W
+  pub move : W → C → W
+  pub number : W → C → ℕ
+  pub view : W → World
+  pub call : W → C → Call
+
+abbrev pub runs : (m : Machine) → m .W → List (m .C) → m .W
+runs m w [] = w
+runs m w (c ∷ cs) = runs m (m .move w c) cs
+
+-- a machine follows the paper's steps, as long as its state is sound
+pub record Follows (m : Machine) (rule : Rule) (n : ℕ) : Type 1 where
+  pub Sound : m .W → Type 0
+  pub sound-start : Sound (m .start)
+  pub sound-move : (w : m .W) (c : m .C) → Sound w → Sound (m .move w c)
+  pub starts : m .view (m .start) ≡ founded n
+  pub moves : (w : m .W) (c : m .C) → Sound w → m .view (m .move w c) ≡ step rule (m .view w) (m .call w c)
+  -- a number 10 is the paper's 10; an issue that the paper does is done. Any other refusal may be viewed as `idle`
+  pub tens : (w : m .W) (c : m .C) → Sound w → m .number w c ≡ 10 → refusal (m .view w) (m .call w c) ≡ 10
+  pub issues : (w : m .W) (c : m .C) (k line code : ℕ) → Sound w → m .call w c ≡ issue k line code → refusal (m .view w) (issue k line code) ≡ 0 → m .number w c ≡ 0
+
+-- the machine's state after the calls
+abbrev pub reached : (m : Machine) → List (m .C) → m .W
+reached m cs = runs m (m .start) cs
+
+-- "the list has a done issue at that entry's office, with its line and code, and the own path just before that call is" p
+pub record IssuedBy (m : Machine) (n : ℕ) (cs : List (m .C)) (p : List ℕ) (e : ℕ) : Type 0 where
+  pub k : ℕ
+  pub line : ℕ
+  pub code : ℕ
+  pub earlier : List (m .C)
+  pub c : m .C
+  pub later : List (m .C)
+  pub listed : earlier ++ (c ∷ later) ≡ cs
+  pub is-issue : m .call (reached m earlier) c ≡ issue k line code
+  pub known : k < n
+  pub done : m .number (reached m earlier) c ≡ 0
+  pub entry : value k line code ≡ e
+  pub its-office : officeOf e ≡ k
+  pub its-line : lineOf e ≡ line
+  pub its-code : codeOf e ≡ code
+  pub view : path (at (m .view (reached m earlier)) k) k ≡ p
+
+-- Demand 3 of the machine's calls
+abbrev pub OneOrderOf : (m : Machine) → ℕ → List (m .C) → Type 0
+OneOrderOf m n cs = OrderBehind (m .C) (λ earlier. m .view (reached m earlier)) (λ earlier c. m .number (reached m earlier) c) (IssuedBy m n cs) n cs
+
+-- ── the proof ──
 -- document 01's calls behind the machine's
 abbrev calls : (m : Machine) → m .W → List (m .C) → List Call
 calls m w [] = []

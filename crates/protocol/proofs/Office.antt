@@ -14,18 +14,21 @@ use Rattle.protocol.specs.Office.{Office, Message, tail, path, votes}
 use Rattle.protocol.specs.Issue.{withIssue}
 use Rattle.protocol.specs.Take.{rebased, rebase, catchUp, adopt, adopts, adopting, offers, withTake}
 use Rattle.protocol.specs.Elect.{lose, settle, next, electing, withElect}
-use Rattle.protocol.proofs.Tests.{if-cases}
+use Rattle.lists.proofs.Tests.{if-cases}
 use Rattle.protocol.proofs.Beginning.{⊑-refl, ⊑-trans, ⊏-⊑, ⊑-⊏-trans, ⊏-⊑-trans, ⊏-irrefl, ⊑-append, ⊑-rest, snoc-⊏, snoc-same, snoc-⊑, extends-true, extends-false}
 
 -- lists: an element after `set`, and after `map`
-pub set-cases : {A : Type 0} (l : List A) (k : ℕ) (a d : A) (j : ℕ) → (getD (set l k a) j d ≡ getD l j d) ⊎ ((j ≡ k) × (k < length l) × (getD (set l k a) j d ≡ a))
+abbrev pub SetCases : {A : Type 0} → List A → ℕ → A → A → ℕ → Type 0
+SetCases l k a d j = (getD (set l k a) j d ≡ getD l j d) ⊎ ((j ≡ k) × (k < length l) × (getD (set l k a) j d ≡ a))
+
+pub set-cases : {A : Type 0} (l : List A) (k : ℕ) (a d : A) (j : ℕ) → SetCases l k a d j
 set-cases [] k a d j = inl refl
 set-cases (x ∷ l) zero a d zero = inr (refl, omega arith, refl)
 set-cases (x ∷ l) zero a d (suc j) = inl refl
 set-cases (x ∷ l) (suc k) a d zero = inl refl
 set-cases (x ∷ l) (suc k) a d (suc j) = up (set-cases l k a d j)
   where
-    up : (getD (set l k a) j d ≡ getD l j d) ⊎ ((j ≡ k) × (k < length l) × (getD (set l k a) j d ≡ a)) → (getD (set l k a) j d ≡ getD l j d) ⊎ ((suc j ≡ suc k) × (suc k < suc (length l)) × (getD (set l k a) j d ≡ a))
+    up : SetCases l k a d j → SetCases (x ∷ l) (suc k) a d (suc j)
     up (inl e) = inl e
     up (inr h) = inr (ap suc (h .0), omega (arith, h .1), h .2)
 
@@ -114,7 +117,11 @@ pub issue-path : (k e : ℕ) (o : Office) (j : ℕ) → (path (withIssue k e o) 
 unfolding withIssue
 issue-path k e o j = go (set-cases (o .tails) k (tail o k ++ (e ∷ [])) [] j)
   where
-    go : (getD (set (o .tails) k (tail o k ++ (e ∷ []))) j [] ≡ tail o j) ⊎ ((j ≡ k) × (k < length (o .tails)) × (getD (set (o .tails) k (tail o k ++ (e ∷ []))) j [] ≡ tail o k ++ (e ∷ []))) → (o .log ++ getD (set (o .tails) k (tail o k ++ (e ∷ []))) j [] ≡ path o j) ⊎ ((j ≡ k) × (o .log ++ getD (set (o .tails) k (tail o k ++ (e ∷ []))) j [] ≡ path o j ++ (e ∷ [])))
+    -- office j's tail after the issue
+    new : List ℕ
+    new = getD (set (o .tails) k (tail o k ++ (e ∷ []))) j []
+
+    go : SetCases (o .tails) k (tail o k ++ (e ∷ [])) [] j → (o .log ++ new ≡ path o j) ⊎ ((j ≡ k) × (o .log ++ new ≡ path o j ++ (e ∷ [])))
     go (inl q) = inl (ap (λ (t : List ℕ). o .log ++ t) q)
     go (inr q) = inr (q .0, ap (λ (t : List ℕ). o .log ++ t) (q .2 ∙ ap (λ (i : ℕ). tail o i ++ (e ∷ [])) (sym (q .0))) ∙ sym (append-assoc (o .log) (tail o j) (e ∷ [])))
 

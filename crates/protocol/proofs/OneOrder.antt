@@ -1,26 +1,22 @@
--- Demand 3 holds of every list of calls. Assumes nothing.
+-- Demand 3 on lists: the claim, and that it holds of every list of calls. Assumes nothing.
 use mathlib.Core.Path.{_≡_, refl, sym, ap, subst, _∙_}
-use mathlib.Core.List.{List, [], _∷_, _++_, reverseAux, reverse}
-use mathlib.Core.Bool.{true, false}
+use mathlib.Core.List.{List, [], _∷_, _++_, map, reverseAux, reverse}
 use mathlib.Core.Logic.{_⊎_, inl, inr}
-use Prim.Native.Nat.{ℕ, zero, suc, _<_, _≤_}
-use native.Mathlib.Nat.{le-of-suc-le-suc, not-suc-le-zero}
+use Prim.Native.Nat.{ℕ, suc, _<_}
 use native.Mathlib.Omega.{arith}
-use lib.Dec.{ltb}
 use lib.ListN as L
-use lib.ListN.{length, getD}
+use lib.ListN.{length, getD, length-map}
 use lib.Seq.{take-suc}
-use borrow.Author.Tests.{ltb-true, ltb-false}
 use Rattle.protocol.specs.Entry.{value, officeOf, lineOf, codeOf}
-use Rattle.protocol.specs.Beginning.{_⊑_, _⊏_}
+use Rattle.protocol.specs.Beginning.{_⊑_}
 use Rattle.protocol.specs.Vote.{Rule, byWeights}
 use Rattle.protocol.specs.Office.{Office, fresh, path}
 use Rattle.protocol.specs.Issue.{refuseIssue}
-use Rattle.protocol.specs.World.{World, Call, issue, at, refusal, run}
-use Rattle.protocol.specs.OneOrder.{longest, settledLogs, world, IssuedIn, OneOrder}
-use lib.ListN.{length-map}
-use Rattle.protocol.proofs.Tests.{getD-map, if-cases}
-use Rattle.protocol.proofs.Beginning.{⊑-trans, ⊑-cases, ⊏-length, take-⊑}
+use Rattle.protocol.specs.Longest.{longest}
+use Rattle.lists.proofs.Tests.{getD-map}
+use Rattle.protocol.proofs.Beginning.{⊑-trans, take-⊑}
+use Rattle.protocol.proofs.Longest.{longest-is}
+use Rattle.protocol.proofs.World.{World, Call, issue, at, founded, refusal, run}
 use Rattle.protocol.proofs.Limits.{issue-done}
 use Rattle.protocol.proofs.Lawful.{Lawful, byWeights-lawful}
 use Rattle.protocol.proofs.History.{Past, now, before, past-refl, past-trans, past-cases, after, after-length, logAt}
@@ -30,33 +26,49 @@ use Rattle.protocol.proofs.Settled.{order-issued}
 use Rattle.protocol.proofs.Invariant.{Invariant}
 use Rattle.protocol.proofs.EveryCall.{invariant, never-10}
 
--- ── the longest log ──
-longest-most : (ls : List (List ℕ)) (k : ℕ) → k < length ls → length (getD ls k []) ≤ length (longest ls)
-unfolding longest
-longest-most [] k h = absurd (not-suc-le-zero h)
-longest-most (l ∷ ls) k h = if-cases (λ r. length (getD (l ∷ ls) k []) ≤ length r) (ltb (length l) (length (longest ls))) (longest ls) l
-    (λ e. more e k h (longest-most ls)) (λ e. less e k h (longest-most ls))
-  where
-    more : ltb (length l) (length (longest ls)) ≡ true → (k : ℕ) → k < suc (length ls) → ((j : ℕ) → j < length ls → length (getD ls j []) ≤ length (longest ls)) → length (getD (l ∷ ls) k []) ≤ length (longest ls)
-    more e zero h ih = omega (arith, ltb-true (length l) (length (longest ls)) e)
-    more e (suc k) h ih = ih k (le-of-suc-le-suc h)
+-- ── the claim ──
+-- the world after the calls
+abbrev pub world : Rule → ℕ → List Call → World
+world rule n cs = run rule (founded n) cs
 
-    less : ltb (length l) (length (longest ls)) ≡ false → (k : ℕ) → k < suc (length ls) → ((j : ℕ) → j < length ls → length (getD ls j []) ≤ length (longest ls)) → length (getD (l ∷ ls) k []) ≤ length l
-    less e zero h ih = omega arith
-    less e (suc k) h ih = omega (arith, ih k (le-of-suc-le-suc h), ltb-false (length l) (length (longest ls)) e)
+-- the offices' settled logs
+abbrev pub settledLogs : World → List (List ℕ)
+settledLogs w = map (λ (o : Office). o .log) (w .offices)
 
-longest-⊑ : (q : List ℕ) (ls : List (List ℕ)) → ((k : ℕ) → getD ls k [] ⊑ q) → longest ls ⊑ q
-unfolding longest
-longest-⊑ q [] h = tt
-longest-⊑ q (l ∷ ls) h = if-cases (λ r. r ⊑ q) (ltb (length l) (length (longest ls))) (longest ls) l (λ _. longest-⊑ q ls (λ k. h (suc k))) (λ _. h 0)
+-- "the list has a done issue at that entry's office, with its line and code, and the own path just before that call is" p
+pub record IssuedIn (rule : Rule) (n : ℕ) (cs : List Call) (p : List ℕ) (e : ℕ) : Type 0 where
+  pub k : ℕ
+  pub line : ℕ
+  pub code : ℕ
+  pub earlier : List Call
+  pub later : List Call
+  pub listed : earlier ++ (issue k line code ∷ later) ≡ cs
+  pub known : k < n
+  pub done : refusal (world rule n earlier) (issue k line code) ≡ 0
+  pub entry : value k line code ≡ e
+  pub its-office : officeOf e ≡ k
+  pub its-line : lineOf e ≡ line
+  pub its-code : codeOf e ≡ code
+  pub view : path (at (world rule n earlier) k) k ≡ p
 
--- a log of the list that all others are beginnings of is the longest
-pub longest-is : (q : List ℕ) (ls : List (List ℕ)) → ((k : ℕ) → getD ls k [] ⊑ q) → (k : ℕ) → k < length ls → getD ls k [] ≡ q → q ≡ longest ls
-longest-is q ls h k b e = go (⊑-cases (longest ls) q (longest-⊑ q ls h))
-  where
-    go : (longest ls ≡ q) ⊎ (longest ls ⊏ q) → q ≡ longest ls
-    go (inl d) = sym d
-    go (inr d) = absurd (omega (arith, ⊏-length (longest ls) q d, longest-most ls k b, ap length e))
+-- Demand 3, one claim about the whole list of calls, oldest first, and all its n offices. The calls may be those of this world or any that are
+-- viewed as such: `after` is the world after some calls, `number` a call's number behind some calls, `Issued p e` that e was issued with p in view
+pub record OrderBehind (C : Type 0) (after : List C → World) (number : List C → C → ℕ) (Issued : List ℕ → ℕ → Type 0) (n : ℕ) (cs : List C) : Type 0 where
+  -- "the longest settled log that any office has after the list"
+  pub order : List ℕ
+  pub is-longest : order ≡ longest (settledLogs (after cs))
+  -- it is the settled log of some office after the list
+  pub present : (k : ℕ) × (k < n) × (at (after cs) k .log ≡ order)
+  -- every settled log, after founding or after any call of the list, is a beginning of it
+  pub logs : (earlier later : List C) → earlier ++ later ≡ cs → (k : ℕ) → at (after earlier) k .log ⊑ order
+  -- every entry was issued by its own office with exactly the entries before it in view
+  pub issued : (p : ℕ) → p < length order → Issued (L.take p order) (getD order p 0)
+  -- no call was refused with 10
+  pub never : (earlier later : List C) (c : C) → earlier ++ (c ∷ later) ≡ cs → number earlier c ≡ 10 → ⊥
+
+-- in the world of n freshly founded offices
+abbrev pub OneOrder : Rule → ℕ → List Call → Type 0
+OneOrder rule n cs = OrderBehind Call (world rule n) (λ earlier c. refusal (world rule n earlier) c) (IssuedIn rule n cs) n cs
 
 -- ── the list of calls, oldest first, and the history, newest first ──
 rev-append : (a b h : List Call) → reverseAux (a ++ b) h ≡ reverseAux b (reverseAux a h)
@@ -92,7 +104,9 @@ pub record Parts (k line code e : ℕ) : Type 0 where
 pub parts-of : (k line code : ℕ) (o : Office) → refuseIssue k line code o ≡ 0 → (e : ℕ) → value k line code ≡ e → Parts k line code e
 parts-of k line code o h e q =
     let d = issue-done k line code o h in
-    subst (λ (v : ℕ). Parts k line code v) q (record { office = omega (arith, d .line-ok, d .code-ok); line-is = omega (arith, d .line-ok, d .code-ok); code-is = omega (arith, d .line-ok, d .code-ok) })
+    let line-ok = d .line-ok in
+    let code-ok = d .code-ok in
+    subst (λ (v : ℕ). Parts k line code v) q (record { office = omega arith; line-is = omega arith; code-is = omega arith })
 
 module _ (rule : Rule) (n : ℕ) where
   run-after : (cs h : List Call) → run rule (after rule n h) cs ≡ after rule n (reverseAux cs h)

@@ -7,7 +7,7 @@ use Prim.Native.Nat.{ℕ}
 use Rattle.protocol.specs.Beginning.{_⊑_, _⊏_}
 use Rattle.protocol.specs.Vote.{Rule}
 use Rattle.protocol.specs.Office.{Office, path}
-use Rattle.protocol.specs.World.{Call}
+use Rattle.protocol.proofs.World.{Call}
 use Rattle.protocol.proofs.Beginning.{⊑-trans, ⊑-⊏-trans, ⊏-irrefl}
 use Rattle.protocol.proofs.Lawful.{Lawful}
 use Rattle.protocol.proofs.Office.{Kept}
@@ -30,7 +30,9 @@ module _ (rule : Rule) (n : ℕ) (law : Lawful rule) where
   passing-left c cs q k o m = record { settled = m .settled; known = λ j _ x. m .known j x; issued = λ p e i. issued-later rule n (before (past-refl cs)) (m .issued p e i) }
 
   -- the log grows, and the paths that extend it stay
-  pub kept-passing : (cs : List Call) (q q' : List ℕ) (k : ℕ) (o o' : Office) → o .log ⊑ o' .log → ((j : ℕ) → Kept (o' .log) (path o j) (path o' j)) → o' .log ⊑ q' → EachIssued rule n cs q' q' → Passing cs q k o → Passing cs q' k o'
+  pub kept-passing : (cs : List Call) (q q' : List ℕ) (k : ℕ) (o o' : Office)
+      → o .log ⊑ o' .log → ((j : ℕ) → Kept (o' .log) (path o j) (path o' j)) → o' .log ⊑ q'
+      → EachIssued rule n cs q' q' → Passing cs q k o → Passing cs q' k o'
   kept-passing cs q q' k o o' low kept top pr m = record { settled = top; known = λ j x. back j x (kept j); issued = own (kept k) }
     where
       back : (j : ℕ) → o' .log ⊏ path o' j → Kept (o' .log) (path o j) (path o' j) → Snapshot rule n cs j (o' .log) (path o' j)

@@ -8,7 +8,7 @@ use Prim.Native.Nat.{ℕ}
 use Rattle.protocol.specs.Beginning.{_⊑_, _⊏_}
 use Rattle.protocol.specs.Vote.{Votes, Rule}
 use Rattle.protocol.specs.Office.{Office, tail, path, first, votes}
-use Rattle.protocol.specs.World.{Call}
+use Rattle.protocol.proofs.World.{Call}
 use Rattle.protocol.proofs.Beginning.{⊑-refl, ⊑-trans, ⊏-⊑, ⊑-cases, ⊑-append, ⊏-next, ⊏-cons, snoc-⊏, snoc-⊑, snoc-cases}
 use Rattle.protocol.proofs.Vote.{Grows}
 use Rattle.protocol.proofs.Lawful.{Lawful}
@@ -108,7 +108,8 @@ module _ (rule : Rule) (n : ℕ) (law : Lawful rule) where
       (⊑-trans (logAt rule n j (v .moment)) p q (v .within) (⊏-⊑ p q (snoc-⊏ p q e i))))
 
   -- an office's ballots are paths of others, or its log
-  pub ballot-issued : (cs : List Call) (q : List ℕ) (o : Office) → EachIssued rule n cs q q → o .log ⊑ q → BallotsKnown rule n cs o → OwnIssued rule n cs → (j : ℕ) → EachIssued rule n cs (o .log) (path o j)
+  pub ballot-issued : (cs : List Call) (q : List ℕ) (o : Office)
+      → EachIssued rule n cs q q → o .log ⊑ q → BallotsKnown rule n cs o → OwnIssued rule n cs → (j : ℕ) → EachIssued rule n cs (o .log) (path o j)
   ballot-issued cs q o g h b f j = go (⊑-cases (o .log) (path o j) (⊑-append (o .log) (tail o j)))
     where
       go : (o .log ≡ path o j) ⊎ (o .log ⊏ path o j) → EachIssued rule n cs (o .log) (path o j)

@@ -15,11 +15,11 @@ use Rattle.protocol.specs.Vote.{Rule}
 use Rattle.protocol.specs.Office.{Office, Message, fresh, path}
 use Rattle.protocol.specs.Issue.{withIssue}
 use Rattle.protocol.specs.Elect.{withElect}
-use Rattle.protocol.specs.World.{World, Call, issue, send, take, elect, idle, at, put, names, taking, refusal, done, step}
-use Rattle.protocol.proofs.Tests.{if-cases}
+use Rattle.protocol.proofs.World.{World, Call, issue, send, take, elect, idle, at, put, names, taking, refusal, done, step}
+use Rattle.lists.proofs.Tests.{if-cases}
 use Rattle.protocol.proofs.Beginning.{⊑-trans, ⊑-⊏-trans, snoc-⊏, snoc-same}
 use Rattle.protocol.proofs.Office.{Moves, moves-refl, moves-trans, OfficeMoves, set-cases, issue-moves, take-moves, elect-moves}
-use Rattle.protocol.proofs.History.{Past, now, before, past-trans, past-either, after, logAt, ownAt}
+use Rattle.protocol.proofs.History.{Past, now, before, past-trans, past-comparable, after, logAt, ownAt}
 
 -- ── one call ──
 put-moves : (w : World) (k : ℕ) (o : Office) (j : ℕ) → ((i : ℕ) → OfficeMoves i (at w k) o) → OfficeMoves j (at w j) (at (put w k o) j)
@@ -70,7 +70,7 @@ module _ (rule : Rule) (n : ℕ) where
 
   -- an office votes once at each place
   pub voted-unique : (cs : List Call) (k : ℕ) (p : List ℕ) (e f : ℕ) → Voted cs k p e → Voted cs k p f → e ≡ f
-  voted-unique cs k p e f a b = go (past-either (a .past) (b .past))
+  voted-unique cs k p e f a b = go (past-comparable (a .past) (b .past))
     where
       later : (e f : ℕ) (a : Voted cs k p e) (b : Voted cs k p f) → Past (a .moment) (b .moment) → e ≡ f
       later e f a b h =

@@ -16,7 +16,7 @@ use lib.ListN.{length}
 use borrow.Author.Tests.{eqb-true, ltb-true, eq-eqb, lt-ltb}
 use Rattle.protocol.specs.Vote.{Votes, later, isFor, isNone, tally, unheard, and-also, supported, beats, beatsAll, wins, firstWinner, winner, Rule, byWeights}
 use Rattle.protocol.specs.Winning.{Supported, Beats, Wins, Asymmetric}
-use Rattle.protocol.proofs.Tests.{and-true, and-of, or-true, or-right}
+use Rattle.lists.proofs.Tests.{and-true, and-of, or-true, or-right}
 
 -- more votes are heard, and none is changed
 abbrev pub Grows : Votes → Votes → Type 0

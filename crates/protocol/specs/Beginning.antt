@@ -2,7 +2,7 @@
 -- `a ⊑ b`: a is a beginning of b. `a ⊏ b`: b extends a. Each as a type, for statements, and as a test, for the calls. Assumes nothing.
 use mathlib.Core.Path.{_≡_}
 use mathlib.Core.List.{List, [], _∷_}
-use mathlib.Core.Bool.{Bool, true, false, _&&_}
+use mathlib.Core.Bool.{Bool, true, false, _&&_, _||_}
 use Prim.Native.Nat.{ℕ}
 use lib.Dec.{eqb}
 
@@ -29,3 +29,7 @@ extends [] [] = false
 extends (y ∷ b) [] = true
 extends [] (x ∷ a) = false
 extends (y ∷ b) (x ∷ a) = eqb x y && extends b a
+
+-- one of two lists is a beginning of the other
+abbrev pub comparable : List ℕ → List ℕ → Bool
+comparable a b = begins a b || begins b a

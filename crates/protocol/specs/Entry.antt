@@ -3,7 +3,7 @@
 use Prim.Native.Nat.{ℕ, _+_, _*_, _/_, _%_}
 use mathlib.Core.Bool.{Bool}
 use lib.Dec.{ltb, leb}
-use Rattle.protocol.specs.Tests.{both}
+use Rattle.lists.specs.Tests.{both}
 
 abbrev pub value : ℕ → ℕ → ℕ → ℕ
 value office line code = office * 16777216 + line * 65536 + code
@@ -18,6 +18,10 @@ lineOf v = v / 65536 % 256
 abbrev pub codeOf : ℕ → ℕ
 codeOf v = v % 65536
 
+-- "line (0 to 63), code (0 to 9999)"
+unfoldable pub proper : ℕ → ℕ → Bool
+proper line code = both (leb line 63) (leb code 9999)
+
 -- v is the value of an entry for n offices
 unfoldable pub isEntry : ℕ → ℕ → Bool
-isEntry n v = both (ltb (officeOf v) n) (both (leb (lineOf v) 63) (leb (codeOf v) 9999))
+isEntry n v = both (ltb (officeOf v) n) (proper (lineOf v) (codeOf v))

@@ -2,7 +2,7 @@
 use mathlib.Core.List.{List, [], _∷_}
 use Prim.Native.Nat.{ℕ}
 use lib.Dec.{eqb}
-use Rattle.protocol.specs.Tests.{pick}
+use Rattle.lists.specs.Tests.{pick}
 use Rattle.protocol.specs.Entry.{lineOf, codeOf}
 
 -- the code of the last entry for the line; `code` where there is none

@@ -1,5 +1,4 @@
--- Document 01 on lists, and demand 3 about it.
-pub mod Tests
+-- Document 01's rules on lists.
 pub mod Entry
 pub mod Beginning
 pub mod Vote
@@ -10,6 +9,4 @@ pub mod Issue
 pub mod Take
 pub mod Elect
 pub mod Frames
-pub mod World
-pub mod OneOrder
-pub mod Machine
+pub mod Longest

@@ -1,10 +1,10 @@
 -- What an office makes of an accepted message. Assumes nothing.
 use mathlib.Core.List.{List, [], _∷_, _++_, map}
-use mathlib.Core.Bool.{_||_, cond}
+use mathlib.Core.Bool.{cond}
 use Prim.Native.Nat.{ℕ}
 use lib.Dec.{eqb}
 use lib.ListN.{length, set, drop}
-use Rattle.protocol.specs.Beginning.{begins, extends}
+use Rattle.protocol.specs.Beginning.{comparable, extends}
 use Rattle.protocol.specs.Office.{Office, Message, tail}
 
 -- step 1: "every ballot whose path extends the new log keeps its path, its tail shortened; any other becomes none"
@@ -43,4 +43,4 @@ withTake k m o = adopting (m .state .log) (offers k m) (catchUp (m .state .log) 
 unfoldable pub refuseTake : ℕ → Message → Office → ℕ
 refuseTake k m o =
     cond (eqb (m .sender) k) 9
-    (cond (begins (o .log) (m .state .log) || begins (m .state .log) (o .log)) 0 10)
+    (cond (comparable (o .log) (m .state .log)) 0 10)

@@ -1,5 +1,5 @@
--- Laws of reading a message.
-pub mod Ballots
-pub mod Whole
-pub mod Logs
-pub mod Answers
+-- The proofs by hand of the functions over a `Reader`.
+pub mod Shapes
+pub mod Runs
+pub mod Apart
+pub mod Made

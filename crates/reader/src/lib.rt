@@ -1,201 +1,80 @@
-// Reading a message: what it says, or a refusal; and its settled entries where they stand, compared with a log or written to it.
-use ballots::Ballot;
-use spelling::be16_at;
-use spelling::wide;
-use walk::read_ballot;
-use walk::read_end;
-use walk::read_entry;
-use walk::read_log;
+// "A reader walks the message record by record": a small struct that holds the message and a position, and thin functions that read the
+// record at it. Callers with a plain slice use the functions `read_..`, which make the reader at a position, read one
+// record through it, and answer that with the position after it.
+use records::BallotStep;
+use records::EndStep;
+use records::LogStep;
+use records::ballot_at;
+use records::end_at;
+use records::entry_at;
+use records::log_at;
 ghost use mathlib.Core.Path.{_≡_};
-ghost use Prim.Native.Nat.{_+_, _*_, _≤_};
-ghost use lib.ListN.{length, take, drop};
-ghost use lib.Seq.{sets};
-ghost use Rattle.protocol.specs.Beginning.{begins};
-ghost use Rattle.spelling.specs.Numbers.{be16, runAt, runOk};
-ghost use Rattle.spelling.specs.Reading.{recordHere, recordAt, headOk, reading};
-ghost use Rattle.reader.specs.Read.{eightWeights, badReading, readingOf};
+ghost use Rattle.records.specs.Steps.{logAt, entryAt, ballotAt, endAt};
 
-// The most offices, and the most settled entries.
-const OFFICES: usize = 8;
-
-const LOG: u16 = 1024;
-
-// What a message says. Its settled entries stay in it, six bytes each after the head.
-pub struct Reading {
-    pub sender: usize,
-    pub n: usize,
-    pub weights: [u16; 8],
-    pub settled: usize,
-    pub head: usize,
-    pub ballots: [Ballot; 8],
-    pub ok: bool,
+pub struct Reader<'a> {
+    pub src: &'a [u8],
+    pub at: usize,
 }
 
-// Whether k log records of entries under n offices stand at the start: their marks one by one, their values together.
-fn log_ok(rest: &[u8], n: usize, k: usize) -> bool
-    ensures { λ r. ⌜ r ≡ runOk 6 (recordHere n) k (now (rest .entry)) ⌝ }
+// The reader of a message at a position.
+pub fn reader_at<'a>(src: &'a [u8], at: usize) -> Reader<'a>
+    ensures { λ r. ⌜ (r .src ≡ src .entry) × (r .at ≡ at) ⌝ }
 {
-    let mut at: usize = 0;
-    let mut bits: u32 = 0;
-    for i in 0..k {
-        let step = read_log(rest, at);
-        let ok = step.ok;
-        if !ok {
-            return false;
-        }
-        bits = bits | entries::raised(step.value, n);
-        at = step.next;
-    }
-    entries::no_carry(bits)
+    Reader { src, at }
 }
 
-// The k weights at a position, and zeros after them.
-fn weights_at(s: &[u8], from: usize, k: usize) -> [u16; 8]
-    requires { ⌜ (k ≤ 8) × (from + 2 * k ≤ length (now s)) ⌝ }
-    ensures { λ r. ⌜ r ≡ eightWeights k (runAt 2 be16 k (drop from (now (s .entry)))) ⌝ }
+// The log record at the reader's position.
+pub fn log_record<'a>(r: Reader<'a>) -> LogStep
+    ensures { λ s. ⌜ s ≡ logAt (now (r .entry .src)) (r .entry .at) ⌝ }
 {
-    let mut weights = [0u16; 8];
-    let mut at = from;
-    for i in 0..k {
-        weights[i] = be16_at(s, at);
-        at += 2;
-    }
-    weights
+    log_at(r.src, r.at)
 }
 
-// Whether a message starts with a head whose fields are within the limits.
-fn head_ok(s: &[u8]) -> bool
-    ensures { λ r. ⌜ r ≡ headOk (now (s .entry)) ⌝ }
+// The log record at the reader's position, of a message that was read already: its value, without the tests of it.
+pub fn entry<'a>(r: Reader<'a>) -> LogStep
+    ensures { λ s. ⌜ s ≡ entryAt (now (r .entry .src)) (r .entry .at) ⌝ }
 {
-    if s.len() < 4 {
-        return false;
-    }
-    if s[0] != 0x53 {
-        return false;
-    }
-    if s[1] != 0x48 {
-        return false;
-    }
-    let n = wide(s[3]) as usize;
-    if n < 1 {
-        return false;
-    }
-    if n > OFFICES {
-        return false;
-    }
-    let sender = wide(s[2]) as usize;
-    if sender >= n {
-        return false;
-    }
-    if s.len() < 6 + 2 * n {
-        return false;
-    }
-    if be16_at(s, 4 + 2 * n) > LOG {
-        return false;
-    }
-    true
+    entry_at(r.src, r.at)
 }
 
-// No message.
-fn bad_reading() -> Reading
-    ensures { λ r. ⌜ r ≡ badReading ⌝ }
+// The ballot of office o at the reader's position; none where another record stands there.
+pub fn ballot<'a>(r: Reader<'a>, o: usize) -> BallotStep
+    ensures { λ s. ⌜ s ≡ ballotAt (now (r .entry .src)) (r .entry .at) o ⌝ }
 {
-    let none = Ballot::none();
-    Reading {
-        ok: false,
-        sender: 0,
-        n: 0,
-        weights: [0u16; 8],
-        settled: 0,
-        head: 0,
-        ballots: [none; 8],
-    }
+    ballot_at(r.src, r.at, o)
 }
 
-// What a message says, or a refusal. "The rest of the message after the head" is handed on to the record readers: the log records first,
-// then the ballots, offices rising, then the end. The ballots are gathered here, since a function that handed them on would copy them.
-pub fn read(msg: &[u8]) -> Reading
-    ensures { λ r. ⌜ r ≡ readingOf (reading (now (msg .entry))) ⌝ }
+// The end at the reader's position.
+pub fn end<'a>(r: Reader<'a>) -> EndStep
+    ensures { λ s. ⌜ s ≡ endAt (now (r .entry .src)) (r .entry .at) ⌝ }
 {
-    if !head_ok(msg) {
-        return bad_reading();
-    }
-    let n = wide(msg[3]) as usize;
-    let settled = be16_at(msg, 4 + 2 * n) as usize;
-    let head = 6 + 2 * n;
-    let rest = &msg[head..];
-    if !log_ok(rest, n, settled) {
-        return bad_reading();
-    }
-    let none = Ballot::none();
-    let mut ballots = [none; 8];
-    let mut at = 6 * settled;
-    for o in 0..n {
-        let step = read_ballot(rest, at, n, settled, o);
-        if !step.ok {
-            return bad_reading();
-        }
-        let b = step.ballot;
-        if b.len > 0 {
-            ballots[o] = b;
-        }
-        at = step.next;
-    }
-    let end = read_end(rest, at);
-    if !end.ok {
-        return bad_reading();
-    }
-    let weights = weights_at(msg, 4, n);
-    let sender = wide(msg[2]) as usize;
-    Reading {
-        ok: true,
-        sender,
-        n,
-        weights,
-        settled,
-        head,
-        ballots,
-    }
+    end_at(r.src, r.at)
 }
 
-// Whether the first k words of a log are the values of the first k log records. Public only for the crate above, which proves that
-// there are as many of both, here and below. So every record is there, but a walk that ends where one is not runs faster.
-pub fn same_log(log: &[u32], rest: &[u8], k: usize) -> bool
-    requires { ⌜ (k ≤ length (now log)) × (6 * k ≤ length (now rest)) ⌝ }
-    ensures { λ r. ⌜ r ≡ begins (take k (now (log .entry))) (runAt 6 recordAt k (now (rest .entry))) ⌝ }
+// The log record at a position.
+pub fn read_log(s: &[u8], at: usize) -> LogStep
+    ensures { λ r. ⌜ r ≡ logAt (now (s .entry)) at ⌝ }
 {
-    let mut at: usize = 0;
-    for i in 0..k {
-        let step = read_entry(rest, at);
-        let ok = step.ok;
-        if !ok {
-            return false;
-        }
-        if log[i] != step.value {
-            return false;
-        }
-        at = step.next;
-    }
-    true
+    log_record(reader_at(s, at))
 }
 
-// The values of the k log records from a position on, written to the start of a part of the log.
-fn fill(part: &mut [u32], rest: &[u8], from: usize, k: usize)
-    requires { ⌜ (k ≤ length (now part)) × (from + 6 * k ≤ length (now rest)) ⌝ }
-    ensures { λ _. ⌜ now (part .exit) ≡ sets (now (part .entry)) 0 (runAt 6 recordAt k (drop from (now (rest .entry)))) ⌝ }
+// The log record at a position of a message that was read already.
+pub fn read_entry(s: &[u8], at: usize) -> LogStep
+    ensures { λ r. ⌜ r ≡ entryAt (now (s .entry)) at ⌝ }
 {
-    let mut at = from;
-    for i in 0..k {
-        let step = read_entry(rest, at);
-        part[i] = step.value;
-        at = step.next;
-    }
+    entry(reader_at(s, at))
 }
 
-// "Writes the missing entries from its own length onward": those of the message's k log records past the settled length.
-pub fn extend(log: &mut [u32], settled: usize, rest: &[u8], k: usize)
-    requires { ⌜ (settled ≤ k) × ((k ≤ length (now log)) × (6 * k ≤ length (now rest))) ⌝ }
-    ensures { λ _. ⌜ now (log .exit) ≡ sets (now (log .entry)) settled (drop settled (runAt 6 recordAt k (now (rest .entry)))) ⌝ }
+// The ballot of office o at a position; none where another record stands there.
+pub fn read_ballot(s: &[u8], at: usize, o: usize) -> BallotStep
+    ensures { λ r. ⌜ r ≡ ballotAt (now (s .entry)) at o ⌝ }
 {
-    fill(&mut log[settled..], rest, 6 * settled, k - settled)
+    ballot(reader_at(s, at), o)
+}
+
+// The end at a position.
+pub fn read_end(s: &[u8], at: usize) -> EndStep
+    ensures { λ r. ⌜ r ≡ endAt (now (s .entry)) at ⌝ }
+{
+    end(reader_at(s, at))
 }

@@ -1,6 +1,5 @@
 -- The tests of a mark and of a record, from the facts that the code finds: a record stands at a position, or it does not.
 --     Mark                               a mark stands at a position, with room for what follows it
---     record-parts                       a log record's test is that of its mark and that of its value
 --     log-.., entry-.., next-.., end-..  a log record, one without its tests, a ballot's start, the end
 -- Assumes nothing.
 use Prim.Native.Nat.{ℕ, _+_, _-_, _*_, _≤_, _<_}
@@ -14,13 +13,12 @@ use lib.Dec.{eqb, leb}
 use lib.ListN.{drop, getD, length, length-drop}
 use lib.Seq.{getD-drop}
 use borrow.Author.Tests.{eq-eqb, eqb-true, le-leb, leb-true, lt-leb}
-use Rattle.protocol.specs.Entry.{isEntry}
-use Rattle.protocol.specs.Tests.{both, pick}
-use Rattle.spelling.specs.Numbers.{be16, be32}
+use Rattle.lists.specs.Tests.{both, pick}
+use Rattle.numbers.specs.Numbers.{be16}
 use Rattle.spelling.specs.Reading.{ballotNext, endOk, recordAt, recordHere}
-use Rattle.protocol.proofs.Tests.{both-0, both-1}
+use Rattle.lists.proofs.Tests.{both-0, both-1}
 use Rattle.spelling.proofs.Ballots.{by-test}
-use Rattle.records.specs.Steps.{badLog, endAt, entryAt, logAt, markHere}
+use Rattle.records.specs.Steps.{badLog, endAt, entryAt, logAt}
 use Rattle.records.specs.declared.LogStep.{LogStep}
 
 -- k bytes stand at the position, and the first two are the mark
@@ -60,59 +58,49 @@ unfolding be16
 mark-number at s v e = e ∙ simp (getD-drop, add-zero)
 
 -- the test of a mark, with nothing after it
-mark-alone : (s : List ℕ) → markHere s ≡ both (leb 6 (length s)) (both (eqb (getD s 0 0) 0x4C) (both (eqb (getD s 1 0) 0x47) true))
-unfolding markHere both
+mark-alone : (s : List ℕ) → recordHere s ≡ both (leb 6 (length s)) (both (eqb (getD s 0 0) 0x4C) (both (eqb (getD s 1 0) 0x47) true))
+unfolding recordHere both
 mark-alone s = by-test _ (eqb (getD s 1 0) 0x47) (λ e. rw e) (λ e. rw e)
-
--- a record stands there where its mark does and its value is an entry
-pub record-parts : (n : ℕ) (s : List ℕ) → recordHere n s ≡ both (markHere s) (isEntry n (recordAt s))
-unfolding recordHere markHere recordAt both
-record-parts n s = grouped (leb 6 (length s)) (eqb (getD s 0 0) 0x4C) (eqb (getD s 1 0) 0x47) (isEntry n (be32 (drop 2 s)))
-  where
-    grouped : (a b c d : Bool) → both a (both b (both c d)) ≡ both (both a (both b c)) d
-    grouped true true c d = refl
-    grouped true false c d = refl
-    grouped false b c d = refl
 
 module _ (at : ℕ) (s : List ℕ) where
   -- the mark does not stand there, or it does
-  pub log-no : (Mark 6 0x4C 0x47 at s → ⊥) → false ≡ markHere (drop at s)
+  pub log-no : (Mark 6 0x4C 0x47 at s → ⊥) → false ≡ recordHere (drop at s)
   log-no f = sym (mark-alone (drop at s) ∙ mark-no 6 0x4C 0x47 at s true (omega arith) f)
 
-  pub log-yes : Mark 6 0x4C 0x47 at s → true ≡ markHere (drop at s)
+  pub log-yes : Mark 6 0x4C 0x47 at s → true ≡ recordHere (drop at s)
   log-yes m = sym (mark-alone (drop at s) ∙ mark-yes 6 0x4C 0x47 at s true (omega arith) m)
 
   -- where the mark stands there is room for the record
-  pub log-room : markHere (drop at s) ≡ true → at + 6 ≤ length s
-  unfolding markHere
+  pub log-room : recordHere (drop at s) ≡ true → at + 6 ≤ length s
+  unfolding recordHere
   log-room e = omega (arith, length-drop at s, leb-true 6 (length (drop at s)) (both-0 _ _ e))
 
-  -- the step by its mark
-  pub log-good : (v : ℕ) → markHere (drop at s) ≡ true → v ≡ recordAt (drop at s) → record { ok = true; value = v; next = at + 6 } ≡ logAt at s
+  -- the step
+  pub log-good : (v : ℕ) → recordHere (drop at s) ≡ true → v ≡ recordAt (drop at s) → record { ok = true; value = v; next = at + 6 } ≡ logAt s at
   unfolding logAt pick
   log-good v e q = rw (e, q)
 
-  pub log-bad : markHere (drop at s) ≡ false → badLog ≡ logAt at s
+  pub log-bad : recordHere (drop at s) ≡ false → badLog ≡ logAt s at
   unfolding logAt pick
   log-bad e = rw e
 
   -- the step by its room
-  pub entry-good : at + 6 ≤ length s → record { ok = true; value = recordAt (drop at s); next = at + 6 } ≡ entryAt at s
+  pub entry-good : at + 6 ≤ length s → record { ok = true; value = recordAt (drop at s); next = at + 6 } ≡ entryAt s at
   unfolding entryAt pick
   entry-good h = let l : 6 ≤ length (drop at s) = rw length-drop (omega arith) in rw (le-leb 6 (length (drop at s)) l)
 
-  pub entry-bad : length s < at + 6 → badLog ≡ entryAt at s
+  pub entry-bad : length s < at + 6 → badLog ≡ entryAt s at
   unfolding entryAt pick
   entry-bad h = let l : length (drop at s) < 6 = rw length-drop (omega arith) in rw (lt-leb 6 (length (drop at s)) l)
 
 -- ---- a ballot comes next
 
 module _ (o at : ℕ) (s : List ℕ) where
-  pub next-no : (Mark 4 0x42 0x41 at s → ⊥) → false ≡ ballotNext o (drop at s)
+  pub next-no : (Mark 4 0x42 0x41 at s → ⊥) → false ≡ ballotNext (drop at s) o
   unfolding ballotNext
   next-no f = sym (mark-no 4 0x42 0x41 at s (eqb (getD (drop at s) 2 0) o) (omega arith) f)
 
-  pub next-yes : Mark 4 0x42 0x41 at s → eqb (getD s (at + 2) 0) o ≡ ballotNext o (drop at s)
+  pub next-yes : Mark 4 0x42 0x41 at s → eqb (getD s (at + 2) 0) o ≡ ballotNext (drop at s) o
   unfolding ballotNext
   next-yes m = sym (mark-yes 4 0x42 0x41 at s (eqb (getD (drop at s) 2 0) o) (omega arith) m ∙ rw getD-drop)
 
@@ -145,16 +133,16 @@ module _ (at : ℕ) (s : List ℕ) where
   pub end-room : endOk (drop at s) ≡ true → at + 2 ≤ length s
   end-room e = omega (arith, end-facts e)
 
-  pub end-good : endOk (drop at s) ≡ true → record { ok = true; next = at + 2 } ≡ endAt at s
+  pub end-good : endOk (drop at s) ≡ true → record { ok = true; next = at + 2 } ≡ endAt s at
   unfolding endAt pick
   end-good e = rw e
 
-  pub end-bad : endOk (drop at s) ≡ false → record { ok = false; next = 0 } ≡ endAt at s
+  pub end-bad : endOk (drop at s) ≡ false → record { ok = false; next = 0 } ≡ endAt s at
   unfolding endAt pick
   end-bad e = rw e
 
 -- what the step of a log record says where there is room for it
-module _ (at : ℕ) (s : List ℕ) (r : LogStep) (h : at + 6 ≤ length s) (e : r ≡ entryAt at s) where
+module _ (at : ℕ) (s : List ℕ) (r : LogStep) (h : at + 6 ≤ length s) (e : r ≡ entryAt s at) where
   pub entry-step : (r .value ≡ recordAt (drop at s)) × (r .next ≡ at + 6)
   entry-step = (ap (λ (x : LogStep). x .value) (e ∙ sym (entry-good at s h)), ap (λ (x : LogStep). x .next) (e ∙ sym (entry-good at s h)))
 

@@ -1,15 +1,15 @@
-// One record of a message, read at a position: a log record, an office's ballot, the end.
+// One record of a message, read at a position by its layout alone: a log record, an office's ballot, the end.
 use ballots::Ballot;
-use spelling::be16_at;
-use spelling::be32_at;
-use spelling::wide;
+use numbers::be16_at;
+use numbers::be32_at;
+use numbers::wide;
 ghost use mathlib.Core.Path.{_≡_};
 ghost use Prim.Native.Nat.{_+_, _*_, _≤_};
 ghost use lib.ListN.{length, drop};
 ghost use Rattle.ballots.specs.Ballots.{ballotOf};
-ghost use Rattle.spelling.specs.Numbers.{be32, runAt};
-ghost use Rattle.spelling.specs.Reading.{recordAt, ballotNext, endOk};
-ghost use Rattle.records.specs.Steps.{markHere, badLog, logAt, entryAt, badBallot, ballotAt, endAt};
+ghost use Rattle.numbers.specs.Numbers.{be32, runAt};
+ghost use Rattle.spelling.specs.Reading.{recordHere, recordAt, ballotNext, endOk};
+ghost use Rattle.records.specs.Steps.{badLog, logAt, entryAt, badBallot, ballotAt, endAt};
 
 // A log record, and the position after it.
 pub struct LogStep {
@@ -40,8 +40,8 @@ fn record_at(s: &[u8], at: usize) -> u32
 }
 
 // Whether there is room for a log record at a position, and its mark stands there.
-fn mark_here(s: &[u8], at: usize) -> bool
-    ensures { λ r. ⌜ r ≡ markHere (drop at (now (s .entry))) ⌝ }
+fn record_here(s: &[u8], at: usize) -> bool
+    ensures { λ r. ⌜ r ≡ recordHere (drop at (now (s .entry))) ⌝ }
 {
     if s.len() < 6 {
         return false;
@@ -66,11 +66,11 @@ fn bad_log() -> LogStep
     }
 }
 
-// The log record at a position, by its mark. The value is not tested: a caller tests those of all records together.
+// The log record at a position. Whether its value is an entry is the caller's to test.
 pub fn log_at(s: &[u8], at: usize) -> LogStep
-    ensures { λ r. ⌜ r ≡ logAt at (now (s .entry)) ⌝ }
+    ensures { λ r. ⌜ r ≡ logAt (now (s .entry)) at ⌝ }
 {
-    if mark_here(s, at) {
+    if record_here(s, at) {
         let value = record_at(s, at);
         LogStep {
             ok: true,
@@ -84,7 +84,7 @@ pub fn log_at(s: &[u8], at: usize) -> LogStep
 
 // The log record at a position of a message that was read already: its value, without the tests of it.
 pub fn entry_at(s: &[u8], at: usize) -> LogStep
-    ensures { λ r. ⌜ r ≡ entryAt at (now (s .entry)) ⌝ }
+    ensures { λ r. ⌜ r ≡ entryAt (now (s .entry)) at ⌝ }
 {
     if s.len() < 6 {
         return bad_log();
@@ -116,7 +116,7 @@ fn values_at(s: &[u8], from: usize, k: usize) -> [u32; 32]
 
 // Whether a ballot of office o comes next.
 fn ballot_next(s: &[u8], at: usize, o: usize) -> bool
-    ensures { λ r. ⌜ r ≡ ballotNext o (drop at (now (s .entry))) ⌝ }
+    ensures { λ r. ⌜ r ≡ ballotNext (drop at (now (s .entry))) o ⌝ }
 {
     if s.len() < 4 {
         return false;
@@ -133,7 +133,7 @@ fn ballot_next(s: &[u8], at: usize, o: usize) -> bool
     wide(s[at + 2]) as usize == o
 }
 
-// A ballot outside the limits.
+// A ballot that is not of the layout.
 fn bad_ballot() -> BallotStep
     ensures { λ r. ⌜ r ≡ badBallot ⌝ }
 {
@@ -145,9 +145,9 @@ fn bad_ballot() -> BallotStep
     }
 }
 
-// The ballot of office o at a position, under n offices and k settled entries; none where another record stands there.
-pub fn ballot_at(s: &[u8], at: usize, n: usize, k: usize, o: usize) -> BallotStep
-    ensures { λ r. ⌜ r ≡ ballotAt n k o at (now (s .entry)) ⌝ }
+// The ballot of office o at a position; none where another record stands there. Whether its values are entries is the caller's to test.
+pub fn ballot_at(s: &[u8], at: usize, o: usize) -> BallotStep
+    ensures { λ r. ⌜ r ≡ ballotAt (now (s .entry)) at o ⌝ }
 {
     if ballot_next(s, at, o) {
         let len = wide(s[at + 3]) as usize;
@@ -157,22 +157,15 @@ pub fn ballot_at(s: &[u8], at: usize, n: usize, k: usize, o: usize) -> BallotSte
         if len > Ballot::CELLS {
             return bad_ballot();
         }
-        if k > Ballot::PATH - len {
-            return bad_ballot();
-        }
-        if s.len() - (at + 4) < 4 * len {
+        if s.len() - at < 4 + 4 * len {
             return bad_ballot();
         }
         let cells = values_at(s, at + 4, len);
-        if entries::all_entries(&cells[..len], n) {
-            let ballot = Ballot { len, cells };
-            BallotStep {
-                ok: true,
-                next: at + (4 + 4 * len),
-                ballot,
-            }
-        } else {
-            bad_ballot()
+        let ballot = Ballot { len, cells };
+        BallotStep {
+            ok: true,
+            next: at + (4 + 4 * len),
+            ballot,
         }
     } else {
         let ballot = Ballot::none();
@@ -202,7 +195,7 @@ fn end_ok(s: &[u8], at: usize) -> bool
 
 // The end at a position.
 pub fn end_at(s: &[u8], at: usize) -> EndStep
-    ensures { λ r. ⌜ r ≡ endAt at (now (s .entry)) ⌝ }
+    ensures { λ r. ⌜ r ≡ endAt (now (s .entry)) at ⌝ }
 {
     if end_ok(s, at) {
         EndStep {

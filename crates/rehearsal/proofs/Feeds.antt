@@ -1,20 +1,32 @@
--- The loop over the lines of a chunk: what it keeps beside the generic invariant are the lengths of the lent buffers. Assumes nothing.
-use mathlib.Core.Path.{_≡_, sym, ap, _∙_}
-use mathlib.Core.List.{List, [], _++_}
-use Prim.Native.Nat.{ℕ, _+_, _-_, _<_}
+-- Feeding the rehearsal.
+--     FeedsRest, Addressed, feeds-next      the loop over the lines of a chunk; beside the generic invariant it keeps the lengths of the lent buffers
+--     feed-answers, finish-answers      what the calls answer
+--     feeds-short, finishes-short      how much they print
+-- Assumes nothing.
+use mathlib.Core.Path.{_≡_, refl, sym, ap, ap₂, _∙_}
+use mathlib.Core.List.{List, [], _∷_, _++_}
+use Prim.Native.Nat.{ℕ, _+_, _-_, _*_, _<_, _≤_}
+use native.Mathlib.Omega.{arith}
+use lib.Dec.{eqb}
 use lib.ListN.{length, take, drop}
 use lib.Seq.{sets}
-use Rattle.lines.specs.Parts.{partLength}
-use Rattle.lines.specs.Held.{cut}
-use Rattle.lines.proofs.Feeding.{FeedRest, feed-next}
-use Rattle.lines.specs.Feeding.{Said}
-use Rattle.commands.specs.declared.Line.{Line}
-use Rattle.commands.specs.Command.{lineOf}
-use Rattle.answers.specs.Answer.{printedOf}
-use Rattle.stage.specs.declared.aims.Aim.{Aim}
-use Rattle.stage.specs.Aims.{aimOf}
-use Rattle.stage.specs.World.{World}
-use Rattle.rehearsal.specs.Lines.{Answered, aimed, sayLine}
+use Rattle.decimal.specs.Parts.{partLength}
+use Rattle.lists.proofs.Tests.{pick-cases}
+use Rattle.rehearsal_lines.specs.declared.Held.{Held}
+use Rattle.rehearsal_lines.specs.Held.{lineHeld, cut, heldOf, nothing}
+use Rattle.rehearsal_lines.specs.Feeding.{Said, Fed, finishBy}
+use Rattle.rehearsal_lines.proofs.Holding.{line-held, held-again}
+use Rattle.rehearsal_lines.proofs.Feeding.{FeedRest, FedTo, feed-next, feed-short, finish-none}
+use Rattle.rehearsal_commands.specs.declared.Line.{Line}
+use Rattle.rehearsal_commands.specs.Command.{lineOf}
+use Rattle.rehearsal_answers.specs.Answer.{printedOf}
+use Rattle.rehearsal_offices.specs.declared.addressees.Addressee.{Addressee}
+use Rattle.rehearsal_offices.specs.Addressees.{addresseeOf}
+use Rattle.rehearsal_offices.specs.World.{World}
+use Rattle.rehearsal_offices.specs.declared.Offices.{Offices}
+use Rattle.rehearsal.specs.declared.Rehearsal.{Rehearsal}
+use Rattle.rehearsal.specs.Lines.{Answered, answerTo, sayLine, finishOf}
+use Rattle.rehearsal.specs.Feeding.{worldOf, feeds, finishes, FedAs}
 use Rattle.rehearsal.proofs.Says.{say-short, says-as}
 
 pub record FeedsRest (w₀ : World) (h₀ s out₀ : List ℕ) (w : World) (h out : List ℕ) (at printed : ℕ) : Type 0 where
@@ -22,19 +34,19 @@ pub record FeedsRest (w₀ : World) (h₀ s out₀ : List ℕ) (w : World) (h ou
   pub logs : length (w .logs) ≡ 8192
   pub slots : length (w .slots) ≡ 28128
 
--- the line that ends at `end`: what it says, and its aim
-pub record Aimed (w₀ : World) (h₀ s out₀ : List ℕ) (w : World) (h out : List ℕ) (at printed end : ℕ) (h′ : List ℕ) (line : Line) (a : Aim) : Type 0 where
+-- the line that ends at `end`: what it says, and whom it is for
+pub record Addressed (w₀ : World) (h₀ s out₀ : List ℕ) (w : World) (h out : List ℕ) (at printed end : ℕ) (h′ : List ℕ) (line : Line) (a : Addressee) : Type 0 where
   pub inv : FeedsRest w₀ h₀ s out₀ w h out at printed
   pub there : end ≡ at + partLength 10 (drop at s)
   pub inside : end < length s
   pub empty : h′ ≡ []
   pub read : line ≡ lineOf (cut (h ++ take (end - at) (drop at s)))
-  pub aim : a ≡ aimOf (w .stage .offices) (line .parsed)
+  pub whom : a ≡ addresseeOf (w .offices .count) (line .parsed)
 
 -- and its answer x
-module _ {w₀ : World} {h₀ s out₀ : List ℕ} {w : World} {h out : List ℕ} {at printed end : ℕ} {h′ : List ℕ} {line : Line} {a : Aim} (A : Aimed w₀ h₀ s out₀ w h out at printed end h′ line a) (x : Answered) (e : x ≡ aimed w (line .weights) a) where
+module _ {w₀ : World} {h₀ s out₀ : List ℕ} {w : World} {h out : List ℕ} {at printed end : ℕ} {h′ : List ℕ} {line : Line} {a : Addressee} (A : Addressed w₀ h₀ s out₀ w h out at printed end h′ line a) (x : Answered) (e : x ≡ answerTo w (line .weights) a) where
   says : sayLine w (cut (h ++ take (end - at) (drop at s))) ≡ record { world = x .world; printed = printedOf (x .answer) }
-  says = says-as w _ line a (A .read) (A .aim) x e
+  says = says-as w _ line a (A .read) (A .whom) x e
 
   printed-by : sayLine w (cut (h ++ take (end - at) (drop at s))) .printed ≡ printedOf (x .answer)
   printed-by = ap (λ (f : Said World). f .printed) says
@@ -48,3 +60,32 @@ module _ {w₀ : World} {h₀ s out₀ : List ℕ} {w : World} {h out : List ℕ
     logs = lg;
     slots = sl;
   }
+
+-- at the end of the chunk, with the line that is left
+pub feed-answers : (f : Fed World) (out₀ : List ℕ) (w : World) (line out : List ℕ) (count : ℕ) (held : Held) → FedTo f out₀ w (cut line) out count → held ≡ heldOf line
+    → FedAs f out₀ (record { rehearsal = record { offices = w .offices; held = held }; printed = count }) (w .logs) (w .slots) out
+feed-answers f out₀ w line out count held x e =
+    let h : held ≡ heldOf (f .held) = e ∙ held-again (heldOf line) line refl ∙ ap heldOf (line-held line ∙ x .line) in
+    record {
+      answer =
+          ap₂ (λ (r : Rehearsal) (n : ℕ). record { rehearsal = r; printed = n })
+          (ap₂ (λ (o : Offices) (l : Held). record { offices = o; held = l }) (ap (λ (v : World). v .offices) (x .world)) h) (x .printed);
+      logs = ap (λ (v : World). v .logs) (x .world);
+      slots = ap (λ (v : World). v .slots) (x .world);
+      output = x .output;
+    }
+
+-- at the end of the input, with no line held
+pub finish-answers : (w : World) (line out : List ℕ) (held : Held) → length line ≡ 0 → held ≡ nothing → FedAs (finishOf w line) out (record { rehearsal = record { offices = w .offices; held = held }; printed = 0 }) (w .logs) (w .slots) out
+finish-answers w line out held z e = rw (finish-none sayLine w line z, e) (record { answer = refl; logs = refl; slots = refl; output = refl })
+
+module _ (r : Rehearsal) (logs slots : List ℕ) where
+  pub feeds-short : (bytes : List ℕ) → length (feeds r logs slots bytes .printed) ≤ 65 * length bytes
+  feeds-short bytes = feed-short sayLine 65 say-short (worldOf r logs slots) (lineHeld (r .held)) bytes
+
+  pub finishes-short : length (finishes r logs slots .printed) ≤ 65
+  unfolding finishBy
+  finishes-short =
+      pick-cases (λ (f : Fed World). length (f .printed) ≤ 65) (eqb (length (lineHeld (r .held))) 0) _ _
+      (λ e. omega (arith, feeds-short []))
+      (λ e. omega (arith, feeds-short (10 ∷ [])))

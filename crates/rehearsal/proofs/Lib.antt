@@ -1,3 +1,4 @@
 -- Laws of the rehearsal.
 pub mod Says
 pub mod Feeds
+pub mod Inputs

@@ -1,24 +1,25 @@
 -- What a line does to the world, and what it prints. Assumes nothing.
 use Prim.Native.Nat.{ℕ}
-use mathlib.Core.List.{List, []}
+use mathlib.Core.List.{List}
 use lib.ListN.{getD, set}
-use Rattle.lines.specs.Feeding.{Said, Fed, feedBy, finishBy}
-use Rattle.commands.specs.declared.Line.{Line}
-use Rattle.commands.specs.Command.{lineOf}
-use Rattle.answers.specs.declared.Answer.{Answer}
-use Rattle.answers.specs.Answer.{printedOf}
+use Rattle.rehearsal_lines.specs.Feeding.{Said, Fed, feedBy, finishBy}
+use Rattle.rehearsal_commands.specs.declared.Line.{Line}
+use Rattle.rehearsal_commands.specs.Command.{lineOf}
+use Rattle.rehearsal_answers.specs.declared.Answer.{Answer}
+use Rattle.rehearsal_answers.specs.Answer.{printedOf}
 use Rattle.frame.specs.declared.Record.{Record}
-use Rattle.turns.specs.declared.Turn.{Turn}
-use Rattle.turns.specs.Pieces.{withPiece}
-use Rattle.turns.specs.Answers.{question}
-use Rattle.turns.specs.Turns.{turnOf, turnWords, turnSlots}
-use Rattle.stage.specs.declared.Stage.{Stage}
-use Rattle.stage.specs.declared.aims.Aim.{Aim}
-use Rattle.stage.specs.declared.aims.Aim.the-variants.{Everyone, At, Nobody}
-use Rattle.stage.specs.declared.founding.Founding.{Founding}
-use Rattle.stage.specs.World.{World, logOf}
-use Rattle.stage.specs.Founding.{founded}
-use Rattle.stage.specs.Aims.{aimOf}
+use Rattle.frame.specs.State.{offEnd}
+use Rattle.rehearsal_turns.specs.declared.Turn.{Turn}
+use Rattle.rehearsal_turns.specs.Pieces.{withPiece}
+use Rattle.rehearsal_turns.specs.Answers.{question}
+use Rattle.rehearsal_turns.specs.Turns.{turnAt, turnWords, turnSlots}
+use Rattle.rehearsal_offices.specs.declared.Offices.{Offices}
+use Rattle.rehearsal_offices.specs.declared.addressees.Addressee.{Addressee}
+use Rattle.rehearsal_offices.specs.declared.addressees.Addressee.the-variants.{All, One, Nobody}
+use Rattle.rehearsal_offices.specs.declared.founding.Founding.{Founding}
+use Rattle.rehearsal_offices.specs.World.{World, logOf}
+use Rattle.rehearsal_offices.specs.Founding.{foundOffices}
+use Rattle.rehearsal_offices.specs.Addressees.{addresseeOf}
 
 -- what a line leaves, and its answer
 pub record Answered : Type 0 where
@@ -26,34 +27,31 @@ pub record Answered : Type 0 where
   pub answer : Answer
 
 abbrev pub foundAnswer : World → Founding → Answered
-foundAnswer w f = record { world = record { stage = f .stage; logs = w .logs; slots = w .slots }; answer = f .answer }
+foundAnswer w f = record { world = record { offices = f .offices; logs = w .logs; slots = w .slots }; answer = f .answer }
 
--- past the last of the eight records, where no aim is
-abbrev pub noRecord : Record
-noRecord = record { n = 0; own = 0; weights = []; settled = 0; ballots = [] }
+-- the record of office k
+abbrev pub recordAt : Offices → ℕ → Record
+recordAt s k = getD (s .records) k offEnd
 
-abbrev pub recordAt : Stage → ℕ → Record
-recordAt s k = getD (s .records) k noRecord
-
--- the stage after office k's turn
-abbrev pub turned : Stage → ℕ → Turn → Stage
-turned s k t = record { offices = s .offices; records = set (s .records) k (t .record); lengths = t .lengths }
+-- the offices after office k's turn
+abbrev pub turned : Offices → ℕ → Turn → Offices
+turned s k t = record { count = s .count; records = set (s .records) k (t .record); lengths = t .lengths }
 
 -- an office's turn changes its record, its log and the slots
 abbrev pub turnAnswer : World → ℕ → Turn → List ℕ → List ℕ → Answered
 turnAnswer w k t words slots =
-    record { world = record { stage = turned (w .stage) k t; logs = withPiece 1024 (w .logs) k words; slots = slots }; answer = t .answer }
+    record { world = record { offices = turned (w .offices) k t; logs = withPiece 1024 (w .logs) k words; slots = slots }; answer = t .answer }
 
-unfoldable pub aimed : World → List ℕ → Aim → Answered
-aimed w ws (Everyone n) = foundAnswer w (founded (w .stage) n ws (w .logs))
-aimed w ws (At k c) =
-    turnAnswer w k (turnOf c (recordAt (w .stage) k) (w .stage .lengths) (logOf (w .logs) k) (w .slots))
-    (turnWords c (recordAt (w .stage) k) (w .stage .lengths) (logOf (w .logs) k) (w .slots))
-    (turnSlots c (recordAt (w .stage) k) (logOf (w .logs) k) (w .slots))
-aimed w ws Nobody = record { world = w; answer = question }
+unfoldable pub answerTo : World → List ℕ → Addressee → Answered
+answerTo w ws (All n) = foundAnswer w (foundOffices (w .offices) n ws (w .logs))
+answerTo w ws (One k c) =
+    turnAnswer w k (turnAt (recordAt (w .offices) k) (w .offices .lengths) (logOf (w .logs) k) (w .slots) c)
+    (turnWords (recordAt (w .offices) k) (w .offices .lengths) (logOf (w .logs) k) (w .slots) c)
+    (turnSlots (recordAt (w .offices) k) (logOf (w .logs) k) (w .slots) c)
+answerTo w ws Nobody = record { world = w; answer = question }
 
 unfoldable pub answerLine : World → Line → Answered
-answerLine w line = aimed w (line .weights) (aimOf (w .stage .offices) (line .parsed))
+answerLine w line = answerTo w (line .weights) (addresseeOf (w .offices .count) (line .parsed))
 
 -- the bytes of a line, its newline not counted
 unfoldable pub sayLine : World → List ℕ → Said World

@@ -2,25 +2,23 @@
 ghost use mathlib.Core.Path.{_≡_};
 ghost use Prim.Native.Nat.{_*_, _≤_};
 ghost use lib.ListN.{length, take};
-ghost use Rattle.lines.specs.Held.{lineHeld};
-ghost use Rattle.lines.specs.Feeding.{FedAs};
-ghost use Rattle.commands.specs.Command.{lineOf};
-ghost use Rattle.rehearsal.specs.Lines.{feedOf, finishOf};
-ghost use Rattle.rehearsal.specs.Feeding.{worldOf, atFirst};
+ghost use Rattle.rehearsal_lines.specs.Held.{lineHeld};
+ghost use Rattle.rehearsal_commands.specs.Command.{lineOf};
+ghost use Rattle.rehearsal.specs.Feeding.{atFirst, feeds, finishes, FedAs};
 use crate::Rehearsal;
-use answers::print;
-use commands::Line;
-use commands::line_of;
+use decimal::part_end;
 use frame::Record;
-use lines::Held;
-use lines::part_end;
-use lines::within;
-use stage::Aim;
-use stage::aim_of;
-use stage::found;
-use stage::nobody;
-use turns::ask;
-use turns::turn_at;
+use lists::within;
+use rehearsal_answers::print;
+use rehearsal_commands::Line;
+use rehearsal_commands::line_of;
+use rehearsal_lines::Held;
+use rehearsal_offices::Addressee;
+use rehearsal_offices::addressee_of;
+use rehearsal_offices::found_offices;
+use rehearsal_offices::no_offices;
+use rehearsal_turns::question;
+use rehearsal_turns::turn_at;
 
 // The rehearsal after some input, and how many bytes it printed.
 pub struct Fed {
@@ -40,10 +38,9 @@ fn line_held(held: Held) -> Line
 // Answers each whole line, and holds what is left. Each byte of the chunk has room for an answer.
 fn feed_all(r: Rehearsal, logs: &mut [u32], slots: &mut [u8], chunk: &[u8], out: &mut [u8]) -> Fed
     requires { ⌜ (length (now logs) ≡ 8192) × (length (now slots) ≡ 28128) × (65 * length (now chunk) ≤ length (now out)) ⌝ }
-    ensures { λ f. ⌜ FedAs (feedOf (worldOf r (now (logs .entry)) (now (slots .entry))) (lineHeld (r .held)) (now (chunk .entry))) (now (out .entry)) (worldOf (f .rehearsal) (now (logs .exit)) (now (slots .exit))) (lineHeld (f .rehearsal .held)) (now (out .exit)) (f .printed) ⌝ }
-    ensures { λ f. ⌜ f .printed ≤ 65 * length (now (chunk .entry)) ⌝ }
+    ensures { λ f. ⌜ FedAs (feeds r (now (logs .entry)) (now (slots .entry)) (now (chunk .entry))) (now (out .entry)) f (now (logs .exit)) (now (slots .exit)) (now (out .exit)) ⌝ }
 {
-    let mut stage = r.stage;
+    let mut offices = r.offices;
     let mut held = r.held;
     let mut at: usize = 0;
     let mut printed: usize = 0;
@@ -51,36 +48,36 @@ fn feed_all(r: Rehearsal, logs: &mut [u32], slots: &mut [u8], chunk: &[u8], out:
         let end = part_end(chunk, at, b'\n');
         held = held.with(&chunk[at..end]);
         if end >= chunk.len() {
-            let rehearsal = Rehearsal { stage, held };
+            let rehearsal = Rehearsal { offices, held };
             return Fed { rehearsal, printed };
         }
         let line = line_held(held);
         held = Held::none();
         at = end + 1;
         let parsed = line.parsed;
-        let aim = aim_of(stage.offices, parsed);
-        match aim {
-            Aim::Everyone(n) => {
+        let addressee = addressee_of(offices.count, parsed);
+        match addressee {
+            Addressee::All(n) => {
                 let weights = line.weights;
-                let founding = found(stage, n, weights, logs);
-                stage = founding.stage;
+                let founding = found_offices(offices, n, weights, logs);
+                offices = founding.offices;
                 let answer = founding.answer;
                 printed = print(out, printed, answer);
             }
-            Aim::At(k, command) => {
+            Addressee::One(k, command) => {
                 let from = k * Record::LOG;
                 let to = from + Record::LOG;
-                let record = stage.records[k];
-                let lengths = stage.lengths;
+                let record = offices.records[k];
+                let lengths = offices.lengths;
                 let turn = turn_at(record, lengths, &mut logs[from..to], slots, command);
                 let next = turn.record;
                 let left = turn.lengths;
-                stage.records[k] = next;
-                stage.lengths = left;
+                offices.records[k] = next;
+                offices.lengths = left;
                 let answer = turn.answer;
                 printed = print(out, printed, answer);
             }
-            Aim::Nobody => printed = print(out, printed, ask()),
+            Addressee::Nobody => printed = print(out, printed, question()),
         }
     }
 }
@@ -90,9 +87,9 @@ impl Rehearsal {
     pub fn new() -> Rehearsal
         ensures { λ r. ⌜ r ≡ atFirst ⌝ }
     {
-        let stage = nobody();
+        let offices = no_offices();
         let held = Held::none();
-        Rehearsal { stage, held }
+        Rehearsal { offices, held }
     }
 
     // Feeds the first `used` bytes of the chunk: answers each line that ends there, and holds what is left of the last one.
@@ -105,8 +102,7 @@ impl Rehearsal {
         used: usize,
         out: &mut [u8; 532480],
     ) -> Fed
-        ensures { λ f. ⌜ FedAs (feedOf (worldOf self (now (logs .entry)) (now (slots .entry))) (lineHeld (self .held)) (take used (now (chunk .entry)))) (now (out .entry)) (worldOf (f .rehearsal) (now (logs .exit)) (now (slots .exit))) (lineHeld (f .rehearsal .held)) (now (out .exit)) (f .printed) ⌝ }
-        ensures { λ f. ⌜ f .printed ≤ 532480 ⌝ }
+        ensures { λ f. ⌜ FedAs (feeds self (now (logs .entry)) (now (slots .entry)) (take used (now (chunk .entry)))) (now (out .entry)) f (now (logs .exit)) (now (slots .exit)) (now (out .exit)) ⌝ }
     {
         let bytes: &[u8] = chunk;
         let size = within(used, 8192);
@@ -120,13 +116,15 @@ impl Rehearsal {
         slots: &mut [u8; 28128],
         out: &mut [u8; 532480],
     ) -> Fed
-        ensures { λ f. ⌜ FedAs (finishOf (worldOf self (now (logs .entry)) (now (slots .entry))) (lineHeld (self .held))) (now (out .entry)) (worldOf (f .rehearsal) (now (logs .exit)) (now (slots .exit))) (lineHeld (f .rehearsal .held)) (now (out .exit)) (f .printed) ⌝ }
-        ensures { λ f. ⌜ f .printed ≤ 532480 ⌝ }
+        ensures { λ f. ⌜ FedAs (finishes self (now (logs .entry)) (now (slots .entry))) (now (out .entry)) f (now (logs .exit)) (now (slots .exit)) (now (out .exit)) ⌝ }
     {
-        let held = self.held;
-        if held.length == 0 {
+        let last = self.held;
+        if last.length == 0 {
+            let offices = self.offices;
+            let held = Held::none();
+            let rehearsal = Rehearsal { offices, held };
             return Fed {
-                rehearsal: self,
+                rehearsal,
                 printed: 0,
             };
         }

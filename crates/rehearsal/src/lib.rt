@@ -1,6 +1,6 @@
 // The rehearsal: lines of input in, lines of output out, over up to eight offices and four message slots.
-use lines::Held;
-use stage::Stage;
+use rehearsal_lines::Held;
+use rehearsal_offices::Offices;
 
 mod feeding;
 
@@ -8,6 +8,6 @@ pub use feeding::Fed;
 
 // The offices, and the line that is held until its newline comes.
 pub struct Rehearsal {
-    pub stage: Stage,
+    pub offices: Offices,
     pub held: Held,
 }

@@ -1,4 +1,4 @@
 // `rehearse` reads a rehearsal from standard input and prints its answers.
 fn main() {
-    rehearsing::rehearse();
+    rehearsal_io::rehearse();
 }

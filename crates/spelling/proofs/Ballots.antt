@@ -5,108 +5,124 @@ use mathlib.Core.List.{List, [], _∷_, _++_, append-assoc}
 use mathlib.Core.Path.{_≡_, refl, sym, ap, _∙_}
 use native.Mathlib.Omega.{arith}
 use lib.Dec.{leb, eqb}
-use lib.ListN.{length, getD, drop}
+use lib.ListN.{length, getD, drop, length-append, length-drop}
 use lib.Seq.{drop-drop}
 use borrow.Author.Tests.{leb-true, eqb-true, le-leb, eq-eqb, ne-eqb}
-use Rattle.protocol.specs.Entry.{isEntry}
 use Rattle.protocol.specs.Limits.{tailFine}
-use Rattle.protocol.specs.Tests.{allB, both, pick}
-use Rattle.protocol.specs.World.{at}
-use Rattle.protocol.proofs.Tests.{both-1, both-0}
-use Rattle.spelling.specs.Numbers.{bytes32, runOk, runAt, Bytes, run, be32}
-use Rattle.spelling.specs.Reading.{sizeAt, tailAt, tailsAt, ballotOk, endOk, ballotsOk, valueHere, ballotNext, afterBallot}
+use Rattle.protocol.proofs.Limits.{fine-tail}
+use Rattle.lists.specs.Tests.{allB, both}
+use Rattle.lists.proofs.Tests.{both-1, both-0, both-true, pick-true, pick-false, all-mono}
+use Rattle.numbers.specs.Numbers.{bytes32, runAt, Bytes, run, be32}
+use Rattle.numbers.proofs.Runs.{bytes-drop, run-length, run-said, run-past, run-back, runAt-length}
+use Rattle.spelling.specs.Reading.{sizeAt, tailAt, tailsAt, ballotOk, endOk, ballotsOk, lengthAt, ballotNext, afterBallot}
 use Rattle.spelling.specs.Spelling.{ballotBytes, ballotsBytes, endBytes}
-use Rattle.spelling.proofs.Items.{valueItem}
-use Rattle.spelling.proofs.Runs.{bytes-drop, run-said, run-here, run-past, run-back, run-fine, runAt-length}
+use Rattle.spelling.proofs.Items.{isWord, entry-word, roomFor, room-for, valueItem}
 
 -- ---- the two cases of a ballot
 
-module _ (o : ℕ) (s : List ℕ) where
-  pub tail-yes : ballotNext o s ≡ true → tailAt o s ≡ runAt 4 be32 (getD s 3 0) (drop 4 s)
-  unfolding tailAt pick
-  tail-yes e = rw e
+module _ (s : List ℕ) (o : ℕ) where
+  pub tail-yes : ballotNext s o ≡ true → tailAt s o ≡ runAt 4 be32 (lengthAt s) (drop 4 s)
+  unfolding tailAt
+  tail-yes e = pick-true _ _ _ e
 
-  pub tail-no : ballotNext o s ≡ false → tailAt o s ≡ []
-  unfolding tailAt pick
-  tail-no e = rw e
+  pub tail-no : ballotNext s o ≡ false → tailAt s o ≡ []
+  unfolding tailAt
+  tail-no e = pick-false _ _ _ e
 
-  pub after-yes : ballotNext o s ≡ true → afterBallot o s ≡ drop (4 + 4 * getD s 3 0) s
-  unfolding afterBallot sizeAt pick
-  after-yes e = rw e
+  pub size-yes : ballotNext s o ≡ true → sizeAt s o ≡ 4 + 4 * lengthAt s
+  unfolding sizeAt
+  size-yes e = pick-true _ _ _ e
 
-  pub after-no : ballotNext o s ≡ false → afterBallot o s ≡ s
-  unfolding afterBallot sizeAt pick
-  after-no e = rw e
+  pub size-no : ballotNext s o ≡ false → sizeAt s o ≡ 0
+  unfolding sizeAt
+  size-no e = pick-false _ _ _ e
 
-  pub ok-yes : (n k : ℕ) → ballotNext o s ≡ true → ballotOk n k o s ≡ both (leb 1 (getD s 3 0)) (both (leb (getD s 3 0) 32) (both (leb (k + getD s 3 0) 1024) (runOk 4 (valueHere n) (getD s 3 0) (drop 4 s))))
-  unfolding ballotOk pick
-  ok-yes n k e = rw e
+  pub ok-yes : ballotNext s o ≡ true → ballotOk s o ≡ both (leb 1 (lengthAt s)) (both (leb (lengthAt s) 32) (leb (4 + 4 * lengthAt s) (length s)))
+  unfolding ballotOk
+  ok-yes e = pick-true _ _ _ e
 
-  pub ok-no : (n k : ℕ) → ballotNext o s ≡ false → ballotOk n k o s ≡ true
-  unfolding ballotOk pick
-  ok-no n k e = rw e
+  pub ok-no : ballotNext s o ≡ false → ballotOk s o ≡ true
+  unfolding ballotOk
+  ok-no e = pick-false _ _ _ e
+
+  after-yes : ballotNext s o ≡ true → afterBallot s o ≡ drop (4 + 4 * lengthAt s) s
+  unfolding afterBallot
+  after-yes e = rw (size-yes e)
+
+  after-no : ballotNext s o ≡ false → afterBallot s o ≡ s
+  unfolding afterBallot
+  after-no e = rw (size-no e)
 
 -- ---- what is written is read back
 
+-- a tail that the layout can hold: at most 32 values of four bytes
+unfoldable pub tailWords : List ℕ → Bool
+tailWords t = both (leb (length t) 32) (allB isWord t)
+
+tail-words : (n k : ℕ) → n ≤ 8 → (t : List ℕ) → tailFine n k t ≡ true → tailWords t ≡ true
+unfolding tailWords
+tail-words n k small t e =
+    let f = fine-tail n k t e in
+    both-true _ _ (le-leb (length t) 32 (f .short)) (all-mono _ isWord (λ v q. entry-word n v small q) t (f .entries))
+
+pub tails-words : (n k : ℕ) → n ≤ 8 → (ts : List (List ℕ)) → allB (tailFine n k) ts ≡ true → allB tailWords ts ≡ true
+tails-words n k small ts e = all-mono (tailFine n k) tailWords (tail-words n k small) ts e
+
 -- no ballot of an earlier office comes next
-next-no : (o p : ℕ) (ts : List (List ℕ)) → o < p → ballotNext o (ballotsBytes p ts ++ endBytes) ≡ false
+next-no : (o p : ℕ) (ts : List (List ℕ)) → o < p → ballotNext (ballotsBytes p ts ++ endBytes) o ≡ false
 unfolding ballotNext both ballotsBytes ballotBytes endBytes
 next-no o p [] h = refl
 next-no o p ([] ∷ ts) h = next-no o (suc p) ts (omega arith)
 next-no o p ((v ∷ vs) ∷ ts) h = rw (ne-eqb p o (λ e. omega arith)) (and-false (leb 4 (length (ballotsBytes p ((v ∷ vs) ∷ ts) ++ endBytes))))
 
-next-yes : (o v : ℕ) (vs r : List ℕ) → ballotNext o (ballotBytes o (v ∷ vs) ++ r) ≡ true
+next-yes : (o v : ℕ) (vs r : List ℕ) → ballotNext (ballotBytes o (v ∷ vs) ++ r) o ≡ true
 unfolding ballotNext both ballotBytes
 next-yes o v vs r = rw (le-leb 4 (length (ballotBytes o (v ∷ vs) ++ r)) (omega arith), eq-eqb o o refl)
 
-module _ (n : ℕ) (small : n ≤ 8) (k o : ℕ) where
-  ballot-said : (t r : List ℕ) → ballotNext o r ≡ false → allB (isEntry n) t ≡ true → tailAt o (ballotBytes o t ++ r) ≡ t
-  unfolding ballotBytes
-  ballot-said [] r e h = tail-no o r e
-  ballot-said (v ∷ vs) r e h =
-      tail-yes o (ballotBytes o (v ∷ vs) ++ r) (next-yes o v vs r)
-      ∙ run-said 4 bytes32 be32 (valueHere n) (isEntry n) (valueItem n small) (v ∷ vs) r h
+-- a ballot's bytes, and its tail read back before bytes r that are no ballot of this office
+module _ (o : ℕ) (r : List ℕ) (e : ballotNext r o ≡ false) where
+  ballot-said : (t : List ℕ) → tailWords t ≡ true → tailAt (ballotBytes o t ++ r) o ≡ t
+  unfolding ballotBytes tailWords
+  ballot-said [] h = tail-no r o e
+  ballot-said (v ∷ vs) h =
+      tail-yes (ballotBytes o (v ∷ vs) ++ r) o (next-yes o v vs r)
+      ∙ run-said 4 bytes32 be32 (roomFor 4) isWord valueItem (v ∷ vs) r (both-1 (leb (length (v ∷ vs)) 32) _ h)
 
-  ballot-past : (t r : List ℕ) → ballotNext o r ≡ false → afterBallot o (ballotBytes o t ++ r) ≡ r
+  ballot-past : (t : List ℕ) → afterBallot (ballotBytes o t ++ r) o ≡ r
   unfolding ballotBytes
-  ballot-past [] r e = after-no o r e
-  ballot-past (v ∷ vs) r e =
-      after-yes o (ballotBytes o (v ∷ vs) ++ r) (next-yes o v vs r)
+  ballot-past [] = after-no r o e
+  ballot-past (v ∷ vs) =
+      after-yes (ballotBytes o (v ∷ vs) ++ r) o (next-yes o v vs r)
       ∙ sym (drop-drop (4 * length (v ∷ vs)) 4 (ballotBytes o (v ∷ vs) ++ r))
-      ∙ run-past 4 bytes32 be32 (valueHere n) (isEntry n) (valueItem n small) (v ∷ vs) r
+      ∙ run-past 4 bytes32 be32 (roomFor 4) isWord valueItem (v ∷ vs) r
 
-  ballot-here : (t r : List ℕ) → ballotNext o r ≡ false → tailFine n k t ≡ true → ballotOk n k o (ballotBytes o t ++ r) ≡ true
-  unfolding ballotBytes tailFine both
-  ballot-here [] r e h = ok-no o r n k e
-  ballot-here (v ∷ vs) r e h =
-      let a = both-1 (leb (length (v ∷ vs)) 32) _ h in
-      let p : leb (length (v ∷ vs)) 32 ≡ true = both-0 _ _ h in
-      let q : leb (k + length (v ∷ vs)) 1024 ≡ true = both-0 _ _ a in
-      ok-yes o (ballotBytes o (v ∷ vs) ++ r) n k (next-yes o v vs r)
-      ∙ rw (le-leb 1 (length (v ∷ vs)) (omega arith), p, q)
-      (run-here 4 bytes32 be32 (valueHere n) (isEntry n) (valueItem n small) (v ∷ vs) r (both-1 (leb (k + length (v ∷ vs)) 1024) _ a))
+  ballot-here : (t : List ℕ) → tailWords t ≡ true → ballotOk (ballotBytes o t ++ r) o ≡ true
+  unfolding ballotBytes tailWords
+  ballot-here [] h = ok-no r o e
+  ballot-here (v ∷ vs) h =
+      let l : ℕ = length (v ∷ vs) in
+      let room : 4 + 4 * l ≤ length (ballotBytes o (v ∷ vs) ++ r) =
+      omega (arith, length-append (run bytes32 (v ∷ vs)) r, run-length 4 bytes32 be32 (roomFor 4) isWord valueItem (v ∷ vs)) in
+      ok-yes (ballotBytes o (v ∷ vs) ++ r) o (next-yes o v vs r)
+      ∙ both-true _ _ (le-leb 1 l (omega arith)) (both-true _ _ (both-0 (leb l 32) _ h) (le-leb (4 + 4 * l) (length (ballotBytes o (v ∷ vs) ++ r)) room))
 
-tail-entries : (n k : ℕ) (t : List ℕ) → tailFine n k t ≡ true → allB (isEntry n) t ≡ true
-unfolding tailFine
-tail-entries n k t h = both-1 (leb (k + length t) 1024) _ (both-1 (leb (length t) 32) _ h)
-
-pub ballots-said : (n : ℕ) → n ≤ 8 → (k o : ℕ) (ts : List (List ℕ)) → allB (tailFine n k) ts ≡ true → tailsAt o (length ts) (ballotsBytes o ts ++ endBytes) ≡ ts
+pub ballots-said : (o : ℕ) (ts : List (List ℕ)) → allB tailWords ts ≡ true → tailsAt (ballotsBytes o ts ++ endBytes) o (length ts) ≡ ts
 unfolding tailsAt ballotsBytes allB
-ballots-said n small k o [] h = refl
-ballots-said n small k o (t ∷ ts) h =
+ballots-said o [] h = refl
+ballots-said o (t ∷ ts) h =
     let e = next-no o (suc o) ts (omega arith) in
     let r : List ℕ = ballotsBytes (suc o) ts ++ endBytes in
-    rw (append-assoc, ballot-said n small k o t r e (tail-entries n k t (both-0 _ _ h)), ballot-past n small k o t r e)
-    (ap (λ (l : List (List ℕ)). t ∷ l) (ballots-said n small k (suc o) ts (both-1 (tailFine n k t) _ h)))
+    rw (append-assoc, ballot-said o r e t (both-0 _ _ h), ballot-past o r e t)
+    (ap (λ (l : List (List ℕ)). t ∷ l) (ballots-said (suc o) ts (both-1 (tailWords t) _ h)))
 
-pub ballots-here : (n : ℕ) → n ≤ 8 → (k o : ℕ) (ts : List (List ℕ)) → allB (tailFine n k) ts ≡ true → ballotsOk n k o (length ts) (ballotsBytes o ts ++ endBytes) ≡ true
+pub ballots-here : (o : ℕ) (ts : List (List ℕ)) → allB tailWords ts ≡ true → ballotsOk (ballotsBytes o ts ++ endBytes) o (length ts) ≡ true
 unfolding ballotsOk ballotsBytes allB endOk endBytes both
-ballots-here n small k o [] h = refl
-ballots-here n small k o (t ∷ ts) h =
+ballots-here o [] h = refl
+ballots-here o (t ∷ ts) h =
     let e = next-no o (suc o) ts (omega arith) in
     let r : List ℕ = ballotsBytes (suc o) ts ++ endBytes in
-    rw (append-assoc, ballot-here n small k o t r e (both-0 _ _ h), ballot-past n small k o t r e)
-    (ballots-here n small k (suc o) ts (both-1 (tailFine n k t) _ h))
+    rw (append-assoc, ballot-here o r e t (both-0 _ _ h), ballot-past o r e t)
+    (ballots-here (suc o) ts (both-1 (tailWords t) _ h))
 
 -- ---- what is read is spelled so
 
@@ -123,9 +139,9 @@ ballot-cons o [] h = absurd (omega arith)
 ballot-cons o (v ∷ vs) h = refl
 
 -- what `ballotNext` says
-next-head : (o : ℕ) (s : List ℕ) → ballotNext o s ≡ true → 0x42 ∷ 0x41 ∷ o ∷ getD s 3 0 ∷ drop 4 s ≡ s
+next-head : (s : List ℕ) (o : ℕ) → ballotNext s o ≡ true → 0x42 ∷ 0x41 ∷ o ∷ lengthAt s ∷ drop 4 s ≡ s
 unfolding ballotNext
-next-head o s e =
+next-head s o e =
     let a = both-1 (leb 4 (length s)) _ e in
     let b = both-1 (eqb (getD s 0 0) 0x42) _ a in
     let p : getD s 0 0 ≡ 0x42 = eqb-true _ _ (both-0 _ _ a) in
@@ -138,43 +154,33 @@ pub by-test : (P : Type 0) (b : Bool) → (b ≡ true → P) → (b ≡ false �
 by-test P true f g = f refl
 by-test P false f g = g refl
 
-module _ (n : ℕ) (small : n ≤ 8) (k o : ℕ) (s : List ℕ) (bs : Bytes s) (ok : ballotOk n k o s ≡ true) where
-  -- the four tests of a ballot that comes next
-  tests : ballotNext o s ≡ true → both (leb 1 (getD s 3 0)) (both (leb (getD s 3 0) 32) (both (leb (k + getD s 3 0) 1024) (runOk 4 (valueHere n) (getD s 3 0) (drop 4 s)))) ≡ true
-  tests e = sym (ok-yes o s n k e) ∙ ok
+-- a ballot that comes next and is of the layout
+record Next (s : List ℕ) : Type 0 where
+  some : 1 ≤ lengthAt s
+  room : 4 + 4 * lengthAt s ≤ length s
 
-  some-long : ballotNext o s ≡ true → 1 ≤ getD s 3 0
-  some-long e = leb-true 1 (getD s 3 0) (both-0 _ _ (tests e))
+next-facts : (s : List ℕ) (o : ℕ) → ballotNext s o ≡ true → ballotOk s o ≡ true → Next s
+next-facts s o e ok =
+    let t = sym (ok-yes s o e) ∙ ok in
+    let u = both-1 (leb 1 (lengthAt s)) _ t in
+    record { some = leb-true _ _ (both-0 _ _ t); room = leb-true _ _ (both-1 (leb (lengthAt s) 32) _ u) }
 
-  rest-tests : ballotNext o s ≡ true → both (leb (k + getD s 3 0) 1024) (runOk 4 (valueHere n) (getD s 3 0) (drop 4 s)) ≡ true
-  rest-tests e = both-1 (leb (getD s 3 0) 32) _ (both-1 (leb 1 (getD s 3 0)) _ (tests e))
+ballot-back : (s : List ℕ) (o : ℕ) → Bytes s → ballotOk s o ≡ true → ballotBytes o (tailAt s o) ++ afterBallot s o ≡ s
+unfolding ballotBytes
+ballot-back s o bs ok = by-test _ (ballotNext s o) yes-case (λ e. rw (tail-no s o e, after-no s o e))
+  where
+    yes-case : ballotNext s o ≡ true → ballotBytes o (tailAt s o) ++ afterBallot s o ≡ s
+    yes-case e =
+        let f : Next s = next-facts s o e ok in
+        let l : ℕ = lengthAt s in
+        let t : List ℕ = runAt 4 be32 l (drop 4 s) in
+        let lt : length t ≡ l = runAt-length 4 be32 l (drop 4 s) in
+        rw (tail-yes s o e, after-yes s o e, ballot-cons o t (omega arith), lt, ← drop-drop (4 * l) 4 s, run-back 4 bytes32 be32 (roomFor 4) isWord valueItem l (drop 4 s) (bytes-drop 4 s bs) (room-for 4 l (drop 4 s) (rw length-drop (omega arith))))
+        (next-head s o e)
 
-  pub ballot-back : ballotBytes o (tailAt o s) ++ afterBallot o s ≡ s
-  unfolding ballotBytes
-  ballot-back = by-test _ (ballotNext o s) yes-case (λ e. rw (tail-no o s e, after-no o s e))
-    where
-      yes-case : ballotNext o s ≡ true → ballotBytes o (tailAt o s) ++ afterBallot o s ≡ s
-      yes-case e =
-          let l : ℕ = getD s 3 0 in
-          let t : List ℕ = runAt 4 be32 l (drop 4 s) in
-          let lt : length t ≡ l = runAt-length 4 be32 l (drop 4 s) in
-          rw (tail-yes o s e, after-yes o s e, ballot-cons o t (omega (arith, some-long e)), lt, ← drop-drop (4 * l) 4 s, run-back 4 bytes32 be32 (valueHere n) (isEntry n) (valueItem n small) l (drop 4 s) (bytes-drop 4 s bs) (both-1 (leb (k + l) 1024) _ (rest-tests e)))
-          (next-head o s e)
-
-  pub ballot-fine : k ≤ 1024 → tailFine n k (tailAt o s) ≡ true
-  unfolding tailFine allB both
-  ballot-fine hk = by-test _ (ballotNext o s) yes-case (λ e. rw (tail-no o s e, le-leb (k + 0) 1024 (omega arith)))
-    where
-      yes-case : ballotNext o s ≡ true → tailFine n k (tailAt o s) ≡ true
-      yes-case e =
-          let l : ℕ = getD s 3 0 in
-          let p : leb l 32 ≡ true = both-0 _ _ (both-1 (leb 1 l) _ (tests e)) in
-          let q : leb (k + l) 1024 ≡ true = both-0 _ _ (rest-tests e) in
-          rw (tail-yes o s e, runAt-length 4 be32 l (drop 4 s), p, q)
-          (run-fine 4 bytes32 be32 (valueHere n) (isEntry n) (valueItem n small) l (drop 4 s) (bytes-drop 4 s bs) (both-1 (leb (k + l) 1024) _ (rest-tests e)))
-
-  pub bytes-after : Bytes (afterBallot o s)
-  bytes-after = by-test _ (ballotNext o s) (λ e. rw (after-yes o s e) (bytes-drop (4 + 4 * getD s 3 0) s bs)) (λ e. rw (after-no o s e) bs)
+bytes-after : (s : List ℕ) (o : ℕ) → Bytes s → Bytes (afterBallot s o)
+unfolding afterBallot
+bytes-after s o b = bytes-drop (sizeAt s o) s b
 
 end-back : (s : List ℕ) → endOk s ≡ true → endBytes ≡ s
 unfolding endOk endBytes both
@@ -183,21 +189,13 @@ end-back (x ∷ []) e = absurd (false≢true e)
 end-back (x ∷ y ∷ []) e = rw (eqb-true x 0x45 (both-0 _ _ e), eqb-true y 0x4E (both-1 (eqb x 0x45) _ e))
 end-back (x ∷ y ∷ z ∷ r) e = let h : suc (suc (suc (length r))) ≡ 2 = eqb-true (length (x ∷ y ∷ z ∷ r)) 2 (both-0 _ _ e) in absurd (omega arith)
 
-pub tailsAt-length : (o c : ℕ) (s : List ℕ) → length (tailsAt o c s) ≡ c
-unfolding tailsAt
-tailsAt-length o zero s = refl
-tailsAt-length o (suc c) s = ap suc (tailsAt-length (suc o) c (afterBallot o s))
-
-pub ballots-back : (n : ℕ) → n ≤ 8 → (k o c : ℕ) (s : List ℕ) → Bytes s → ballotsOk n k o c s ≡ true → ballotsBytes o (tailsAt o c s) ++ endBytes ≡ s
+pub ballots-back : (s : List ℕ) (o c : ℕ) → Bytes s → ballotsOk s o c ≡ true → ballotsBytes o (tailsAt s o c) ++ endBytes ≡ s
 unfolding ballotsOk ballotsBytes tailsAt
-ballots-back n small k o zero s b h = end-back s h
-ballots-back n small k o (suc c) s b h =
-    let p : ballotOk n k o s ≡ true = both-0 _ _ h in
-    rw (append-assoc, ballots-back n small k (suc o) c (afterBallot o s) (bytes-after n small k o s b p) (both-1 (ballotOk n k o s) _ h)) (ballot-back n small k o s b p)
+ballots-back s o zero b h = end-back s h
+ballots-back s o (suc c) b h =
+    rw (append-assoc, ballots-back (afterBallot s o) (suc o) c (bytes-after s o b) (both-1 (ballotOk s o) _ h)) (ballot-back s o b (both-0 _ _ h))
 
-pub ballots-fine : (n : ℕ) → n ≤ 8 → (k o c : ℕ) → k ≤ 1024 → (s : List ℕ) → Bytes s → ballotsOk n k o c s ≡ true → allB (tailFine n k) (tailsAt o c s) ≡ true
-unfolding ballotsOk allB both tailsAt
-ballots-fine n small k o zero hk s b h = refl
-ballots-fine n small k o (suc c) hk s b h =
-    let p : ballotOk n k o s ≡ true = both-0 _ _ h in
-    rw (ballot-fine n small k o s b p hk) (ballots-fine n small k (suc o) c hk (afterBallot o s) (bytes-after n small k o s b p) (both-1 (ballotOk n k o s) _ h))
+pub tailsAt-length : (s : List ℕ) (o c : ℕ) → length (tailsAt s o c) ≡ c
+unfolding tailsAt
+tailsAt-length s o zero = refl
+tailsAt-length s o (suc c) = ap suc (tailsAt-length (afterBallot s o) (suc o) c)

@@ -8,13 +8,13 @@ use lib.Dec.{ltb}
 use lib.ListN.{getD, length}
 use borrow.Author.Tests.{lt-ltb, ltb-true}
 use Rattle.protocol.specs.Limits.{tailFine}
-use Rattle.protocol.specs.Tests.{allB}
-use Rattle.protocol.proofs.Tests.{all-append, all-at, all-drop, all-getD, both-true}
+use Rattle.protocol.proofs.Limits.{fine-tail}
+use Rattle.lists.specs.Tests.{allB}
+use Rattle.lists.proofs.Tests.{all-append, all-at, all-drop, all-getD, both-true}
 use Rattle.spelling.specs.Content.{Content, validContent}
-use Rattle.spelling.specs.Numbers.{Bytes, bytes16, bytes32, run}
+use Rattle.numbers.specs.Numbers.{Bytes, bytes16, bytes32, run}
 use Rattle.spelling.specs.Spelling.{ballotBytes, ballotsBytes, endBytes, headBytes, logRecord, spelling}
-use Rattle.spelling.proofs.Lengths.{tail-length}
-use Rattle.spelling.proofs.Valid.{Valid, valid-facts}
+use Rattle.spelling.proofs.Valid.{Valid, valid-facts, tails-fine}
 
 -- a byte, as a test
 unfoldable pub isByte : ℕ → Bool
@@ -62,7 +62,7 @@ all-ballots : (n k o : ℕ) (ts : List (List ℕ)) → o + length ts ≤ 8 → a
 unfolding ballotsBytes
 all-ballots n k o [] h e = nothing
 all-ballots n k o (t ∷ ts) h e =
-    all-append isByte (ballotBytes o t) (ballotsBytes (suc o) ts) (all-ballot o t (omega arith) (omega (arith, tail-length n k t (all-at (tailFine n k) [] (t ∷ ts) 0 e (omega arith)))))
+    all-append isByte (ballotBytes o t) (ballotsBytes (suc o) ts) (all-ballot o t (omega arith) (omega (arith, fine-tail n k t (all-at (tailFine n k) [] (t ∷ ts) 0 e (omega arith)))))
     (all-ballots n k (suc o) ts (omega arith) (all-drop (tailFine n k) 1 (t ∷ ts) e))
 
 all-end : allB isByte endBytes ≡ true
@@ -85,4 +85,4 @@ spelling-bytes c e =
     all-bytes (spelling c)
     (all-append isByte (headBytes (c .sender) (c .n) (c .weights) (length (c .log))) _ (all-head c v)
     (all-append isByte (run logRecord (c .log)) _ (all-run logRecord all-record (c .log))
-    (all-append isByte (ballotsBytes 0 (c .tails)) endBytes (all-ballots (c .n) (length (c .log)) 0 (c .tails) (omega (arith, v .tails-length, v .few-offices)) (v .tails-fine)) all-end)))
+    (all-append isByte (ballotsBytes 0 (c .tails)) endBytes (all-ballots (c .n) (length (c .log)) 0 (c .tails) (omega (arith, v .tails-length, v .few-offices)) (tails-fine c v)) all-end)))

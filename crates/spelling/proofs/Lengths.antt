@@ -8,37 +8,33 @@ use native.Mathlib.Omega.{arith}
 use lib.Dec.{leb}
 use lib.ListN.{length, length-append, length-replicate, replicate}
 use borrow.Author.Tests.{leb-true, leb-false}
-use Rattle.protocol.specs.Entry.{isEntry}
-use Rattle.protocol.specs.Limits.{tailFine}
-use Rattle.protocol.specs.Tests.{allB, both}
-use Rattle.protocol.proofs.Tests.{all-replicate, both-0, both-1}
-use Rattle.spelling.specs.Content.{Content, isWeight, validContent}
-use Rattle.spelling.specs.Numbers.{be16, be32, bytes16, bytes32}
-use Rattle.spelling.specs.Reading.{recordAt, recordHere, valueHere, weightHere}
-use Rattle.spelling.specs.Spelling.{ballotBytes, ballotsBytes, endBytes, headBytes, logRecord, spelling}
+use Rattle.protocol.specs.Entry.{isEntry, proper}
+use Rattle.protocol.specs.Limits.{isEmpty, isWeight, tailFine}
+use Rattle.protocol.proofs.Limits.{FineTail, fine-tail}
+use Rattle.lists.specs.Tests.{allB, both}
+use Rattle.lists.proofs.Tests.{all-replicate, both-0, both-1}
+use Rattle.spelling.specs.Content.{Content, asMessage, eightTails, validContent}
+use Rattle.numbers.specs.Numbers.{be16, be32, bytes16, bytes32}
+use Rattle.spelling.specs.Reading.{recordAt, recordHere}
+use Rattle.spelling.specs.Spelling.{ballotBytes, ballotsBytes, endBytes, headBytes, headSize, logRecord, spelling}
 use Rattle.spelling.proofs.Ballots.{by-test}
-use Rattle.spelling.proofs.Items.{recordItem, weightItem, valueItem}
-use Rattle.spelling.proofs.Runs.{run-length}
-use Rattle.spelling.proofs.Valid.{Valid, valid-facts, valid-test}
+use Rattle.spelling.proofs.Items.{isWord, roomFor, recordItem, weightItem, valueItem}
+use Rattle.numbers.proofs.Runs.{run-length}
+use Rattle.spelling.proofs.Valid.{Valid, valid-facts, valid-test, log-length, tails-fine}
 
 -- a ballot's bytes: none, or four and four for each value
 pub ballot-length : (o : ℕ) (t : List ℕ) → length (ballotBytes o t) ≤ 4 + 4 * length t
 unfolding ballotBytes
 ballot-length o [] = omega arith
-ballot-length o (v ∷ vs) = omega (arith, run-length 4 bytes32 be32 (valueHere 0) (isEntry 0) (valueItem 0 (omega arith)) (v ∷ vs))
+ballot-length o (v ∷ vs) = omega (arith, run-length 4 bytes32 be32 (roomFor 4) isWord valueItem (v ∷ vs))
 
 -- "22 + 5952 + 1056 + 2": the head, the log records, the ballots, the end
-pub spelling-length : (c : Content) → length (spelling c) ≡ (6 + 2 * length (c .weights)) + (6 * length (c .log) + (length (ballotsBytes 0 (c .tails)) + 2))
+pub spelling-length : (c : Content) → length (spelling c) ≡ headSize (length (c .weights)) + (6 * length (c .log) + (length (ballotsBytes 0 (c .tails)) + 2))
 unfolding spelling headBytes bytes16 endBytes
 spelling-length c =
-    let w = run-length 2 bytes16 be16 weightHere isWeight weightItem (c .weights) in
-    let l = run-length 6 logRecord recordAt (recordHere 0) (isEntry 0) (recordItem 0 (omega arith)) (c .log) in
+    let w = run-length 2 bytes16 be16 (roomFor 2) isWeight weightItem (c .weights) in
+    let l = run-length 6 logRecord recordAt recordHere isWord recordItem (c .log) in
     simp length-append (omega arith)
-
--- tails within the limits beside a settled log of k entries
-pub tail-length : (n k : ℕ) (t : List ℕ) → tailFine n k t ≡ true → (length t ≤ 32) × (k + length t ≤ 1024)
-unfolding tailFine
-tail-length n k t e = (leb-true _ _ (both-0 _ _ e), leb-true _ _ (both-0 _ _ (both-1 (leb (length t) 32) _ e)))
 
 -- at most j tails, whose ballots have at most m bytes each
 ballots-most : (n k m o j : ℕ) (ts : List (List ℕ)) → length ts ≤ j → ((t : List ℕ) → tailFine n k t ≡ true → 4 + 4 * length t ≤ m) → allB (tailFine n k) ts ≡ true
@@ -60,39 +56,39 @@ longest c e = by-test _ (leb (length (c .log)) 992) (λ q. few (leb-true _ _ q))
 
     few : length (c .log) ≤ 992 → length (spelling c) ≤ 7032
     few h =
-        let b : length (ballotsBytes 0 (c .tails)) ≤ 8 * 132 = ballots-most (c .n) (length (c .log)) 132 0 8 (c .tails) (omega (arith, v .tails-length, v .few-offices)) (λ t q. omega (arith, tail-length (c .n) (length (c .log)) t q)) (v .tails-fine) in
+        let b : length (ballotsBytes 0 (c .tails)) ≤ 8 * 132 = ballots-most (c .n) (length (c .log)) 132 0 8 (c .tails) (omega (arith, v .tails-length, v .few-offices)) (λ t q. omega (arith, fine-tail (c .n) (length (c .log)) t q)) (tails-fine c v) in
         omega (arith, spelling-length c, v .weights-length, v .few-offices)
 
     many : 992 < length (c .log) → length (spelling c) ≤ 7032
     many h =
         let m : ℕ = 4 + 4 * (1024 - length (c .log)) in
-        let b : length (ballotsBytes 0 (c .tails)) ≤ 8 * m = ballots-most (c .n) (length (c .log)) m 0 8 (c .tails) (omega (arith, v .tails-length, v .few-offices)) (λ t q. omega (arith, tail-length (c .n) (length (c .log)) t q)) (v .tails-fine) in
-        omega (arith, spelling-length c, v .weights-length, v .few-offices, v .log-length)
+        let b : length (ballotsBytes 0 (c .tails)) ≤ 8 * m = ballots-most (c .n) (length (c .log)) m 0 8 (c .tails) (omega (arith, v .tails-length, v .few-offices)) (λ t q. omega (arith, fine-tail (c .n) (length (c .log)) t q)) (tails-fine c v) in
+        omega (arith, spelling-length c, v .weights-length, v .few-offices, log-length c v)
 
 -- a content of 992 settled entries and eight tails of 32
 longestContent : Content
 longestContent = record { sender = 0; n = 8; weights = replicate 8 1; log = replicate 992 0; tails = replicate 8 (replicate 32 0) }
 
 zero-entry : isEntry 8 0 ≡ true
-unfolding isEntry both
+unfolding isEntry proper both
 zero-entry = refl
 
 zeros-fine : tailFine 8 992 (replicate 32 0) ≡ true
-unfolding tailFine allB both isEntry
+unfolding tailFine allB both isEntry proper
 zeros-fine = refl
 
 -- ballots of 32 values each
 full-length : (o j : ℕ) → length (ballotsBytes o (replicate j (replicate 32 0))) ≡ j * 132
 unfolding ballotsBytes ballotBytes
 full-length o zero = refl
-full-length o (suc j) = rw (length-append, full-length (suc o) j, suc-mul) (omega (arith, run-length 4 bytes32 be32 (valueHere 0) (isEntry 0) (valueItem 0 (omega arith)) (replicate 32 0)))
+full-length o (suc j) = rw (length-append, full-length (suc o) j, suc-mul) (omega (arith, run-length 4 bytes32 be32 (roomFor 4) isWord valueItem (replicate 32 0)))
 
 one-weight : isWeight 1 ≡ true
 unfolding isWeight
 one-weight = refl
 
 longest-facts : Valid longestContent
-unfolding longestContent
+unfolding longestContent asMessage eightTails allB
 longest-facts =
     record {
       some-office = omega arith;
@@ -100,10 +96,14 @@ longest-facts =
       sender-below = omega arith;
       weights-length = refl;
       weights-fine = all-replicate isWeight 8 1 one-weight;
-      log-length = rw length-replicate (omega arith);
-      log-fine = all-replicate (isEntry 8) 992 0 zero-entry;
       tails-length = refl;
-      tails-fine = rw length-replicate (all-replicate (tailFine 8 992) 8 (replicate 32 0) zeros-fine);
+      office = record {
+        eight = refl;
+        most = rw length-replicate (omega arith);
+        entries = all-replicate (isEntry 8) 992 0 zero-entry;
+        tails = rw length-replicate (all-replicate (tailFine 8 992) 8 (replicate 32 0) zeros-fine);
+        rest = refl;
+      };
     }
 
 longest-length : length (spelling longestContent) ≡ 7032

@@ -1,8 +1,5 @@
 -- Laws of the message, and of the loops that read and write it.
-pub mod Numbers
-pub mod Runs
 pub mod Items
-pub mod Steps
 pub mod Ballots
 pub mod Valid
 pub mod Head

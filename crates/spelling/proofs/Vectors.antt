@@ -3,11 +3,12 @@ use Prim.Native.Nat.{ℕ}
 use mathlib.Core.List.{List, [], _∷_}
 use mathlib.Core.Option.{some}
 use mathlib.Core.Path.{_≡_, refl}
-use Rattle.protocol.specs.Entry.{isEntry}
-use Rattle.protocol.specs.Tests.{both, pick}
-use Rattle.spelling.specs.Content.{Content}
-use Rattle.spelling.specs.Numbers.{bytes32, runOk, runAt, bytes16, be16, run, be32}
-use Rattle.spelling.specs.Reading.{sizeAt, tailAt, tailsAt, ballotOk, settledAt, reading, endOk, headOk, ballotsOk, recordsOk, valueHere, restAt, contentAt, recordHere, messageOk, ballotNext, afterBallot, recordAt}
+use Rattle.protocol.specs.Entry.{isEntry, proper}
+use Rattle.protocol.specs.Limits.{isOffice, isWeight, isEmpty, logFine, tailFine, tailsFine, officeFine}
+use Rattle.lists.specs.Tests.{allB, both, pick}
+use Rattle.spelling.specs.Content.{Content, asMessage, eightTails, validContent}
+use Rattle.numbers.specs.Numbers.{bytes32, runOk, runAt, bytes16, be16, run, be32}
+use Rattle.spelling.specs.Reading.{sizeAt, tailAt, tailsAt, ballotOk, settledAt, reading, endOk, headOk, ballotsOk, recordsOk, restAt, contentAt, recordHere, layoutOk, ballotNext, afterBallot, recordAt}
 use Rattle.spelling.specs.Spelling.{headBytes, ballotBytes, spelling, ballotsBytes, logRecord, endBytes}
 
 pub message : Content
@@ -21,5 +22,5 @@ unfolding message bytes spelling headBytes run bytes16 bytes32 logRecord ballots
 written = refl
 
 pub read : reading bytes ≡ some message
-unfolding message bytes reading pick both messageOk contentAt headOk recordsOk settledAt restAt be16 be32 run runAt runOk recordHere recordAt valueHere isEntry ballotsOk ballotOk ballotNext tailsAt tailAt sizeAt afterBallot endOk
+unfolding message bytes reading pick both layoutOk contentAt headOk recordsOk settledAt restAt be16 be32 run runAt runOk recordHere recordAt ballotsOk ballotOk ballotNext tailsAt tailAt sizeAt afterBallot endOk validContent isOffice isWeight asMessage eightTails officeFine logFine tailsFine tailFine isEmpty isEntry proper allB
 read = refl

@@ -1,101 +1,91 @@
 -- The strict reading: whether bytes are of the layout (..Ok), and what they say (..At). Each definition speaks of the bytes from a
--- position on. Assumes nothing.
+-- position on. The layout's tests say nothing of the limits: `validContent` does. Assumes nothing.
 use Prim.Native.Nat.{ℕ, zero, suc, _+_, _*_}
 use mathlib.Core.Bool.{Bool, true}
 use mathlib.Core.List.{List, [], _∷_}
 use mathlib.Core.Option.{Option, none, some}
-use lib.Dec.{ltb, leb, eqb}
+use lib.Dec.{leb, eqb}
 use lib.ListN.{length, getD, drop}
-use Rattle.protocol.specs.Entry.{isEntry}
-use Rattle.protocol.specs.Tests.{both, pick}
-use Rattle.spelling.specs.Content.{Content}
-use Rattle.spelling.specs.Numbers.{be16, be32, runAt, runOk}
+use Rattle.lists.specs.Tests.{both, pick}
+use Rattle.spelling.specs.Content.{Content, validContent}
+use Rattle.spelling.specs.Spelling.{lengthPlace, headSize}
+use Rattle.numbers.specs.Numbers.{be16, be32, runAt, runOk}
 
--- a weight, an entry's value, a log record
-unfoldable pub weightHere : List ℕ → Bool
-weightHere s = leb 2 (length s)
+-- the head: its mark, and room for all of it
+abbrev pub senderAt : List ℕ → ℕ
+senderAt s = getD s 2 0
 
-unfoldable pub valueHere : ℕ → List ℕ → Bool
-valueHere n s = both (leb 4 (length s)) (isEntry n (be32 s))
+abbrev pub countAt : List ℕ → ℕ
+countAt s = getD s 3 0
 
-unfoldable pub recordHere : ℕ → List ℕ → Bool
-recordHere n s = both (leb 6 (length s)) (both (eqb (getD s 0 0) 0x4C) (both (eqb (getD s 1 0) 0x47) (isEntry n (be32 (drop 2 s)))))
+unfoldable pub settledAt : List ℕ → ℕ
+settledAt s = be16 (drop (lengthPlace (countAt s)) s)
+
+unfoldable pub headOk : List ℕ → Bool
+headOk s = both (leb 4 (length s)) (both (eqb (getD s 0 0) 0x53) (both (eqb (getD s 1 0) 0x48) (leb (headSize (countAt s)) (length s))))
+
+-- "the rest of the message after the head"
+unfoldable pub restAt : List ℕ → List ℕ
+restAt s = drop (headSize (countAt s)) s
+
+-- a log record: its mark, and room for its value
+unfoldable pub recordHere : List ℕ → Bool
+recordHere s = both (leb 6 (length s)) (both (eqb (getD s 0 0) 0x4C) (eqb (getD s 1 0) 0x47))
 
 unfoldable pub recordAt : List ℕ → ℕ
 recordAt s = be32 (drop 2 s)
 
 -- whether a ballot of office o comes next
-unfoldable pub ballotNext : ℕ → List ℕ → Bool
-ballotNext o s = both (leb 4 (length s)) (both (eqb (getD s 0 0) 0x42) (both (eqb (getD s 1 0) 0x41) (eqb (getD s 2 0) o)))
+unfoldable pub ballotNext : List ℕ → ℕ → Bool
+ballotNext s o = both (leb 4 (length s)) (both (eqb (getD s 0 0) 0x42) (both (eqb (getD s 1 0) 0x41) (eqb (getD s 2 0) o)))
 
--- its tail, empty where none comes
-unfoldable pub tailAt : ℕ → List ℕ → List ℕ
-tailAt o s = pick (ballotNext o s) (runAt 4 be32 (getD s 3 0) (drop 4 s)) []
+-- its tail length, and its tail, which is empty where none comes
+abbrev pub lengthAt : List ℕ → ℕ
+lengthAt s = getD s 3 0
 
--- where a ballot of office o comes next: "tail length 1 to 32", "settled length + a tail" at most 1024, and entries under n
-unfoldable pub ballotOk : ℕ → ℕ → ℕ → List ℕ → Bool
-ballotOk n k o s =
-    pick (ballotNext o s)
-    (both (leb 1 (getD s 3 0))
-    (both (leb (getD s 3 0) 32) (both (leb (k + getD s 3 0) 1024) (runOk 4 (valueHere n) (getD s 3 0) (drop 4 s)))))
-    true
+unfoldable pub tailAt : List ℕ → ℕ → List ℕ
+tailAt s o = pick (ballotNext s o) (runAt 4 be32 (lengthAt s) (drop 4 s)) []
+
+-- where a ballot of office o comes next: "tail length 1 to 32", and room for the values
+unfoldable pub ballotOk : List ℕ → ℕ → Bool
+ballotOk s o = pick (ballotNext s o) (both (leb 1 (lengthAt s)) (both (leb (lengthAt s) 32) (leb (4 + 4 * lengthAt s) (length s)))) true
 
 -- how many bytes the ballot of office o takes, and what stands after it
-unfoldable pub sizeAt : ℕ → List ℕ → ℕ
-sizeAt o s = pick (ballotNext o s) (4 + 4 * getD s 3 0) 0
+unfoldable pub sizeAt : List ℕ → ℕ → ℕ
+sizeAt s o = pick (ballotNext s o) (4 + 4 * lengthAt s) 0
 
-unfoldable pub afterBallot : ℕ → List ℕ → List ℕ
-afterBallot o s = drop (sizeAt o s) s
+unfoldable pub afterBallot : List ℕ → ℕ → List ℕ
+afterBallot s o = drop (sizeAt s o) s
 
 -- the ballots of c offices from office o on, "offices rising", and then the end mark and nothing
-unfoldable pub tailsAt : ℕ → ℕ → List ℕ → List (List ℕ)
-tailsAt o zero s = []
-tailsAt o (suc c) s = tailAt o s ∷ tailsAt (suc o) c (afterBallot o s)
+unfoldable pub tailsAt : List ℕ → ℕ → ℕ → List (List ℕ)
+tailsAt s o zero = []
+tailsAt s o (suc c) = tailAt s o ∷ tailsAt (afterBallot s o) (suc o) c
 
 unfoldable pub endOk : List ℕ → Bool
 endOk s = both (eqb (length s) 2) (both (eqb (getD s 0 0) 0x45) (eqb (getD s 1 0) 0x4E))
 
-unfoldable pub ballotsOk : ℕ → ℕ → ℕ → ℕ → List ℕ → Bool
-ballotsOk n k o zero s = endOk s
-ballotsOk n k o (suc c) s = both (ballotOk n k o s) (ballotsOk n k (suc o) c (afterBallot o s))
-
--- the fields of the head, which is 6 + 2 * n bytes long
-abbrev pub countAt : List ℕ → ℕ
-countAt s = getD s 3 0
-
-unfoldable pub settledAt : List ℕ → ℕ
-settledAt s = be16 (drop (4 + 2 * countAt s) s)
-
--- "the rest of the message after the head"
-unfoldable pub restAt : List ℕ → List ℕ
-restAt s = drop (6 + 2 * countAt s) s
-
-unfoldable pub headOk : List ℕ → Bool
-headOk s =
-    both (leb 4 (length s))
-    (both (eqb (getD s 0 0) 0x53)
-    (both (eqb (getD s 1 0) 0x48)
-    (both (leb 1 (countAt s))
-    (both (leb (countAt s) 8)
-    (both (ltb (getD s 2 0) (countAt s)) (both (leb (6 + 2 * countAt s) (length s)) (leb (settledAt s) 1024)))))))
+unfoldable pub ballotsOk : List ℕ → ℕ → ℕ → Bool
+ballotsOk s o zero = endOk s
+ballotsOk s o (suc c) = both (ballotOk s o) (ballotsOk (afterBallot s o) (suc o) c)
 
 -- the records after the head of a message with n offices and k settled entries
-unfoldable pub recordsOk : ℕ → ℕ → List ℕ → Bool
-recordsOk n k s = both (runOk 6 (recordHere n) k s) (ballotsOk n k 0 n (drop (6 * k) s))
+unfoldable pub recordsOk : List ℕ → ℕ → ℕ → Bool
+recordsOk s n k = both (runOk 6 recordHere k s) (ballotsOk (drop (6 * k) s) 0 n)
 
-unfoldable pub messageOk : List ℕ → Bool
-messageOk s = both (headOk s) (recordsOk (countAt s) (settledAt s) (restAt s))
+unfoldable pub layoutOk : List ℕ → Bool
+layoutOk s = both (headOk s) (recordsOk (restAt s) (countAt s) (settledAt s))
 
 unfoldable pub contentAt : List ℕ → Content
 contentAt s =
     record {
-      sender = getD s 2 0;
+      sender = senderAt s;
       n = countAt s;
       weights = runAt 2 be16 (countAt s) (drop 4 s);
       log = runAt 6 recordAt (settledAt s) (restAt s);
-      tails = tailsAt 0 (countAt s) (drop (6 * settledAt s) (restAt s));
+      tails = tailsAt (drop (6 * settledAt s) (restAt s)) 0 (countAt s);
     }
 
--- what a message says, if it is one
+-- what a message says, if it is one: of the layout, and within the limits
 unfoldable pub reading : List ℕ → Option Content
-reading s = pick (messageOk s) (some (contentAt s)) none
+reading s = pick (both (layoutOk s) (validContent (contentAt s))) (some (contentAt s)) none

@@ -1,13 +1,20 @@
 -- "Two-byte marks stand before each record of it": a message's bytes. Assumes nothing.
-use Prim.Native.Nat.{ℕ, suc}
+use Prim.Native.Nat.{ℕ, suc, _+_, _*_}
 use mathlib.Core.List.{List, [], _∷_, _++_}
 use lib.ListN.{length}
 use Rattle.spelling.specs.Content.{Content}
-use Rattle.spelling.specs.Numbers.{bytes16, bytes32, run}
+use Rattle.numbers.specs.Numbers.{bytes16, bytes32, run}
 
 -- "Head: 0x53 0x48, sender (1 byte), n (1), n weights (2 each), settled length (2)"
 unfoldable pub headBytes : ℕ → ℕ → List ℕ → ℕ → List ℕ
 headBytes sender n weights settled = 0x53 ∷ 0x48 ∷ sender ∷ n ∷ (run bytes16 weights ++ bytes16 settled)
+
+-- where the settled length stands in the head of n offices, and how many bytes the head takes
+abbrev pub lengthPlace : ℕ → ℕ
+lengthPlace n = 4 + 2 * n
+
+abbrev pub headSize : ℕ → ℕ
+headSize n = 6 + 2 * n
 
 -- "Per settled entry, in order: 0x4C 0x47, value (4)"
 unfoldable pub logRecord : ℕ → List ℕ

@@ -14,12 +14,12 @@ use native.Mathlib.Omega.{arith}
 use lib.ListN.{length, getD, take, drop, set, replicate, length-drop, length-replicate, take-append-drop, replicate-append-replicate}
 use lib.Seq.{length-take-le, take-all, getD-drop}
 use borrow.Author.Tests.{eqb-true, leb-true, eq-eqb, ne-eqb}
-use Rattle.protocol.specs.Tests.{allB}
-use Rattle.protocol.specs.Entry.{isEntry, codeOf}
+use Rattle.lists.specs.Tests.{allB}
+use Rattle.protocol.specs.Entry.{isEntry, proper, codeOf}
 use Rattle.protocol.specs.Office.{first}
 use Rattle.protocol.specs.Elect.{lose}
-use Rattle.protocol.proofs.Tests.{both-0, both-1, zeros}
-use Rattle.entries.proofs.Fill.{filled, front-step}
+use Rattle.lists.proofs.Tests.{both-0, both-1, zeros}
+use Rattle.lists.proofs.Fill.{filled, front-step}
 use Rattle.ballots.specs.Ballots.{tailOf, ballotOf, ballotShape}
 use Rattle.ballots.specs.declared.Ballot.{Ballot}
 use Rattle.tallies.specs.Tallies.{noVote, voteWord, cast, voteIn}
@@ -37,7 +37,7 @@ vote-first b h l = go (b .len) (b .cells) h l
     go (suc k) (x ∷ xs) h l = refl
 
 entry-no-vote : (n e : ℕ) → isEntry n e ≡ true → e ≡ noVote → ⊥
-unfolding isEntry
+unfolding isEntry proper
 entry-no-vote n e h q =
     let code = leb-true (codeOf e) 9999 (both-1 _ _ (both-1 _ _ h)) in
     let most : codeOf e ≡ 65535 = ap codeOf q in

@@ -16,9 +16,9 @@ use native.Mathlib.Omega.{arith}
 use lib.Dec.{ltb, eqb}
 use lib.ListN.{length, getD, drop, drop-of-length-le}
 use Rattle.protocol.specs.Vote.{Votes, isFor, isNone, tally, unheard, and-also, supported, beats, beatsAll, wins, firstWinner}
-use Rattle.protocol.specs.Tests.{allB}
-use Rattle.protocol.proofs.Tests.{both-0, both-1}
-use Rattle.entries.proofs.Walk.{rest-step}
+use Rattle.lists.specs.Tests.{allB}
+use Rattle.lists.proofs.Tests.{both-0, both-1}
+use Rattle.lists.proofs.Walk.{rest-step}
 use borrow.Author.Tests.{eq-eqb, ne-eqb, eqb-true, eqb-false, le-ltb, lt-ltb}
 use Rattle.tallies.specs.Tallies.{above, winnerIs, noVote, voteIn, votesIn, SilentFrom, weightFor, beatsVote, voteWins}
 use Rattle.tallies.specs.declared.Winner.{Winner}
@@ -106,99 +106,101 @@ silent-none (w ∷ ws) (x ∷ xs) h =
 supported-end : (xs ws : List ℕ) (n i : ℕ) → SilentFrom n xs → i ≡ n → supported (drop i ws) (votesFrom i xs) ≡ []
 supported-end xs ws n i h e = silent-none (drop i ws) (drop i xs) (ap (λ (k : ℕ). allB (eqb noVote) (drop k xs)) e ∙ h .1)
 
--- an entry against one vote and those behind it
-beats-also : (ws : List ℕ) (v : Votes) (e : ℕ) (x : Option ℕ) (fs : List ℕ) → beatsAll ws ltb v e (and-also x fs) ≡ (beatsVote ws v e x && beatsAll ws ltb v e fs)
-beats-also ws v e none fs = refl
-beats-also ws v e (some f) fs = go (eqb f e || beats ws ltb v e f)
-  where
-    go : (b : Bool) → (b && beatsAll ws ltb v e fs) ≡ ((b && true) && beatsAll ws ltb v e fs)
-    go true = refl
-    go false = refl
-
--- against no vote, and against itself
-pub beats-none : (ws : List ℕ) (v : Votes) (e x : ℕ) → x ≡ noVote → true ≡ beatsVote ws v e (voteIn x)
-beats-none ws v e x h = rw (eq-eqb x noVote h)
-
-pub beats-same : (ws : List ℕ) (v : Votes) (e x : ℕ) → (x ≡ noVote → ⊥) → x ≡ e → true ≡ beatsVote ws v e (voteIn x)
-beats-same ws v e x h q = rw (ne-eqb x noVote h, eq-eqb x e q)
-
--- against another entry f, by its T and U
-pub beats-other : (ws : List ℕ) (v : Votes) (e f te u tf : ℕ) → te ≡ tally ws v e → u ≡ unheard ws v → tf ≡ weightFor ws v f → (f ≡ noVote → ⊥) → (f ≡ e → ⊥)
-    → above te (tf + u) e f ≡ beatsVote ws v e (voteIn f)
-beats-other ws v e f te u tf p q r h n = rw (p, q, r ∙ weight-entry ws v f h, ne-eqb f noVote h, ne-eqb f e n) (sym (and-true (beats ws ltb v e f)))
-  where
-    and-true : (b : Bool) → (b && true) ≡ b
-    and-true true = refl
-    and-true false = refl
-
-module _ (all : Bool) (e : ℕ) (v : Votes) (vs xs ws : List ℕ) (i : ℕ) (inv : all ≡ beatsAll vs ltb v e (supported (drop i ws) (votesFrom i xs))) where
-  abbrev behind : Bool
-  behind = beatsAll vs ltb v e (supported (drop (i + 1) ws) (votesFrom (i + 1) xs))
-
-  beats-step : i < length xs → i < length ws → (t : Bool) → t ≡ beatsVote vs v e (voteIn (getD xs i 0)) → all ≡ (t && behind)
-  beats-step hx hw t q =
-      inv ∙ ap (beatsAll vs ltb v e) (supported-step xs ws i hx hw) ∙ beats-also vs v e (voteAt i xs) (supported (drop (i + 1) ws) (votesFrom (i + 1) xs)) ∙
-      ap (λ (b : Bool). b && behind) (sym (q ∙ ap (λ (y : ℕ). beatsVote vs v e (voteIn y)) (at-vote xs i hx)))
-
-  pub beats-next : i < length xs → i < length ws → (t : Bool) → t ≡ beatsVote vs v e (voteIn (getD xs i 0)) → t ≡ true → all ≡ behind
-  beats-next hx hw t q p = beats-step hx hw t q ∙ ap (λ (b : Bool). b && behind) p
-
-  pub beats-stop : i < length xs → i < length ws → (t : Bool) → t ≡ beatsVote vs v e (voteIn (getD xs i 0)) → t ≡ false → false ≡ all
-  beats-stop hx hw t q p = sym (beats-step hx hw t q ∙ ap (λ (b : Bool). b && behind) p)
-
-  pub beats-done : (n : ℕ) → SilentFrom n xs → i ≡ n → true ≡ all
-  beats-done n h q = sym (inv ∙ ap (beatsAll vs ltb v e) (supported-end xs ws n i h q))
-
--- ── the winner ──
--- whether a vote wins: none does not, and an entry by its T and U, and by all others
-pub wins-none : (ws : List ℕ) (v : Votes) (x : ℕ) → x ≡ noVote → false ≡ voteWins ws v (voteIn x)
-wins-none ws v x h = rw (eq-eqb x noVote h)
-
-module _ (ws : List ℕ) (v : Votes) (x te u : ℕ) (h : x ≡ noVote → ⊥) (p : te ≡ weightFor ws v x) (q : u ≡ unheard ws v) where
-  t-is : te ≡ tally ws v x
-  t-is = p ∙ weight-entry ws v x h
-
-  pub wins-unheard : te ≤ u → false ≡ voteWins ws v (voteIn x)
-  unfolding wins
-  wins-unheard l = rw (ne-eqb x noVote h) (simp (le-ltb (unheard ws v) (tally ws v x) (omega (arith, t-is, q))))
-
-  pub wins-beats : u < te → (t : Bool) → t ≡ beatsAll ws ltb v x (supported ws v) → t ≡ voteWins ws v (voteIn x)
-  unfolding wins
-  wins-beats l t b = rw (ne-eqb x noVote h) (simp (lt-ltb (unheard ws v) (tally ws v x) (omega (arith, t-is, q))) b)
-
--- a vote that wins is an entry's
-won-entry : (ws : List ℕ) (v : Votes) (x : ℕ) → voteWins ws v (voteIn x) ≡ true → voteIn x ≡ some x
-won-entry ws v x = go (eqb x noVote) refl
-  where
-    go : (t : Bool) → eqb x noVote ≡ t → voteWins ws v (voteIn x) ≡ true → voteIn x ≡ some x
-    go true e h = absurd (true≢false (sym h ∙ ap (λ (b : Bool). voteWins ws v (cond b none (some x))) e))
-    go false e h = rw e
-
-module _ (who : Winner) (v : Votes) (vs xs ws : List ℕ) (i : ℕ) (inv : who ≡ winnerIs (firstWinner vs ltb v (supported (drop i ws) (votesFrom i xs)))) where
-  abbrev rest : List ℕ
-  rest = supported (drop (i + 1) ws) (votesFrom (i + 1) xs)
-
-  winner-step : i < length xs → i < length ws → who ≡ winnerIs (firstWinner vs ltb v (and-also (voteIn (getD xs i 0)) rest))
-  winner-step hx hw =
-      inv ∙ ap (λ (fs : List ℕ). winnerIs (firstWinner vs ltb v fs)) (supported-step xs ws i hx hw) ∙
-      ap (λ (y : ℕ). winnerIs (firstWinner vs ltb v (and-also (voteIn y) rest))) (sym (at-vote xs i hx))
-
-  pub winner-next : i < length xs → i < length ws → voteWins vs v (voteIn (getD xs i 0)) ≡ false → who ≡ winnerIs (firstWinner vs ltb v rest)
-  winner-next hx hw p = winner-step hx hw ∙ go (voteIn (getD xs i 0)) p
+-- in any order in which ties go
+module _ (before : ℕ → ℕ → Bool) where
+  -- an entry against one vote and those behind it
+  beats-also : (ws : List ℕ) (v : Votes) (e : ℕ) (x : Option ℕ) (fs : List ℕ) → beatsAll ws before v e (and-also x fs) ≡ (beatsVote before ws v e x && beatsAll ws before v e fs)
+  beats-also ws v e none fs = refl
+  beats-also ws v e (some f) fs = go (eqb f e || beats ws before v e f)
     where
-      go : (x : Option ℕ) → voteWins vs v x ≡ false → winnerIs (firstWinner vs ltb v (and-also x rest)) ≡ winnerIs (firstWinner vs ltb v rest)
-      go none q = refl
-      go (some e) q = ap (λ (b : Bool). winnerIs (cond b (some e) (firstWinner vs ltb v rest))) q
+      go : (b : Bool) → (b && beatsAll ws before v e fs) ≡ ((b && true) && beatsAll ws before v e fs)
+      go true = refl
+      go false = refl
 
-  pub winner-stop : i < length xs → i < length ws → voteWins vs v (voteIn (getD xs i 0)) ≡ true → Entry (getD xs i 0) ≡ who
-  winner-stop hx hw p =
-      let e = getD xs i 0 in
-      let q = won-entry vs v e p in
-      sym (winner-step hx hw ∙ ap (λ (x : Option ℕ). winnerIs (firstWinner vs ltb v (and-also x rest))) q ∙
-      ap (λ (b : Bool). winnerIs (cond b (some e) (firstWinner vs ltb v rest))) (sym (ap (voteWins vs v) q) ∙ p))
+  -- against no vote, and against itself
+  pub beats-none : (ws : List ℕ) (v : Votes) (e x : ℕ) → x ≡ noVote → true ≡ beatsVote before ws v e (voteIn x)
+  beats-none ws v e x h = rw (eq-eqb x noVote h)
 
-  pub winner-done : (n : ℕ) → SilentFrom n xs → i ≡ n → Nobody ≡ who
-  winner-done n h q = sym (inv ∙ ap (λ (fs : List ℕ). winnerIs (firstWinner vs ltb v fs)) (supported-end xs ws n i h q))
+  pub beats-same : (ws : List ℕ) (v : Votes) (e x : ℕ) → (x ≡ noVote → ⊥) → x ≡ e → true ≡ beatsVote before ws v e (voteIn x)
+  beats-same ws v e x h q = rw (ne-eqb x noVote h, eq-eqb x e q)
+
+  -- against another entry f, by its T and U
+  pub beats-other : (ws : List ℕ) (v : Votes) (e f te u tf : ℕ) → te ≡ tally ws v e → u ≡ unheard ws v → tf ≡ weightFor ws v f → (f ≡ noVote → ⊥) → (f ≡ e → ⊥)
+      → above before te (tf + u) e f ≡ beatsVote before ws v e (voteIn f)
+  beats-other ws v e f te u tf p q r h n = rw (p, q, r ∙ weight-entry ws v f h, ne-eqb f noVote h, ne-eqb f e n) (sym (and-true (beats ws before v e f)))
+    where
+      and-true : (b : Bool) → (b && true) ≡ b
+      and-true true = refl
+      and-true false = refl
+
+  module _ (all : Bool) (e : ℕ) (v : Votes) (vs xs ws : List ℕ) (i : ℕ) (inv : all ≡ beatsAll vs before v e (supported (drop i ws) (votesFrom i xs))) where
+    abbrev behind : Bool
+    behind = beatsAll vs before v e (supported (drop (i + 1) ws) (votesFrom (i + 1) xs))
+
+    beats-step : i < length xs → i < length ws → (t : Bool) → t ≡ beatsVote before vs v e (voteIn (getD xs i 0)) → all ≡ (t && behind)
+    beats-step hx hw t q =
+        inv ∙ ap (beatsAll vs before v e) (supported-step xs ws i hx hw) ∙ beats-also vs v e (voteAt i xs) (supported (drop (i + 1) ws) (votesFrom (i + 1) xs)) ∙
+        ap (λ (b : Bool). b && behind) (sym (q ∙ ap (λ (y : ℕ). beatsVote before vs v e (voteIn y)) (at-vote xs i hx)))
+
+    pub beats-next : i < length xs → i < length ws → (t : Bool) → t ≡ beatsVote before vs v e (voteIn (getD xs i 0)) → t ≡ true → all ≡ behind
+    beats-next hx hw t q p = beats-step hx hw t q ∙ ap (λ (b : Bool). b && behind) p
+
+    pub beats-stop : i < length xs → i < length ws → (t : Bool) → t ≡ beatsVote before vs v e (voteIn (getD xs i 0)) → t ≡ false → false ≡ all
+    beats-stop hx hw t q p = sym (beats-step hx hw t q ∙ ap (λ (b : Bool). b && behind) p)
+
+    pub beats-done : (n : ℕ) → SilentFrom n xs → i ≡ n → true ≡ all
+    beats-done n h q = sym (inv ∙ ap (beatsAll vs before v e) (supported-end xs ws n i h q))
+
+  -- ── the winner ──
+  -- whether a vote wins: none does not, and an entry by its T and U, and by all others
+  pub wins-none : (ws : List ℕ) (v : Votes) (x : ℕ) → x ≡ noVote → false ≡ voteWins before ws v (voteIn x)
+  wins-none ws v x h = rw (eq-eqb x noVote h)
+
+  module _ (ws : List ℕ) (v : Votes) (x te u : ℕ) (h : x ≡ noVote → ⊥) (p : te ≡ weightFor ws v x) (q : u ≡ unheard ws v) where
+    t-is : te ≡ tally ws v x
+    t-is = p ∙ weight-entry ws v x h
+
+    pub wins-unheard : te ≤ u → false ≡ voteWins before ws v (voteIn x)
+    unfolding wins
+    wins-unheard l = rw (ne-eqb x noVote h) (simp (le-ltb (unheard ws v) (tally ws v x) (omega (arith, t-is, q))))
+
+    pub wins-beats : u < te → (t : Bool) → t ≡ beatsAll ws before v x (supported ws v) → t ≡ voteWins before ws v (voteIn x)
+    unfolding wins
+    wins-beats l t b = rw (ne-eqb x noVote h) (simp (lt-ltb (unheard ws v) (tally ws v x) (omega (arith, t-is, q))) b)
+
+  -- a vote that wins is an entry's
+  won-entry : (ws : List ℕ) (v : Votes) (x : ℕ) → voteWins before ws v (voteIn x) ≡ true → voteIn x ≡ some x
+  won-entry ws v x = go (eqb x noVote) refl
+    where
+      go : (t : Bool) → eqb x noVote ≡ t → voteWins before ws v (voteIn x) ≡ true → voteIn x ≡ some x
+      go true e h = absurd (true≢false (sym h ∙ ap (λ (b : Bool). voteWins before ws v (cond b none (some x))) e))
+      go false e h = rw e
+
+  module _ (who : Winner) (v : Votes) (vs xs ws : List ℕ) (i : ℕ) (inv : who ≡ winnerIs (firstWinner vs before v (supported (drop i ws) (votesFrom i xs)))) where
+    abbrev rest : List ℕ
+    rest = supported (drop (i + 1) ws) (votesFrom (i + 1) xs)
+
+    winner-step : i < length xs → i < length ws → who ≡ winnerIs (firstWinner vs before v (and-also (voteIn (getD xs i 0)) rest))
+    winner-step hx hw =
+        inv ∙ ap (λ (fs : List ℕ). winnerIs (firstWinner vs before v fs)) (supported-step xs ws i hx hw) ∙
+        ap (λ (y : ℕ). winnerIs (firstWinner vs before v (and-also (voteIn y) rest))) (sym (at-vote xs i hx))
+
+    pub winner-next : i < length xs → i < length ws → voteWins before vs v (voteIn (getD xs i 0)) ≡ false → who ≡ winnerIs (firstWinner vs before v rest)
+    winner-next hx hw p = winner-step hx hw ∙ go (voteIn (getD xs i 0)) p
+      where
+        go : (x : Option ℕ) → voteWins before vs v x ≡ false → winnerIs (firstWinner vs before v (and-also x rest)) ≡ winnerIs (firstWinner vs before v rest)
+        go none q = refl
+        go (some e) q = ap (λ (b : Bool). winnerIs (cond b (some e) (firstWinner vs before v rest))) q
+
+    pub winner-stop : i < length xs → i < length ws → voteWins before vs v (voteIn (getD xs i 0)) ≡ true → Entry (getD xs i 0) ≡ who
+    winner-stop hx hw p =
+        let e = getD xs i 0 in
+        let q = won-entry vs v e p in
+        sym (winner-step hx hw ∙ ap (λ (x : Option ℕ). winnerIs (firstWinner vs before v (and-also x rest))) q ∙
+        ap (λ (b : Bool). winnerIs (cond b (some e) (firstWinner vs before v rest))) (sym (ap (voteWins before vs v) q) ∙ p))
+
+    pub winner-done : (n : ℕ) → SilentFrom n xs → i ≡ n → Nobody ≡ who
+    winner-done n h q = sym (inv ∙ ap (λ (fs : List ℕ). winnerIs (firstWinner vs before v fs)) (supported-end xs ws n i h q))
 
 -- what the two answers say of the winner
 pub winner-some : (x : Option ℕ) (e : ℕ) → winnerIs x ≡ Entry e → x ≡ some e

@@ -6,7 +6,7 @@ use mathlib.Core.List.{List, []}
 use mathlib.Core.Option.{Option, none, some}
 use lib.Dec.{ltb, eqb}
 use lib.ListN.{getD, drop}
-use Rattle.protocol.specs.Tests.{allB}
+use Rattle.lists.specs.Tests.{allB}
 use Rattle.protocol.specs.Vote.{Votes, tally, unheard, and-also, beatsAll, wins}
 use Rattle.protocol.specs.Office.{first}
 use Rattle.ballots.specs.Ballots.{tailOf}
@@ -46,15 +46,17 @@ SilentFrom n xs = (n ≤ 8) × (allB (eqb noVote) (drop n xs) ≡ true)
 abbrev pub weightFor : List ℕ → Votes → ℕ → ℕ
 weightFor ws v x = cond (eqb x noVote) (unheard ws v) (tally ws v x)
 
--- a above b, or equal to it and e below f: the lower value first
-abbrev pub above : ℕ → ℕ → ℕ → ℕ → Bool
-above a b e f = ltb b a || (eqb a b && ltb e f)
+-- what follows is for any order `before` in which ties go
+
+-- a above b, or equal to it and e before f
+abbrev pub above : (ℕ → ℕ → Bool) → ℕ → ℕ → ℕ → ℕ → Bool
+above before a b e f = ltb b a || (eqb a b && before e f)
 
 -- e against the entry that is voted for, if that is another
-abbrev pub beatsVote : List ℕ → Votes → ℕ → Option ℕ → Bool
-beatsVote ws v e x = beatsAll ws ltb v e (and-also x [])
+abbrev pub beatsVote : (ℕ → ℕ → Bool) → List ℕ → Votes → ℕ → Option ℕ → Bool
+beatsVote before ws v e x = beatsAll ws before v e (and-also x [])
 
 -- the entry that is voted for wins
-abbrev pub voteWins : List ℕ → Votes → Option ℕ → Bool
-voteWins ws v none = false
-voteWins ws v (some e) = wins ws ltb v e
+abbrev pub voteWins : (ℕ → ℕ → Bool) → List ℕ → Votes → Option ℕ → Bool
+voteWins before ws v none = false
+voteWins before ws v (some e) = wins ws before v e

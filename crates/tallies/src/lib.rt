@@ -48,9 +48,16 @@ fn weight_for(votes: [u32; 8], weights: [u16; 8], vote: u32) -> u32
     sum
 }
 
-// Whether a is above b, or equal to it with the entry below the other.
+// Whether a tie goes to the entry and not to the other: the lower value first.
+fn is_before(entry: u32, other: u32) -> bool
+    ensures { λ r. ⌜ r ≡ ltb entry other ⌝ }
+{
+    entry < other
+}
+
+// Whether a is above b, or equal to it with the entry before the other.
 fn is_above(a: u32, b: u32, entry: u32, other: u32) -> bool
-    ensures { λ r. ⌜ r ≡ above a b entry other ⌝ }
+    ensures { λ r. ⌜ r ≡ above ltb a b entry other ⌝ }
 {
     if b < a {
         return true;
@@ -58,13 +65,13 @@ fn is_above(a: u32, b: u32, entry: u32, other: u32) -> bool
     if a != b {
         return false;
     }
-    entry < other
+    is_before(entry, other)
 }
 
 // Whether the entry, with its weight te and the unheard weight u, beats the one that is voted for, if that is another.
 fn beats_vote(votes: [u32; 8], weights: [u16; 8], te: u32, u: u32, entry: u32, vote: u32) -> bool
     requires { ⌜ (te ≡ tally weights (votesIn votes) entry) × (u ≡ unheard weights (votesIn votes)) × (u ≤ 524280) ⌝ }
-    ensures { λ r. ⌜ r ≡ beatsVote weights (votesIn votes) entry (voteIn vote) ⌝ }
+    ensures { λ r. ⌜ r ≡ beatsVote ltb weights (votesIn votes) entry (voteIn vote) ⌝ }
 {
     if vote == NO_VOTE {
         return true;
@@ -94,7 +101,7 @@ fn beats_all(votes: [u32; 8], weights: [u16; 8], n: usize, te: u32, u: u32, entr
 // Whether the entry that is voted for wins, with the unheard weight u.
 fn vote_wins(votes: [u32; 8], weights: [u16; 8], n: usize, u: u32, vote: u32) -> bool
     requires { ⌜ SilentFrom n votes × (u ≡ unheard weights (votesIn votes)) × (u ≤ 524280) ⌝ }
-    ensures { λ r. ⌜ r ≡ voteWins weights (votesIn votes) (voteIn vote) ⌝ }
+    ensures { λ r. ⌜ r ≡ voteWins ltb weights (votesIn votes) (voteIn vote) ⌝ }
 {
     if vote == NO_VOTE {
         return false;

@@ -1,228 +1,136 @@
-// The lines that call, and what each call answers.
+// The lines that call, and what each call answers. A call is lent the log; `S` and `T` also lend the output and the message.
+use crate::book;
+use crate::book::Book;
+use crate::book::SAID;
 use crate::digest;
-use crate::script::Said;
-use crate::state::State;
-use crate::values;
+use crate::record;
 use frame::Record;
-use lines::within;
+use lists::within;
 
-// Whether the line is one of these with all its numbers within their limits, the record after the call, and up to four numbers to print.
-pub struct Called {
-    pub done: bool,
-    pub record: Record,
-    pub count: usize,
-    pub numbers: [u64; 4],
+// Prints a space and a number.
+fn print(number: u64) {
+    io::write_all(1, b" ");
+    io::print_decimal(1, number);
 }
 
-// Nothing is called.
-fn refused(record: Record) -> Called {
-    Called {
-        done: false,
-        record,
-        count: 0,
-        numbers: [0; 4],
-    }
-}
-
-// A call that answers its number alone.
-fn numbered(record: Record, number: u32) -> Called {
-    let mut numbers = [0u64; 4];
-    numbers[0] = number as u64;
-    Called {
-        done: true,
-        record,
-        count: 1,
-        numbers,
-    }
-}
-
-// A call that answers its number and a value.
-fn valued(record: Record, number: u32, value: u64) -> Called {
-    let mut numbers = [0u64; 4];
-    numbers[0] = number as u64;
-    numbers[1] = value;
-    Called {
-        done: true,
-        record,
-        count: 2,
-        numbers,
-    }
+// The low 32 bits.
+fn word(number: u64) -> u32 {
+    (number % 4294967296) as u32
 }
 
 // `F n own w0 … w7`
-fn found(record: Record, said: Said, log: &[u32]) -> Called {
-    let cells = said.cells;
-    if said.count != 10 {
-        return refused(record);
-    }
-    if !values::weights_fine(cells) {
-        return refused(record);
-    }
-    let founded = Record::found(
-        cells[0] as usize,
-        cells[1] as usize,
-        values::weights_of(cells),
-        log,
-    );
+fn found(book: &mut Book, log: &[u32]) {
+    let weights = record::weights(book, SAID + 2);
+    let founded = Record::found(book[SAID] as usize, book[SAID + 1] as usize, weights, log);
     let next = founded.record;
-    numbered(next, founded.number)
+    print(founded.number as u64);
+    record::keep(next, book);
 }
 
 // `I line code`
-fn issue(record: Record, said: Said, log: &[u32]) -> Called {
-    let cells = said.cells;
-    if said.count != 2 {
-        return refused(record);
-    }
-    if !values::limited(cells, 0, 2, 4294967295) {
-        return refused(record);
-    }
-    let issued = record.issue(log, values::word(cells[0]), values::word(cells[1]));
+fn issue(book: &mut Book, log: &[u32]) {
+    let issued = record::of(book).issue(log, word(book[SAID]), word(book[SAID + 1]));
     let next = issued.record;
-    numbered(next, issued.number)
+    print(issued.number as u64);
+    record::keep(next, book);
 }
 
-// `P`: the number, the length of the part that is handed back, and its digest.
-fn settled(record: Record, said: Said, log: &[u32]) -> Called {
-    if said.count != 0 {
-        return refused(record);
+// The digest of a part of the log, which has at most 1100 words.
+fn part_digest(part: &[u32]) -> u64 {
+    if part.len() > book::WORDS {
+        return 0;
     }
+    let mut numbers = [0u64; 15604];
+    book::from_words(part, &mut numbers, 0);
+    digest::with_all(0, &numbers, 0, part.len())
+}
+
+// `P`
+fn settled(book: &Book, log: &[u32]) {
     let mut number: u32 = 0;
-    let part = record.settled(log, &mut number);
-    let mut numbers = [0u64; 4];
-    numbers[1] = part.len() as u64;
-    numbers[2] = digest::with_words(0, part);
-    numbers[0] = number as u64;
-    Called {
-        done: true,
-        record,
-        count: 3,
-        numbers,
-    }
+    let part = record::of(book).settled(log, &mut number);
+    print(number as u64);
+    print(part.len() as u64);
+    print(part_digest(part));
 }
 
-// `V line`: number and code of the settled frame, then of the tentative frame.
-fn view(record: Record, said: Said, log: &[u32]) -> Called {
-    let cells = said.cells;
-    if said.count != 1 {
-        return refused(record);
-    }
-    if cells[0] > 4294967295 {
-        return refused(record);
-    }
-    let line = values::word(cells[0]);
-    let settled = record.settled_frame(log, line);
-    let tentative = record.tentative_frame(log, line);
-    let mut numbers = [0u64; 4];
-    numbers[0] = settled.number as u64;
-    numbers[1] = settled.code as u64;
-    numbers[2] = tentative.number as u64;
-    numbers[3] = tentative.code as u64;
-    Called {
-        done: true,
-        record,
-        count: 4,
-        numbers,
-    }
+// `V line`
+fn frames(book: &Book, log: &[u32]) {
+    let settled = record::of(book).settled_frame(log, word(book[SAID]));
+    let tentative = record::of(book).tentative_frame(log, word(book[SAID]));
+    print(settled.number as u64);
+    print(settled.code as u64);
+    print(tentative.number as u64);
+    print(tentative.code as u64);
 }
 
-// `U`: 1 where the record with its log is sound, 0 where not.
-fn sound(record: Record, said: Said, log: &[u32]) -> Called {
-    if said.count != 0 {
-        return refused(record);
+// `U`
+fn sound(book: &Book, log: &[u32]) {
+    if record::of(book).sound(log) {
+        print(1);
+        return;
     }
-    if record.sound(log) {
-        return numbered(record, 1);
-    }
-    numbered(record, 0)
-}
-
-// The calls that write no buffer.
-fn look(record: Record, said: Said, log: &[u32]) -> Called {
-    let letter = said.letter;
-    if letter == b'F' {
-        return found(record, said, log);
-    }
-    if letter == b'I' {
-        return issue(record, said, log);
-    }
-    if letter == b'P' {
-        return settled(record, said, log);
-    }
-    if letter == b'V' {
-        return view(record, said, log);
-    }
-    if letter == b'U' {
-        return sound(record, said, log);
-    }
-    refused(record)
+    print(0);
 }
 
 // `E`
-fn elect(record: Record, log: &mut [u32]) -> Called {
-    let elected = record.elect(log);
+fn elect(book: &mut Book, log: &mut [u32]) {
+    let elected = record::of(book).elect(log);
     let next = elected.record;
-    valued(next, elected.number, elected.count as u64)
+    print(elected.number as u64);
+    print(elected.count as u64);
+    record::keep(next, book);
 }
 
 // `S`
-fn send(record: Record, log: &[u32], output: &mut [u8]) -> Called {
-    let sent = record.send(log, output);
-    valued(record, sent.number, sent.length as u64)
+fn send(book: &mut Book, log: &[u32]) {
+    let length = within(book[book::OUTPUT] as usize, book::BYTES);
+    let mut output = [0u8; 7100];
+    book::to_bytes(book, book::OUTPUT + 1, &mut output);
+    let sent = record::of(book).send(log, &mut output[..length]);
+    print(sent.number as u64);
+    print(sent.length as u64);
+    book::from_bytes(&output, book, book::OUTPUT + 1);
 }
 
 // `T`
-fn take(record: Record, log: &mut [u32], message: &[u8]) -> Called {
-    let taken = record.take(log, message);
+fn take(book: &mut Book, log: &mut [u32]) {
+    let length = within(book[book::MESSAGE] as usize, book::BYTES);
+    let mut message = [0u8; 7100];
+    book::to_bytes(book, book::MESSAGE + 1, &mut message);
+    let taken = record::of(book).take(log, &message[..length]);
     let next = taken.record;
-    numbered(next, taken.number)
+    print(taken.number as u64);
+    record::keep(next, book);
 }
 
-// Calls with exactly the log, the output and the message that are lent.
-fn call_lent(
-    record: Record,
-    said: Said,
-    log: &mut [u32],
-    output: &mut [u8],
-    message: &[u8],
-) -> Called {
-    let letter = said.letter;
-    let looked = look(record, said, &log[..]);
-    if looked.done {
-        return looked;
+// Makes the call that the letter names, and prints what it answers.
+fn make(book: &mut Book, letter: u8, log: &mut [u32]) {
+    match letter {
+        b'F' => found(book, log),
+        b'I' => issue(book, log),
+        b'P' => settled(book, log),
+        b'V' => frames(book, log),
+        b'U' => sound(book, log),
+        b'E' => elect(book, log),
+        b'S' => send(book, log),
+        _ => take(book, log),
     }
-    if said.count != 0 {
-        return refused(record);
-    }
-    if letter == b'E' {
-        return elect(record, log);
-    }
-    if letter == b'S' {
-        return send(record, &log[..], output);
-    }
-    if letter == b'T' {
-        return take(record, log, message);
-    }
-    refused(record)
 }
 
-// Makes the call that the line names.
-pub fn call(
-    state: State,
-    said: Said,
-    log: &mut [u32],
-    output: &mut [u8],
-    message: &[u8],
-) -> Called {
-    let log_length = within(state.log, log.len());
-    let output_length = within(state.output, output.len());
-    let message_length = within(state.message, message.len());
-    let record = state.record;
-    call_lent(
-        record,
-        said,
-        &mut log[..log_length],
-        &mut output[..output_length],
-        &message[..message_length],
-    )
+// Makes the call with exactly as much of the log as there is.
+fn lend(book: &mut Book, letter: u8, log: &mut [u32]) {
+    let length = within(book[book::LOG] as usize, log.len());
+    make(book, letter, &mut log[..length]);
+}
+
+// Makes the call, and prints its line.
+pub fn call(book: &mut Book, letter: u8) {
+    let mut log = [0u32; 1100];
+    book::to_words(book, book::LOG + 1, &mut log);
+    io::write_all(1, &[letter]);
+    lend(book, letter, &mut log);
+    book::from_words(&log, book, book::LOG + 1);
+    print(digest::of(book));
+    io::write_all(1, b"\n");
 }

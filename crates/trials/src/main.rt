@@ -1,137 +1,91 @@
 // Answers a script of trials from standard input: any record, log, output and message, and one call at a time. docs/TRIALS.md has the language.
+mod book;
 mod calling;
 mod digest;
-mod number;
-mod printing;
+mod record;
 mod script;
 mod setting;
-mod state;
-mod values;
 
-use calling::Called;
-use lines::Held;
-use lines::part_end;
-use lines::within;
-use script::Said;
-use state::State;
+use book::Book;
+use lists::within;
 
-// The state, the line as far as it was read, and whether there may be more to read.
-struct Progress {
-    state: State,
-    held: Held,
-    more: bool,
+// Runs a line that sets or calls. Answers false where it is neither, or a number is outside its limits.
+fn run(book: &mut Book, letter: u8, count: usize) -> bool {
+    if count > script::NUMBERS {
+        return false;
+    }
+    if !script::counted(letter, count) {
+        return false;
+    }
+    if letter >= b'a' {
+        return setting::set(book, letter, count);
+    }
+    if letter == b'F' {
+        if !setting::fit(book, 0, 0, count) {
+            return false;
+        }
+    } else {
+        if !setting::fit(book, book::LOG + 1, 0, count) {
+            return false;
+        }
+    }
+    calling::call(book, letter);
+    true
 }
 
-// Prints what a call answered, with the digest of all that it may have written.
-fn print_called(letter: u8, called: Called, state: State, log: &[u32], output: &[u8]) {
-    let log_length = within(state.log, log.len());
-    let output_length = within(state.output, output.len());
-    let record = called.record;
-    let numbers = called.numbers;
-    let digest = digest::digest(record, &log[..log_length], &output[..output_length]);
-    printing::print(letter, called.count, numbers, digest);
+// Answers a line.
+fn answer(book: &mut Book, line: &[u8]) {
+    if line.len() > 0 {
+        let count = script::read(line, book);
+        if run(book, line[0], count) {
+            return;
+        }
+    }
+    io::write_all(1, b"?\n");
 }
 
-// Runs a line that sets or calls, and answers the state after it.
-fn run(state: State, said: Said, log: &mut [u32], output: &mut [u8], message: &mut [u8]) -> State {
-    let set = setting::set(state, said, log, output, message);
-    if set.done {
-        return set.state;
+// Takes one byte more: a newline answers the line, any other byte is held, up to 129.
+fn step(book: &mut Book, line: &mut [u8], byte: u8) {
+    let held = within(book[book::HELD] as usize, line.len());
+    if byte == b'\n' {
+        book[book::HELD] = 0;
+        answer(book, &line[..held]);
+        return;
     }
-    let called = calling::call(state, said, log, output, &message[..]);
-    if !called.done {
-        printing::print_other();
-        return state;
-    }
-    print_called(said.letter, called, state, &log[..], &output[..]);
-    let record = called.record;
-    let mut next = state;
-    next.record = record;
-    next
-}
-
-// Answers the line that is held.
-fn answer(
-    state: State,
-    held: Held,
-    log: &mut [u32],
-    output: &mut [u8],
-    message: &mut [u8],
-) -> State {
-    let said = script::said_by(held);
-    if !said.proper {
-        printing::print_other();
-        return state;
-    }
-    run(state, said, log, output, message)
-}
-
-// Answers each line that ends within these bytes, and holds what is behind the last.
-fn advance(
-    start: Progress,
-    bytes: &[u8],
-    log: &mut [u32],
-    output: &mut [u8],
-    message: &mut [u8],
-) -> Progress {
-    let mut state = start.state;
-    let mut held = start.held;
-    let mut at: usize = 0;
-    let mut end = part_end(bytes, 0, b'\n');
-    while end < bytes.len() {
-        state = answer(state, held.with(&bytes[at..end]), log, output, message);
-        held = Held::none();
-        at = end + 1;
-        end = part_end(bytes, at, b'\n');
-    }
-    held = held.with(&bytes[at..end]);
-    Progress {
-        state,
-        held,
-        more: true,
+    if held < line.len() {
+        line[held] = byte;
+        book[book::HELD] = held as u64 + 1;
     }
 }
 
-// Reads once, and answers the lines that came.
-fn read_some(start: Progress, log: &mut [u32], output: &mut [u8], message: &mut [u8]) -> Progress {
-    let mut bytes = io::large_buffer();
-    let got = libc::read(0, &mut bytes);
-    let count = io::count(got, &bytes);
-    if count == 0 {
-        let mut last = start;
-        last.more = false;
-        return last;
+// Takes each of these bytes.
+fn feed(book: &mut Book, line: &mut [u8], bytes: &[u8]) {
+    for i in 0..bytes.len() {
+        step(book, line, bytes[i]);
     }
-    advance(start, &bytes[..count], log, output, message)
 }
 
 // Reads to the end. A proved loop has to end, and nothing says that the input does: the turns are counted down from a number that no run uses up.
-fn read_all(start: Progress, log: &mut [u32], output: &mut [u8], message: &mut [u8]) -> Progress {
-    let mut progress = start;
+fn read_all(book: &mut Book, line: &mut [u8]) {
     let mut turns = u64::MAX;
     while turns > 0 {
-        progress = read_some(progress, log, output, message);
-        if !progress.more {
-            return progress;
+        let mut bytes = io::large_buffer();
+        let got = libc::read(0, &mut bytes);
+        let count = io::count(got, &bytes);
+        if count == 0 {
+            return;
         }
+        feed(book, line, &bytes[..count]);
         turns -= 1;
     }
-    progress
 }
 
+// A last line without a newline is answered as one with it.
 fn main() {
-    let mut log = [0u32; 1100];
-    let mut output = [0u8; 7100];
-    let mut message = [0u8; 7100];
-    let start = Progress {
-        state: State::start(),
-        held: Held::none(),
-        more: true,
-    };
-    let progress = read_all(start, &mut log, &mut output, &mut message);
-    let held = progress.held;
-    let state = progress.state;
-    if held.length > 0 {
-        answer(state, held, &mut log, &mut output, &mut message);
+    let mut book = [0u64; 15604];
+    let mut line = [0u8; 129];
+    read_all(&mut book, &mut line);
+    if book[book::HELD] > 0 {
+        step(&mut book, &mut line, b'\n');
     }
 }

@@ -1,74 +1,51 @@
 // What a line of a script says: a letter and up to 24 numbers.
-use crate::number::Number;
-use crate::number::number_of;
-use lines::Held;
-use lines::part_end;
+use crate::book;
+use crate::book::Book;
+use decimal::Number;
+use decimal::number_of;
+use decimal::part_end;
 
 // Most numbers of a line.
 pub const NUMBERS: usize = 24;
 
-// Whether the line has the form at all, its letter, how many numbers it has, and these with zeros behind them.
-pub struct Said {
-    pub proper: bool,
-    pub letter: u8,
-    pub count: usize,
-    pub cells: [u64; 24],
-}
-
-// The answer where a line has another form.
-fn other() -> Said {
-    Said {
-        proper: false,
-        letter: 0,
-        count: 0,
-        cells: [0; 24],
-    }
-}
-
-// The letter and the numbers of the fields from `start` on.
-fn said_from(bytes: &[u8], letter: u8, start: usize) -> Said {
-    let mut cells = [0u64; 24];
+// Writes the numbers behind the line's letter into the book and answers how many there are, or 25 where the line has another form.
+pub fn read(line: &[u8], book: &mut Book) -> usize {
     let mut count: usize = 0;
-    let mut at = start;
-    while at <= bytes.len() {
+    let mut at: usize = 1;
+    if line.len() > 128 {
+        return 25;
+    }
+    while at < line.len() {
         if count == NUMBERS {
-            return other();
+            return 25;
         }
-        let end = part_end(bytes, at, b' ');
-        let Number::Value(value) = number_of(&bytes[at..end]) else {
-            return other();
+        if line[at] != b' ' {
+            return 25;
+        }
+        let end = part_end(line, at + 1, b' ');
+        let Number::Value(value) = number_of(u64::MAX, &line[at + 1..end]) else {
+            return 25;
         };
-        cells[count] = value;
+        book[book::SAID + count] = value;
         count += 1;
-        at = end + 1;
+        at = end;
     }
-    Said {
-        proper: true,
-        letter,
-        count,
-        cells,
-    }
+    count
 }
 
-// What a line of at most 128 bytes says.
-fn said_of(bytes: &[u8]) -> Said {
-    if bytes.len() == 0 {
-        return other();
+// Whether a line of this letter may have so many numbers.
+pub fn counted(letter: u8, count: usize) -> bool {
+    if count > NUMBERS {
+        return false;
     }
-    if bytes.len() > 1 {
-        if bytes[1] != b' ' {
-            return other();
-        }
+    match letter {
+        b'd' | b'P' | b'U' | b'E' | b'S' | b'T' => count == 0,
+        b'c' | b'g' | b'V' => count == 1,
+        b'b' | b'l' | b'o' | b'x' | b'I' => count == 2,
+        b'F' => count == 10,
+        b'r' => count == 11,
+        b'w' | b'm' => count > 1,
+        b'a' => count > 2,
+        _ => false,
     }
-    said_from(bytes, bytes[0], 2)
-}
-
-// What the line that is held says; one of more than 128 bytes has no proper form.
-pub fn said_by(held: Held) -> Said {
-    let bytes = held.bytes;
-    let length = held.length;
-    if length > 128 {
-        return other();
-    }
-    said_of(&bytes[..length])
 }

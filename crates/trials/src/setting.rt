@@ -1,276 +1,140 @@
-// The lines that set the state and print nothing.
-use crate::script::NUMBERS;
-use crate::script::Said;
-use crate::state::State;
-use crate::values;
-use ballots::Ballot;
-use frame::Record;
-use lines::within;
+// The lines that set the state and print nothing: each writes numbers into a part of the book. Each answers whether its numbers are within
+// their limits; nothing is written where not.
+ghost use Prim.Native.Nat.{_+_, _<_, _≤_};
+use crate::book;
+use crate::book::Book;
+use crate::book::LOG;
+use crate::book::MESSAGE;
+use crate::book::OUTPUT;
+use crate::book::SAID;
+use crate::book::ZERO;
+use lists::within;
 
-// Whether the line is one of these with all its numbers within their limits, and the state after it.
-pub struct Changed {
-    pub done: bool,
-    pub state: State,
+// Whether each number of the line from the one at `from` on, and before `end`, is within the limit of its place: the first at `place`, the others behind it.
+pub fn fit(book: &Book, place: usize, from: usize, end: usize) -> bool
+    requires { ⌜ place ≤ 15578 ⌝ }
+    requires { ⌜ end ≤ 24 ⌝ }
+{
+    for i in from..end {
+        if book[SAID + i] > book::limit(place + (i - from)) {
+            return false;
+        }
+    }
+    true
 }
 
-fn done(state: State) -> Changed {
-    Changed { done: true, state }
+// How many numbers `each` is, `times` times over, or 7101 where `times` is above 7100.
+fn product(times: usize, each: usize) -> usize
+    requires { ⌜ each ≤ 24 ⌝ }
+    ensures { λ r. ⌜ r ≤ 170400 ⌝ }
+{
+    if times > book::BYTES {
+        return book::BYTES + 1;
+    }
+    times * each
 }
 
-// Nothing is set.
-fn refused(state: State) -> Changed {
-    Changed { done: false, state }
+// Writes the numbers of the line from the one at `from` on, and before `end`, `times` times over, from place `first` on, where there is room for them, 7100 at most.
+fn spread(book: &mut Book, first: usize, room: usize, from: usize, end: usize, times: usize) -> bool
+    requires { ⌜ first + room ≤ 15578 ⌝ }
+    requires { ⌜ from < end ⌝ }
+    requires { ⌜ end ≤ 24 ⌝ }
+{
+    let total = product(times, end - from);
+    if total > room {
+        return false;
+    }
+    if !fit(book, first, from, end) {
+        return false;
+    }
+    book::write(book, first, total, SAID + from, end - from);
+    true
 }
 
-// The record is this one.
-fn with_record(state: State, record: Record) -> Changed {
-    let mut next = state;
-    next.record = record;
-    done(next)
-}
-
-// `r n own w0 … w7 settled`
-fn set_head(state: State, said: Said) -> Changed {
-    let cells = said.cells;
-    let mut record = state.record;
-    if said.count != 11 {
-        return refused(state);
-    }
-    if !values::weights_fine(cells) {
-        return refused(state);
-    }
-    let weights = values::weights_of(cells);
-    record.n = cells[0] as usize;
-    record.own = cells[1] as usize;
-    record.weights = weights;
-    record.settled = cells[10] as usize;
-    with_record(state, record)
-}
-
-// `b k len`
-fn set_ballot(state: State, said: Said) -> Changed {
-    let cells = said.cells;
-    let mut record = state.record;
-    if said.count != 2 {
-        return refused(state);
-    }
-    if cells[0] > 7 {
-        return refused(state);
-    }
-    let k = cells[0] as usize;
-    let mut ballot = Ballot::none();
-    ballot.len = cells[1] as usize;
-    record.ballots[k] = ballot;
-    with_record(state, record)
-}
-
-// The ballot with the values of the line in its cells from `at` on.
-fn rewritten(ballot: Ballot, at: usize, said: Said) -> Ballot {
-    let mut words = ballot.cells;
-    values::write_words(&mut words, at, said, 2);
-    Ballot {
-        len: ballot.len,
-        cells: words,
-    }
-}
-
-// `a k at v…`
-fn set_cells(state: State, said: Said) -> Changed {
-    let cells = said.cells;
-    let mut record = state.record;
-    if cells[0] > 7 {
-        return refused(state);
-    }
-    let k = cells[0] as usize;
-    let at = cells[1] as usize;
-    if !values::words_fit(said, 2, at, Record::TAIL) {
-        return refused(state);
-    }
-    let ballot = rewritten(record.ballots[k], at, said);
-    record.ballots[k] = ballot;
-    with_record(state, record)
-}
-
-// `c length`
-fn cut_message(state: State, said: Said) -> Changed {
-    let cells = said.cells;
-    if said.count != 1 {
-        return refused(state);
-    }
-    let length = cells[0] as usize;
-    if length > state.message {
-        return refused(state);
-    }
-    let mut next = state;
-    next.message = length;
-    done(next)
-}
-
-// The lines that write no buffer.
-fn set_state(state: State, said: Said) -> Changed {
-    let letter = said.letter;
+// `r`, `b` and `a`; `b` alone has two numbers.
+fn set_record(book: &mut Book, letter: u8, count: usize) -> bool
+    requires { ⌜ 1 < count ⌝ }
+    requires { ⌜ count ≤ 24 ⌝ }
+{
     if letter == b'r' {
-        return set_head(state, said);
+        return spread(book, 0, book::BALLOTS, 0, 11, 1);
     }
-    if letter == b'b' {
-        return set_ballot(state, said);
+    if book[SAID] > 7 {
+        return false;
     }
-    if letter == b'a' {
-        return set_cells(state, said);
+    let ballot = book::BALLOTS + (book[SAID] as usize) * book::BALLOT;
+    if count < 3 {
+        book[ballot] = book[SAID + 1];
+        book::write(book, ballot + 1, 32, ZERO, 1);
+        return true;
+    }
+    let at = within(book[SAID + 1] as usize, 32);
+    spread(book, ballot + 1 + at, 32 - at, 2, count, 1)
+}
+
+// `l`, `o` and `m`: the numbers are written from place `at` of the buffer on, and end it.
+fn fill(book: &mut Book, buffer: usize, most: usize, at: usize, count: usize) -> bool
+    requires { ⌜ buffer + 1 + most ≤ 15578 ⌝ }
+    requires { ⌜ at ≤ most ⌝ }
+    requires { ⌜ 1 < count ⌝ }
+    requires { ⌜ count ≤ 24 ⌝ }
+{
+    let times = book[SAID] as usize;
+    if !spread(book, buffer + 1 + at, most - at, 1, count, times) {
+        return false;
+    }
+    book[buffer] = (at + product(times, count - 1)) as u64;
+    true
+}
+
+// `w` and `x`: the numbers are written over others of the buffer.
+fn replace(book: &mut Book, buffer: usize, most: usize, count: usize) -> bool
+    requires { ⌜ buffer + 1 + most ≤ 15578 ⌝ }
+    requires { ⌜ 1 < count ⌝ }
+    requires { ⌜ count ≤ 24 ⌝ }
+{
+    let held = within(book[buffer] as usize, most);
+    let at = within(book[SAID] as usize, held);
+    spread(book, buffer + 1 + at, held - at, 1, count, 1)
+}
+
+// `c` and `g`: the message is the first bytes of the message, or of the output.
+fn cut(book: &mut Book, buffer: usize) -> bool
+    requires { ⌜ buffer + 7101 ≤ 15578 ⌝ }
+{
+    if book[SAID] > book[buffer] {
+        return false;
+    }
+    let length = within(book[SAID] as usize, book::BYTES);
+    book::write(book, MESSAGE + 1, length, buffer + 1, book::BYTES);
+    book[MESSAGE] = book[SAID];
+    true
+}
+
+// Writes what the line says.
+pub fn set(book: &mut Book, letter: u8, count: usize) -> bool
+    requires { ⌜ count ≤ 24 ⌝ }
+{
+    let message = within(book[MESSAGE] as usize, book::BYTES);
+    if letter == b'd' {
+        book::write(book, 0, SAID, ZERO, 1);
+        return true;
     }
     if letter == b'c' {
-        return cut_message(state, said);
-    }
-    if letter != b'd' {
-        return refused(state);
-    }
-    if said.count != 0 {
-        return refused(state);
-    }
-    done(State::start())
-}
-
-// Whether the line is a length and a fill, each within its limit.
-fn fills(said: Said, most: usize, limit: u64) -> bool {
-    let cells = said.cells;
-    if said.count != 2 {
-        return false;
-    }
-    let length = cells[0] as usize;
-    if length > most {
-        return false;
-    }
-    cells[1] <= limit
-}
-
-// `l length fill`
-fn set_log(state: State, said: Said, log: &mut [u32]) -> Changed {
-    let cells = said.cells;
-    if !fills(said, State::LOG, 4294967295) {
-        return refused(state);
-    }
-    let length = cells[0] as usize;
-    values::fill_words(log, length, values::word(cells[1]));
-    let mut next = state;
-    next.log = length;
-    done(next)
-}
-
-// `w at v…`
-fn set_words(state: State, said: Said, log: &mut [u32]) -> Changed {
-    let cells = said.cells;
-    let length = within(state.log, log.len());
-    let at = cells[0] as usize;
-    if !values::words_fit(said, 1, at, length) {
-        return refused(state);
-    }
-    values::write_words(log, at, said, 1);
-    done(state)
-}
-
-// `o length fill`
-fn set_output(state: State, said: Said, output: &mut [u8]) -> Changed {
-    let cells = said.cells;
-    if !fills(said, State::BYTES, 255) {
-        return refused(state);
-    }
-    let length = cells[0] as usize;
-    values::write_times(output, 0, cells, 2, length);
-    let mut next = state;
-    next.output = length;
-    done(next)
-}
-
-// `m times v…`
-fn append(state: State, said: Said, message: &mut [u8]) -> Changed {
-    let cells = said.cells;
-    let count = within(said.count, NUMBERS);
-    let held = within(state.message, State::BYTES);
-    if count < 2 {
-        return refused(state);
-    }
-    if !values::limited(cells, 1, count, 255) {
-        return refused(state);
-    }
-    let times = cells[0] as usize;
-    if times > (State::BYTES - held) / (count - 1) {
-        return refused(state);
-    }
-    let mut next = state;
-    next.message = values::write_times(message, held, cells, count, times);
-    done(next)
-}
-
-// `x at v`
-fn set_byte(state: State, said: Said, message: &mut [u8]) -> Changed {
-    let cells = said.cells;
-    let length = within(state.message, message.len());
-    if said.count != 2 {
-        return refused(state);
-    }
-    let at = cells[0] as usize;
-    if at >= length {
-        return refused(state);
-    }
-    if cells[1] > 255 {
-        return refused(state);
-    }
-    message[at] = values::byte(cells[1]);
-    done(state)
-}
-
-// `g length`
-fn set_message(state: State, said: Said, output: &[u8], message: &mut [u8]) -> Changed {
-    let cells = said.cells;
-    if said.count != 1 {
-        return refused(state);
-    }
-    let length = cells[0] as usize;
-    if length > state.output {
-        return refused(state);
-    }
-    values::copy(output, message, length);
-    let mut next = state;
-    next.message = length;
-    done(next)
-}
-
-// The lines that write the message.
-fn set_bytes(state: State, said: Said, output: &[u8], message: &mut [u8]) -> Changed {
-    let letter = said.letter;
-    if letter == b'm' {
-        return append(state, said, message);
-    }
-    if letter == b'x' {
-        return set_byte(state, said, message);
+        return cut(book, MESSAGE);
     }
     if letter == b'g' {
-        return set_message(state, said, output, message);
+        return cut(book, OUTPUT);
     }
-    refused(state)
-}
-
-// Sets the part of the state that the line names.
-pub fn set(
-    state: State,
-    said: Said,
-    log: &mut [u32],
-    output: &mut [u8],
-    message: &mut [u8],
-) -> Changed {
-    let letter = said.letter;
-    if letter == b'l' {
-        return set_log(state, said, log);
+    if count < 2 {
+        return false;
     }
-    if letter == b'w' {
-        return set_words(state, said, log);
+    match letter {
+        b'l' => fill(book, LOG, book::WORDS, 0, count),
+        b'o' => fill(book, OUTPUT, book::BYTES, 0, count),
+        b'm' => fill(book, MESSAGE, book::BYTES, message, count),
+        b'w' => replace(book, LOG, book::WORDS, count),
+        b'x' => replace(book, MESSAGE, book::BYTES, count),
+        _ => set_record(book, letter, count),
     }
-    if letter == b'o' {
-        return set_output(state, said, output);
-    }
-    let plain = set_state(state, said);
-    if plain.done {
-        return plain;
-    }
-    set_bytes(state, said, &output[..], message)
 }

@@ -9,19 +9,16 @@ use lib.Dec.{eqb}
 use lib.ListN.{length, getD, take, drop, set, length-append, length-take, drop-of-length-le}
 use lib.Seq.{sets, length-take-le, drop-cons, getD-take}
 use borrow.Author.Tests.{leb-true}
-use Rattle.ballots.specs.Ballots.{ballotShape, emptyBallot, tailOf}
+use Rattle.ballots.specs.Ballots.{ballotShape, tailOf}
 use Rattle.ballots.specs.declared.Ballot.{Ballot}
-use Rattle.protocol.specs.Entry.{isEntry}
-use Rattle.protocol.specs.Tests.{allB}
-use Rattle.spelling.specs.Numbers.{be32, bytes32, run}
-use Rattle.spelling.specs.Reading.{valueHere}
+use Rattle.lists.specs.Tests.{allB}
+use Rattle.numbers.specs.Numbers.{be32, bytes32, run}
 use Rattle.spelling.specs.Spelling.{ballotBytes, ballotsBytes}
-use Rattle.ballots.proofs.Laws.{empty-is}
-use Rattle.protocol.proofs.Tests.{all-at, all-take, both-0, both-1}
+use Rattle.lists.proofs.Tests.{all-at, both-0, both-1}
 use Rattle.spelling.proofs.Ballots.{ballot-cons}
-use Rattle.spelling.proofs.Items.{valueItem}
-use Rattle.protocol.proofs.Stores.{Left, left-all, left-next, left-none}
-use Rattle.spelling.proofs.Runs.{run-length}
+use Rattle.spelling.proofs.Items.{isWord, roomFor, valueItem}
+use Rattle.lists.proofs.Stores.{Left, left-all, left-next, left-none}
+use Rattle.numbers.proofs.Runs.{run-length}
 use Rattle.writer.specs.Written.{tailsOf}
 
 module _ (o : ℕ) (b : Ballot) where
@@ -38,7 +35,7 @@ module _ (o : ℕ) (b : Ballot) where
       bytes-some = ballot-cons o (tailOf b) (omega (arith, tail-length)) ∙ rw tail-length
 
       pub size-some : length (ballotBytes o (tailOf b)) ≡ 4 + 4 * b .len
-      size-some = rw bytes-some (omega (arith, run-length 4 bytes32 be32 (valueHere 0) (isEntry 0) (valueItem 0 (omega arith)) (take (b .len) (b .cells)), tail-length))
+      size-some = rw bytes-some (omega (arith, run-length 4 bytes32 be32 (roomFor 4) isWord valueItem (take (b .len) (b .cells)), tail-length))
 
       pub stores-some : (l : List ℕ) (at : ℕ)
           → sets (set (set (set (set l at 0x42) (at + 1) 0x41) (at + 2) o) (at + 3) (b .len)) (at + 4) (run bytes32 (take (b .len) (b .cells))) ≡ sets l at (ballotBytes o (tailOf b))
@@ -65,16 +62,6 @@ unfolding restBytes ballotsBytes
 rest-step n bs o d h j =
     let t : length (take n bs) ≡ n = length-take-le n bs j in
     rw (drop-cons (take n bs) o d (omega arith), getD-take n bs o d, add-one o)
-
--- ballots that are none have no bytes
-none-bytes : (o : ℕ) (bs : List Ballot) → allB emptyBallot bs ≡ true → ballotsBytes o (map tailOf bs) ≡ []
-unfolding ballotsBytes allB
-none-bytes o [] q = refl
-none-bytes o (b ∷ bs) q = rw (bytes-none o b (ap (λ (x : Ballot). x .len) (empty-is b (both-0 _ _ q)))) (none-bytes (suc o) bs (both-1 _ _ q))
-
-pub no-bytes : (n : ℕ) (bs : List Ballot) → allB emptyBallot bs ≡ true → ballotsBytes 0 (tailsOf n bs) ≡ []
-unfolding tailsOf
-no-bytes n bs q = none-bytes 0 (take n bs) (all-take emptyBallot n bs q)
 
 pub len-at : (bs : List Ballot) (o : ℕ) (d : Ballot) → allB ballotShape bs ≡ true → o < length bs → getD bs o d .len ≤ 32
 unfolding ballotShape

@@ -1,6 +1,5 @@
 -- Laws of what the writer stores, part by part.
 pub mod LogRecord
-pub mod Fours
 pub mod Ballots
 pub mod Whole
 pub mod Contents

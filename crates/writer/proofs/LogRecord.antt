@@ -6,7 +6,7 @@ use native.Mathlib.Numerals.{add-one, add-two}
 use native.Mathlib.Omega.{arith}
 use lib.ListN.{set}
 use lib.Seq.{sets, set-comm}
-use Rattle.spelling.specs.Numbers.{bytes32}
+use Rattle.numbers.specs.Numbers.{bytes32}
 use Rattle.spelling.specs.Spelling.{logRecord}
 
 -- a store before a run of stores

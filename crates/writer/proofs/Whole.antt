@@ -3,13 +3,12 @@
 --     message-length, counted         the length, and the size that the writer counts
 --     front-stores                    the head and the log records
 --     whole-written                   the stores, one after the other, write the message
---     bare-message, bare-length, bare-written     the same without ballots
 --     refused, written                what writing answers and leaves, without room and with it
 --     answer-short, answer-fits       which of them it was, from the answer
 -- Assumes nothing.
 use Prim.Native.Nat.{ℕ, _+_, _*_, _<_, _≤_}
 use mathlib.Core.Bool.{Bool, false, true}
-use mathlib.Core.List.{List, [], _++_, append-assoc}
+use mathlib.Core.List.{List, _++_, append-assoc}
 use mathlib.Core.Path.{_≡_, refl, sym, ap, _∙_}
 use native.Mathlib.Nat.{zero-add}
 use native.Mathlib.Omega.{arith}
@@ -17,37 +16,35 @@ use lib.Dec.{ltb}
 use lib.ListN.{length, take, set, length-append, drop}
 use lib.Seq.{sets, sets-eq, length-take-le}
 use borrow.Author.Tests.{lt-ltb, le-ltb}
-use Rattle.ballots.specs.Ballots.{emptyBallot}
 use Rattle.ballots.specs.declared.Ballot.{Ballot}
-use Rattle.protocol.specs.Entry.{isEntry}
-use Rattle.protocol.specs.Tests.{allB, pick}
-use Rattle.spelling.specs.Content.{isWeight}
-use Rattle.spelling.specs.Numbers.{be16, bytes16, run}
-use Rattle.spelling.specs.Reading.{recordAt, recordHere, weightHere}
-use Rattle.spelling.specs.Spelling.{ballotsBytes, endBytes, headBytes, logRecord, spelling}
-use Rattle.spelling.proofs.Items.{recordItem, weightItem}
-use Rattle.protocol.proofs.Stores.{sets-append}
-use Rattle.spelling.proofs.Runs.{run-length}
-use Rattle.writer.specs.Written.{contentOf, messageOf, tailsOf, writtenBytes, writtenLength}
-use Rattle.writer.proofs.Ballots.{ToCount, no-bytes, rest-none}
+use Rattle.lists.specs.Tests.{pick}
+use Rattle.protocol.specs.Limits.{isWeight}
+use Rattle.numbers.specs.Numbers.{be16, bytes16, run}
+use Rattle.spelling.specs.Reading.{recordAt, recordHere}
+use Rattle.spelling.specs.Spelling.{ballotsBytes, endBytes, headBytes, headSize, lengthPlace, logRecord, spelling}
+use Rattle.spelling.proofs.Items.{isWord, roomFor, recordItem, weightItem}
+use Rattle.lists.proofs.Stores.{sets-append}
+use Rattle.numbers.proofs.Runs.{run-length}
+use Rattle.writer.specs.Written.{Writes, contentOf, frontBytes, messageOf, tailsOf, writtenBytes, writtenLength}
+use Rattle.writer.proofs.Ballots.{ToCount, rest-none}
 
 -- the head
-pub head-stores : (sender n : ℕ) (ws : List ℕ) (settled : ℕ) (l : List ℕ) → length ws ≡ n
-    → sets (sets (set (set (set (set l 0 0x53) 1 0x48) 2 sender) 3 n) 4 (run bytes16 ws)) (4 + 2 * n) (bytes16 settled) ≡ sets l 0 (headBytes sender n ws settled)
+pub head-stores : (sender n : ℕ) (ws : List ℕ) (settled : ℕ) (l : List ℕ) {l1 l2 : List ℕ} {p : ℕ} → length ws ≡ n → p ≡ lengthPlace n
+    → l1 ≡ sets (set (set (set (set l 0 0x53) 1 0x48) 2 sender) 3 n) 4 (run bytes16 ws) → l2 ≡ sets l1 p (bytes16 settled) → l2 ≡ sets l 0 (headBytes sender n ws settled)
 unfolding headBytes
-head-stores sender n ws settled l e =
-    let r : length (run bytes16 ws) ≡ 2 * n = run-length 2 bytes16 be16 weightHere isWeight weightItem ws ∙ ap (λ (k : ℕ). 2 * k) e in
-    sym (sets-append (set (set (set (set l 0 0x53) 1 0x48) 2 sender) 3 n) 4 (run bytes16 ws) (bytes16 settled) ∙ rw r)
+head-stores sender n ws settled l e ep e1 e2 =
+    let r : length (run bytes16 ws) ≡ 2 * n = run-length 2 bytes16 be16 (roomFor 2) isWeight weightItem ws ∙ ap (λ (k : ℕ). 2 * k) e in
+    rw (e2, e1, ep) (sym (sets-append (set (set (set (set l 0 0x53) 1 0x48) 2 sender) 3 n) 4 (run bytes16 ws) (bytes16 settled) ∙ rw r))
 
-pub head-length : (sender n : ℕ) (ws : List ℕ) (settled : ℕ) → length ws ≡ n → length (headBytes sender n ws settled) ≡ 6 + 2 * n
+pub head-length : (sender n : ℕ) (ws : List ℕ) (settled : ℕ) → length ws ≡ n → length (headBytes sender n ws settled) ≡ headSize n
 unfolding headBytes bytes16
-head-length sender n ws settled e = omega (arith, run-length 2 bytes16 be16 weightHere isWeight weightItem ws, length-append (run bytes16 ws) (bytes16 settled))
+head-length sender n ws settled e = omega (arith, run-length 2 bytes16 be16 (roomFor 2) isWeight weightItem ws, length-append (run bytes16 ws) (bytes16 settled))
 
 -- the head, and the log records behind it
-pub front-stores : (sender n : ℕ) (ws : List ℕ) (settled : ℕ) (logs l : List ℕ) {l1 l2 : List ℕ} {h : ℕ} → length ws ≡ n → h ≡ 6 + 2 * n
+pub front-stores : (sender n : ℕ) (ws : List ℕ) (settled : ℕ) (logs l : List ℕ) {l1 l2 : List ℕ} {h : ℕ} → length ws ≡ n → h ≡ headSize n
     → l1 ≡ sets l 0 (headBytes sender n ws settled) → l2 ≡ sets l1 h logs → l2 ≡ sets l 0 (headBytes sender n ws settled ++ logs)
 front-stores sender n ws settled logs l e eh e1 e2 =
-    let q : 0 + length (headBytes sender n ws settled) ≡ 6 + 2 * n = omega (arith, head-length sender n ws settled e) in
+    let q : 0 + length (headBytes sender n ws settled) ≡ headSize n = omega (arith, head-length sender n ws settled e) in
     rw (e2, e1, eh) (sym (sets-append l 0 (headBytes sender n ws settled) logs ∙ ap (λ (x : ℕ). sets (sets l 0 (headBytes sender n ws settled)) x logs) q))
 
 module _ (sender n : ℕ) (ws log : List ℕ) (settled : ℕ) (of : List Ballot) (hn : n ≤ length ws) (hk : settled ≤ length log) where
@@ -67,31 +64,31 @@ module _ (sender n : ℕ) (ws log : List ℕ) (settled : ℕ) (of : List Ballot)
   unfolding all heads logs ballots spelling contentOf
   spelled = rw (length-take-le settled log hk)
 
-  heads-length : length heads ≡ 6 + 2 * n
+  heads-length : length heads ≡ headSize n
   unfolding heads
   heads-length = head-length sender n (take n ws) settled (length-take-le n ws hn)
 
   logs-length : length logs ≡ 6 * settled
   unfolding logs
-  logs-length = run-length 6 logRecord recordAt (recordHere 0) (isEntry 0) (recordItem 0 (omega arith)) (take settled log) ∙ ap (λ (k : ℕ). 6 * k) (length-take-le settled log hk)
+  logs-length = run-length 6 logRecord recordAt recordHere isWord recordItem (take settled log) ∙ ap (λ (k : ℕ). 6 * k) (length-take-le settled log hk)
 
   -- the length of the message: the head, the log records and the end, and then the ballots
-  pub message-length : length (messageOf sender n ws log settled of) ≡ 8 + 2 * n + 6 * settled + length (ballotsBytes 0 (tailsOf n of))
+  pub message-length : length (messageOf sender n ws log settled of) ≡ headSize n + 6 * settled + 2 + length (ballotsBytes 0 (tailsOf n of))
   unfolding all ballots endBytes
   message-length =
       ap length spelled
       ∙ omega (arith, heads-length, logs-length, length-append heads (logs ++ (ballots ++ endBytes)), length-append logs (ballots ++ endBytes), length-append ballots endBytes)
 
   -- the size that the walk of the ballots has counted is that length
-  pub counted : (size o : ℕ) → ToCount (8 + 2 * n + 6 * settled) n of size o → n ≤ o → size ≡ length (messageOf sender n ws log settled of)
-  counted size o inv h = omega (arith, message-length, ap length (rest-none n of o h))
+  pub counted : (base size o : ℕ) → base ≡ headSize n + 6 * settled + 2 → ToCount base n of size o → n ≤ o → size ≡ length (messageOf sender n ws log settled of)
+  counted base size o e inv h = omega (arith, message-length, ap length (rest-none n of o h))
 
   -- the stores, one after the other: the front, the ballots, the end
   module _
       (l l1 l2 l3 : List ℕ)
       (b e : ℕ)
-      (eb : b ≡ 6 + 2 * n + 6 * settled)
-      (e1 : l1 ≡ sets l 0 (headBytes sender n (take n ws) settled ++ run logRecord (take settled log)))
+      (eb : b ≡ headSize n + 6 * settled)
+      (e1 : l1 ≡ sets l 0 (frontBytes sender n ws log settled))
       (ee : e ≡ b + length (ballotsBytes 0 (tailsOf n of)))
       (e2 : l2 ≡ sets l1 b (ballotsBytes 0 (tailsOf n of)))
       (e3 : l3 ≡ sets l2 e endBytes)
@@ -112,35 +109,14 @@ module _ (sender n : ℕ) (ws log : List ℕ) (settled : ℕ) (of : List Ballot)
           → l3 ≡ messageOf sender n ws log settled of ++ drop (length (messageOf sender n ws log settled of)) l
       whole-written room = whole-stores ∙ sets-eq (messageOf sender n ws log settled of) l 0 (rw zero-add room) ∙ rw zero-add
 
--- ---- the message of a record without ballots
-
-pub bare-message : (sender n : ℕ) (ws log : List ℕ) (settled : ℕ) (bs : List Ballot) → allB emptyBallot bs ≡ true
-    → messageOf sender n ws log settled bs ≡ messageOf sender n ws log settled []
-unfolding spelling contentOf allB
-bare-message sender n ws log settled bs q = rw (no-bytes n bs q, no-bytes n [] refl)
-
-module _ (sender n : ℕ) (ws log : List ℕ) (settled : ℕ) (hn : n ≤ length ws) (hk : settled ≤ length log) where
-  none : ballotsBytes 0 (tailsOf n []) ≡ []
-  unfolding allB
-  none = no-bytes n [] refl
-
-  pub bare-length : 8 + 2 * n + 6 * settled ≡ length (messageOf sender n ws log settled [])
-  bare-length = omega (arith, message-length sender n ws log settled [] hn hk, ap length none)
-
-  pub bare-written : (l l1 l2 : List ℕ) (b : ℕ) → b ≡ 6 + 2 * n + 6 * settled
-      → l1 ≡ sets l 0 (headBytes sender n (take n ws) settled ++ run logRecord (take settled log)) → l2 ≡ sets l1 b endBytes → 8 + 2 * n + 6 * settled ≤ length l
-      → l2 ≡ messageOf sender n ws log settled [] ++ drop (length (messageOf sender n ws log settled [])) l
-  bare-written l l1 l2 b eb e1 e2 room =
-      whole-written sender n ws log settled [] hn hk l l1 l1 l2 b b eb e1 (omega (arith, ap length none)) (rw none) e2 (omega (arith, bare-length))
-
 -- ---- what writing answers and leaves
 
 module _ (message out : List ℕ) (size : ℕ) (e : size ≡ length message) where
-  pub refused : length out < size → (0 ≡ writtenLength message out) × (out ≡ writtenBytes message out)
+  pub refused : length out < size → Writes message out 0 out
   unfolding writtenLength writtenBytes pick
   refused h = let t = lt-ltb (length out) (length message) (omega arith) in (simp t, simp t)
 
-  pub written : size ≤ length out → (size ≡ writtenLength message out) × (message ++ drop (length message) out ≡ writtenBytes message out)
+  pub written : size ≤ length out → Writes message out size (message ++ drop (length message) out)
   unfolding writtenLength writtenBytes pick
   written h = let t = le-ltb (length out) (length message) (omega arith) in (simp t e, simp t)
 

@@ -7,9 +7,10 @@ use lib.Dec.{ltb}
 use lib.ListN.{drop, length, take}
 use Rattle.ballots.specs.Ballots.{tailOf, ballotShape}
 use Rattle.ballots.specs.declared.Ballot.{Ballot}
-use Rattle.protocol.specs.Tests.{allB, pick}
+use Rattle.lists.specs.Tests.{allB, pick}
 use Rattle.spelling.specs.Content.{Content}
-use Rattle.spelling.specs.Spelling.{spelling}
+use Rattle.numbers.specs.Numbers.{run}
+use Rattle.spelling.specs.Spelling.{headBytes, logRecord, spelling}
 
 -- the tails of the first n offices
 unfoldable pub tailsOf : ℕ → List Ballot → List (List ℕ)
@@ -24,6 +25,10 @@ contentOf sender n weights log settled ballots =
 abbrev pub messageOf : ℕ → ℕ → List ℕ → List ℕ → ℕ → List Ballot → List ℕ
 messageOf sender n weights log settled ballots = spelling (contentOf sender n weights log settled ballots)
 
+-- its head and its log records
+abbrev pub frontBytes : ℕ → ℕ → List ℕ → List ℕ → ℕ → List ℕ
+frontBytes sender n weights log settled = headBytes sender n (take n weights) settled ++ run logRecord (take settled log)
+
 -- what writing a message answers: its length, and 0 where the buffer is shorter
 unfoldable pub writtenLength : List ℕ → List ℕ → ℕ
 writtenLength message out = pick (ltb (length out) (length message)) 0 (length message)
@@ -31,6 +36,10 @@ writtenLength message out = pick (ltb (length out) (length message)) 0 (length m
 -- the buffer after it: the message, and "later bytes of the buffer keep their contents"; as it was where it is shorter than the message
 unfoldable pub writtenBytes : List ℕ → List ℕ → List ℕ
 writtenBytes message out = pick (ltb (length out) (length message)) out (message ++ drop (length message) out)
+
+-- the answer, and the buffer after it
+abbrev pub Writes : List ℕ → List ℕ → ℕ → List ℕ → Type 0
+Writes message out answer after = (answer ≡ writtenLength message out) × (after ≡ writtenBytes message out)
 
 -- what the writer asks of its caller: every sound record has it
 pub record Writable (sender n : ℕ) (log : List ℕ) (settled : ℕ) (ballots : List Ballot) : Type 0 where

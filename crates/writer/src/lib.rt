@@ -1,16 +1,16 @@
-// Writing the message of a record to a buffer. `write` and `write_bare` are public only for the crate above, which proves what they require.
+// Writing the message of a record to a buffer. `write` is public only for the crate above, which proves what it requires.
 use ballots::Ballot;
-use spelling::put16;
-use spelling::put32;
-ghost use mathlib.Core.List.{[], _++_};
+use numbers::put16;
+use numbers::put32;
+use spelling::head_size;
 ghost use mathlib.Core.Path.{_≡_};
 ghost use Prim.Native.Nat.{_+_, _*_, _<_, _≤_};
-ghost use lib.ListN.{length, take, drop};
+ghost use lib.ListN.{length, take};
 ghost use lib.Seq.{sets};
 ghost use Rattle.ballots.specs.Ballots.{tailOf};
-ghost use Rattle.spelling.specs.Numbers.{bytes16, bytes32, run};
-ghost use Rattle.spelling.specs.Spelling.{headBytes, logRecord, ballotBytes, endBytes};
-ghost use Rattle.writer.specs.Written.{messageOf, writtenLength, writtenBytes, Writable};
+ghost use Rattle.numbers.specs.Numbers.{bytes16, bytes32, run};
+ghost use Rattle.spelling.specs.Spelling.{headBytes, headSize, logRecord, ballotBytes, endBytes};
+ghost use Rattle.writer.specs.Written.{frontBytes, messageOf, Writable, Writes};
 
 // One log record at a position. The value goes first: its four stores then become one.
 fn put_record(out: &mut [u8], at: usize, value: u32)
@@ -35,30 +35,13 @@ fn put_log(out: &mut [u8], at: usize, log: &[u32], k: usize) -> usize
     p
 }
 
-// Four of the values, from place i on, at a position.
-fn put_four(out: &mut [u8], at: usize, values: &[u32], i: usize)
-    requires { ⌜ (i + 4 ≤ length (now values)) × (at + 16 ≤ length (now out)) ⌝ }
-    ensures { λ _. ⌜ now (out .exit) ≡ sets (now (out .entry)) at (run bytes32 (take 4 (drop i (now (values .entry))))) ⌝ }
-{
-    put32(out, at, values[i]);
-    put32(out, at + 4, values[i + 1]);
-    put32(out, at + 8, values[i + 2]);
-    put32(out, at + 12, values[i + 3]);
-}
-
-// The first k values, four bytes each, from a position on; the position after them. They go by fours, since a jump for each costs as much
-// as the store, and then what is left.
+// The first k values, four bytes each, from a position on; the position after them.
 fn put_values(out: &mut [u8], at: usize, values: &[u32], k: usize) -> usize
     requires { ⌜ (k ≤ length (now values)) × (at + 4 * k ≤ length (now out)) ⌝ }
     ensures { λ r. ⌜ (r ≡ at + 4 * k) × (now (out .exit) ≡ sets (now (out .entry)) at (run bytes32 (take k (now (values .entry))))) ⌝ }
 {
     let mut p = at;
-    let fours = k / 4;
-    for i in 0..fours {
-        put_four(out, p, values, 4 * i);
-        p += 16;
-    }
-    for i in 4 * fours..k {
+    for i in 0..k {
         put32(out, p, values[i]);
         p += 4;
     }
@@ -97,8 +80,8 @@ fn put_ballot(out: &mut [u8], at: usize, o: usize, b: Ballot) -> usize
 
 // The head, at the start of the buffer; the position after it.
 fn put_head(out: &mut [u8], sender: usize, n: usize, weights: [u16; 8], settled: usize) -> usize
-    requires { ⌜ (n ≤ 8) × ((sender < 256) × ((settled ≤ 1024) × (6 + 2 * n ≤ length (now out)))) ⌝ }
-    ensures { λ r. ⌜ (r ≡ 6 + 2 * n) × (now (out .exit) ≡ sets (now (out .entry)) 0 (headBytes sender n (take n weights) settled)) ⌝ }
+    requires { ⌜ (n ≤ 8) × ((sender < 256) × ((settled ≤ 1024) × (headSize n ≤ length (now out)))) ⌝ }
+    ensures { λ r. ⌜ (r ≡ headSize n) × (now (out .exit) ≡ sets (now (out .entry)) 0 (headBytes sender n (take n weights) settled)) ⌝ }
 {
     out[0] = 0x53;
     out[1] = 0x48;
@@ -118,8 +101,8 @@ fn put_front(
     log: &[u32],
     settled: usize,
 ) -> usize
-    requires { ⌜ (n ≤ 8) × ((sender < 256) × ((settled ≤ 1024) × ((settled ≤ length (now log)) × (6 + 2 * n + 6 * settled ≤ length (now out))))) ⌝ }
-    ensures { λ r. ⌜ (r ≡ 6 + 2 * n + 6 * settled) × (now (out .exit) ≡ sets (now (out .entry)) 0 (headBytes sender n (take n weights) settled ++ run logRecord (take settled (now (log .entry))))) ⌝ }
+    requires { ⌜ (n ≤ 8) × ((sender < 256) × ((settled ≤ 1024) × ((settled ≤ length (now log)) × (headSize n + 6 * settled ≤ length (now out))))) ⌝ }
+    ensures { λ r. ⌜ (r ≡ headSize n + 6 * settled) × (now (out .exit) ≡ sets (now (out .entry)) 0 (frontBytes sender n weights (now (log .entry)) settled)) ⌝ }
 {
     let h = put_head(out, sender, n, weights, settled);
     put_log(out, h, log, settled)
@@ -159,9 +142,9 @@ pub fn write(
     out: &mut [u8],
 ) -> usize
     requires { ⌜ Writable sender n (now log) settled ballots ⌝ }
-    ensures { λ r. ⌜ (r ≡ writtenLength (messageOf sender n weights (now (log .entry)) settled ballots) (now (out .entry))) × (now (out .exit) ≡ writtenBytes (messageOf sender n weights (now (log .entry)) settled ballots) (now (out .entry))) ⌝ }
+    ensures { λ r. ⌜ Writes (messageOf sender n weights (now (log .entry)) settled ballots) (now (out .entry)) r (now (out .exit)) ⌝ }
 {
-    let mut size: usize = 8 + 2 * n + 6 * settled;
+    let mut size = head_size(n) + 6 * settled + 2;
     for o in 0..n {
         let b = ballots[o];
         size += ballot_size(o, b);
@@ -176,25 +159,4 @@ pub fn write(
     }
     put_end(out, p);
     size
-}
-
-// Writes the message of a record without ballots, as `write` does one with them.
-pub fn write_bare(
-    sender: usize,
-    n: usize,
-    weights: [u16; 8],
-    log: &[u32],
-    settled: usize,
-    out: &mut [u8],
-) -> usize
-    requires { ⌜ Writable sender n (now log) settled [] ⌝ }
-    ensures { λ r. ⌜ (r ≡ writtenLength (messageOf sender n weights (now (log .entry)) settled []) (now (out .entry))) × (now (out .exit) ≡ writtenBytes (messageOf sender n weights (now (log .entry)) settled []) (now (out .entry))) ⌝ }
-{
-    let length: usize = 8 + 2 * n + 6 * settled;
-    if out.len() < length {
-        return 0;
-    }
-    let p = put_front(out, sender, n, weights, log, settled);
-    put_end(out, p);
-    length
 }

@@ -4,8 +4,8 @@ use Prim.Native.Nat.{_+_, _-_}
 use lib.Dec.{leb}
 use borrow.Author.Tests.{lt-ltb, le-ltb, le-leb, leb-true, lt-leb}
 use borrow.Author.Needs.{needs}
-use Rattle.protocol.specs.Tests.{both, pick}
-use Rattle.entries.proofs.Carries.{alike}
+use Rattle.lists.proofs.Tests.{alike}
+use Rattle.lists.specs.Tests.{both, pick}
 use Rattle.ballots.specs.Fours.{fitsAt}
 use Rattle.ballots.proofs.fits.Statement.{statement}
 use Rattle.ballots.proofs.fits.Tie as tie

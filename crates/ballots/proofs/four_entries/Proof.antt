@@ -6,11 +6,11 @@ use Prim.Native.Nat.{ℕ, _+_, _-_, _<_, _≤_}
 use mathlib.Core.List.{List}
 use lib.Bits.{bitOr}
 use lib.ListN.{length, getD}
-use Rattle.protocol.specs.Tests.{allB, both}
+use Rattle.lists.specs.Tests.{allB, both}
 use Rattle.protocol.specs.Entry.{isEntry}
 use Rattle.entries.specs.Carries.{noCarry}
 use Rattle.entries.proofs.Carries.{no-carry-zero, raised-next}
-use Rattle.entries.proofs.Walk.{AllWith, with-done}
+use Rattle.lists.proofs.Walk.{AllWith, with-done}
 use Rattle.ballots.specs.Fours.{entryCells}
 use Rattle.ballots.specs.declared.Ballot.{Ballot}
 use Rattle.ballots.proofs.Fours.{entry-cells, four-tests}

@@ -4,7 +4,7 @@ use mathlib.Core.Path.{_≡_, refl, sym, ap, _∙_}
 use native.Mathlib.Omega.{arith}
 use lib.ListN.{length, getD, replicate, set}
 use borrow.Author.Needs.{needs}
-use Rattle.entries.proofs.Fill.{filled, front-step, fill-rest}
+use Rattle.lists.proofs.Fill.{filled, front-step, fill-rest}
 use Rattle.ballots.specs.Fours.{maskWords}
 use Rattle.ballots.proofs.Fours.{mask-length, mask-used}
 use Rattle.ballots.proofs.masks.Statement.{statement}

@@ -5,8 +5,8 @@ use mathlib.Core.Path.{_≡_, refl}
 use Prim.Native.Nat.{_-_, _≤_}
 use lib.Dec.{eqb}
 use lib.ListN.{length}
-use Rattle.protocol.specs.Tests.{allB, both}
-use Rattle.entries.proofs.Walk.{AllWith, with-next, with-done}
+use Rattle.lists.specs.Tests.{allB, both}
+use Rattle.lists.proofs.Walk.{AllWith, with-next, with-done}
 use Rattle.ballots.proofs.zero_cells.Statement.{statement}
 use Rattle.ballots.proofs.zero_cells.Tie as tie
 

@@ -3,10 +3,10 @@ use borrow.Author.Needs.{needs}
 use mathlib.Core.Path.{_∙_}
 use Prim.Native.Nat.{_-_, _≤_}
 use lib.ListN.{length}
-use Rattle.protocol.specs.Tests.{allB, both}
+use Rattle.lists.specs.Tests.{allB, both}
 use Rattle.protocol.specs.Entry.{isEntry}
 use Rattle.entries.specs.Carries.{noCarry}
-use Rattle.entries.proofs.Walk.{AllWith, with-done}
+use Rattle.lists.proofs.Walk.{AllWith, with-done}
 use Rattle.entries.proofs.Carries.{no-carry-zero, raised-next}
 use Rattle.entries.proofs.all_entries.Statement.{statement}
 use Rattle.entries.proofs.all_entries.Tie as tie

@@ -6,7 +6,7 @@ use native.Mathlib.Omega.{arith}
 use lib.ListN.{length, take}
 use lib.Seq.{take-length}
 use Rattle.protocol.specs.Frames.{lastCode}
-use Rattle.entries.proofs.Walk.{four-past, word-here, word-past}
+use Rattle.entries.proofs.LastCode.{four-past, word-here, word-past}
 use Rattle.entries.proofs.last_code.Statement.{statement}
 use Rattle.entries.proofs.last_code.Tie as tie
 

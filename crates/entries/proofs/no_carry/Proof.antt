@@ -1,6 +1,6 @@
 -- The three tests of the definition, all of them made.
 use Rattle.entries.specs.Carries.{noCarry}
-use Rattle.entries.proofs.Walk.{and-both}
+use Rattle.lists.proofs.Walk.{and-both}
 use Rattle.entries.proofs.no_carry.Statement.{statement}
 use Rattle.entries.proofs.no_carry.Tie as tie
 

@@ -1,7 +1,7 @@
 -- The two cases of the definition.
 use borrow.Author.Needs.{needs}
 use borrow.Author.Tests.{lt-leb, le-leb}
-use Rattle.protocol.specs.Tests.{pick}
+use Rattle.lists.specs.Tests.{pick}
 use Rattle.entries.proofs.offices.Statement.{statement}
 use Rattle.entries.proofs.offices.Tie as tie
 

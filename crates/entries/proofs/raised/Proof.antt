@@ -4,7 +4,7 @@ use native.Mathlib.Omega.{arith}
 use mathlib.Core.Path.{_≡_, ap, _∙_}
 use Prim.Native.Nat.{ℕ, _+_, _-_, _*_, _/_, _%_}
 use lib.Dec.{leb}
-use Rattle.protocol.specs.Tests.{pick}
+use Rattle.lists.specs.Tests.{pick}
 use Rattle.entries.specs.Carries.{raised, noCarry}
 use Rattle.entries.proofs.Carries.{at-most-256, no-carry-raised}
 use Rattle.entries.proofs.raised.Statement.{statement}

@@ -7,10 +7,16 @@ use Rattle.intake.proofs.comparable.Statement.{statement}
 use Rattle.intake.proofs.comparable.Tie as tie
 
 returns : tie.Need-returns
-returns c = let a = c .before .before .before .before .args in c .same-log .ensures ∙ decides-own (a .log .now) (a .rest .now) (a .settled) (a .k) (c .before .before .before .before .pre .0) (omega arith)
+returns c =
+    let s = c .before .before .before .before in
+    let a = s .args in
+    c .same-log .ensures ∙ decides-own (a .log .now) (a .rest .now) (a .settled) (a .k) (s .pre .0) (omega arith)
 
 returns-2 : tie.Need-returns-2
-returns-2 c = let a = c .before .before .before .before .args in c .same-log2 .ensures ∙ decides-theirs (a .log .now) (a .rest .now) (a .settled) (a .k) (c .before .before .before .before .pre .0) (omega arith)
+returns-2 c =
+    let s = c .before .before .before .before in
+    let a = s .args in
+    c .same-log2 .ensures ∙ decides-theirs (a .log .now) (a .rest .now) (a .settled) (a .k) (s .pre .0) (omega arith)
 
 pub comparable-spec : {M : Type 1} → statement M
 comparable-spec = tie.close (tie.spec (λ c κs. search needs) returns (λ c κs. search needs) returns-2)

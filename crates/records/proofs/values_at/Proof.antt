@@ -3,9 +3,9 @@ use Prim.Native.Nat.{_-_}
 use mathlib.Core.Path.{_∙_}
 use lib.ListN.{replicate}
 use borrow.Author.Needs.{needs}
-use Rattle.spelling.specs.Numbers.{be32}
-use Rattle.spelling.proofs.Runs.{runAt-length}
-use Rattle.spelling.proofs.Steps.{Filling, filling-again, filling-begins, filling-ends}
+use Rattle.numbers.specs.Numbers.{be32}
+use Rattle.numbers.proofs.Runs.{runAt-length}
+use Rattle.numbers.proofs.Steps.{Filling, filling-again, filling-begins, filling-ends}
 use Rattle.records.proofs.values_at.Statement.{statement}
 use Rattle.records.proofs.values_at.Tie as tie
 

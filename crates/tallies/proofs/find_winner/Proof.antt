@@ -29,13 +29,13 @@ vote-wins-requires : tie.Need-vote-wins-requires Inv-loop μ-loop
 vote-wins-requires c κs = let s = c .before .before .before in let a = s .args in let u = c .before .before .weight-for in (s .pre, u .ensures .0 ∙ weight-none (a .weights) (votesIn (a .t1)) noVote refl, u .ensures .1)
 
 returns : tie.Need-returns Inv-loop μ-loop
-returns c = let l = c .before .before .before .loop in let a = c .before .before .before .before .before .args in let h = fits (c .before .before .before .before .before) in winner-stop _ (votesIn (a .t1)) (a .weights) (a .t1) (a .weights) (l .i) (l .inv .1) (omega arith) (omega arith) (sym (c .before .vote-wins .ensures) ∙ c .if1 .taken)
+returns c = let l = c .before .before .before .loop in let a = c .before .before .before .before .before .args in let h = fits (c .before .before .before .before .before) in winner-stop ltb _ (votesIn (a .t1)) (a .weights) (a .t1) (a .weights) (l .i) (l .inv .1) (omega arith) (omega arith) (sym (c .before .vote-wins .ensures) ∙ c .if1 .taken)
 
 loop-again : tie.Need-loop-again Inv-loop μ-loop
-loop-again c = let l = c .before .before .before .loop in let a = c .before .before .before .before .before .args in let h = fits (c .before .before .before .before .before) in (omega arith, winner-next _ (votesIn (a .t1)) (a .weights) (a .t1) (a .weights) (l .i) (l .inv .1) (omega arith) (omega arith) (sym (c .before .vote-wins .ensures) ∙ c .if1 .left))
+loop-again c = let l = c .before .before .before .loop in let a = c .before .before .before .before .before .args in let h = fits (c .before .before .before .before .before) in (omega arith, winner-next ltb _ (votesIn (a .t1)) (a .weights) (a .t1) (a .weights) (l .i) (l .inv .1) (omega arith) (omega arith) (sym (c .before .vote-wins .ensures) ∙ c .if1 .left))
 
 returns-2 : tie.Need-returns-2 Inv-loop μ-loop
-returns-2 c = let l = c .before .loop in let s = c .before .before .before in let a = s .args in winner-done _ (votesIn (a .t1)) (a .weights) (a .t1) (a .weights) (l .i) (l .inv .1) (a .n) (s .pre) (omega arith)
+returns-2 c = let l = c .before .loop in let s = c .before .before .before in let a = s .args in winner-done ltb _ (votesIn (a .t1)) (a .weights) (a .t1) (a .weights) (l .i) (l .inv .1) (a .n) (s .pre) (omega arith)
 
 pub find-winner-spec : {M : Type 1} → statement M
 find-winner-spec =

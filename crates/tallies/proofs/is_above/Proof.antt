@@ -1,4 +1,5 @@
 -- One branch for each side of the two comparisons.
+use borrow.Author.Needs.{needs}
 use borrow.Author.Tests.{le-ltb, lt-ltb, eq-eqb, ne-eqb}
 use Rattle.tallies.proofs.is_above.Statement.{statement}
 use Rattle.tallies.proofs.is_above.Tie as tie
@@ -10,7 +11,7 @@ returns-2 : tie.Need-returns-2
 returns-2 c = simp (le-ltb _ _ (c .before .if1 .left), ne-eqb _ _ (c .if2 .taken))
 
 returns-3 : tie.Need-returns-3
-returns-3 c = simp (le-ltb _ _ (c .before .if1 .left), eq-eqb _ _ (c .if2 .left))
+returns-3 c = simp (le-ltb _ _ (c .before .before .if1 .left), eq-eqb _ _ (c .before .if2 .left)) (c .is-before .ensures)
 
 pub is-above-spec : {M : Type 1} → statement M
-is-above-spec = tie.close (tie.spec returns returns-2 returns-3)
+is-above-spec = tie.close (tie.spec returns returns-2 (λ c κs. search needs) returns-3)

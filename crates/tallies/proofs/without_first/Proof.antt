@@ -4,7 +4,7 @@ use mathlib.Core.Path.{_≡_, refl}
 use Prim.Native.Nat.{_-_, _≤_}
 use lib.ListN.{length, drop, replicate}
 use borrow.Author.Needs.{needs}
-use Rattle.entries.proofs.Fill.{filled}
+use Rattle.lists.proofs.Fill.{filled}
 use Rattle.tallies.proofs.Cells.{moved-step, moved-end, without-first-is}
 use Rattle.tallies.proofs.without_first.Statement.{statement}
 use Rattle.tallies.proofs.without_first.Tie as tie

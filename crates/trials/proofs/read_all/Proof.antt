@@ -1,4 +1,4 @@
--- The turns that are left are the measure; the buffers keep their lengths.
+-- The turns that are left are the measure; the line keeps its length.
 use borrow.Author.Needs.{needs}
 use mathlib.Core.Path.{_≡_}
 use lib.ListN.{length}
@@ -6,13 +6,11 @@ use Rattle.trials.proofs.read_all.Statement.{statement}
 use Rattle.trials.proofs.read_all.Tie as tie
 
 abbrev Inv-loop : tie.InvT-loop
-Inv-loop log₀ output₀ message₀ progress₀ turns₀ log output message progress turns = (length log ≡ length log₀) × (length output ≡ length output₀) × (length message ≡ length message₀)
+Inv-loop book₀ line₀ turns₀ book line turns = length line ≡ length line₀
 
 abbrev μ-loop : tie.MeasureT-loop
-μ-loop log₀ output₀ message₀ progress₀ turns₀ log output message progress turns = turns
+μ-loop book₀ line₀ turns₀ book line turns = turns
 
 pub read-all-spec : {M : Type 1} → statement M
 read-all-spec =
-    tie.close (tie.spec Inv-loop μ-loop (λ c. search needs) (λ c κs. search needs) (λ c. search needs) (λ c. search needs) (λ c. search needs)
-    (λ c. search needs) (λ c. search needs) (λ c. search needs) (λ c. search needs) (λ c. search needs) (λ c. search needs) (λ c. search needs)
-    (λ c. search needs))
+    tie.close (tie.spec Inv-loop μ-loop (λ c. search needs) (λ c κs. search needs) (λ c. search needs) (λ c κs. search needs) (λ c. search needs) (λ c κs. search needs) (λ c. search needs) (λ c. search needs) (λ c. search needs) (λ c. search needs) (λ c κs. search needs) (λ c. search needs) (λ c. search needs) (λ c. search needs) (λ c. search needs) (λ c. search needs))

@@ -8,11 +8,25 @@ use Rattle.writer.proofs.Whole.{head-stores}
 use Rattle.writer.proofs.put_head.Statement.{statement}
 use Rattle.writer.proofs.put_head.Tie as tie
 
-full : (c : tie.Start) → length (c .args .t4) ≡ 8
-full c = search needs
+-- the places of the code: the start, and where the weights are put
+abbrev weighed : tie.After-put16 → tie.After-put-weights
+weighed c = c .before .before .before .before
+
+abbrev start : tie.After-put-weights → tie.Start
+start c = c .before .before .before .before
+
+full : (s : tie.Start) → length (s .args .t4) ≡ 8
+full s = search needs
 
 returns : tie.Need-returns
-returns c = (omega arith, c .before .before .put16 .ensures ∙ rw (c .before .before .before .before .before .before .put-weights .ensures .1, c .before .before .before .before .before .before .put-weights .ensures .0) (head-stores (c .before .before .before .before .before .before .before .before .before .before .args .sender) (c .before .before .before .before .before .before .before .before .before .before .args .n) _ (c .before .before .before .before .before .before .before .before .before .before .args .settled) (c .before .before .before .before .before .before .before .before .before .before .args .out .now) (length-take-le (c .before .before .before .before .before .before .before .before .before .before .args .n) (c .before .before .before .before .before .before .before .before .before .before .args .t4) (omega (arith, full (c .before .before .before .before .before .before .before .before .before .before))))))
+returns c =
+    let p = c .before .before in
+    let w = weighed p in
+    let s = start w in
+    let a = s .args in (
+      omega arith,
+      head-stores (a .sender) (a .n) _ (a .settled) (a .out .now) (length-take-le (a .n) (a .t4) (omega (arith, full s))) (w .put-weights .ensures .0) (w .put-weights .ensures .1) (p .put16 .ensures),
+    )
 
 pub put-head-spec : {M : Type 1} → statement M
 put-head-spec =
@@ -21,4 +35,4 @@ put-head-spec =
     (λ c. simp length-set (omega arith)) (λ c. search needs) (λ c κs. simp length-set (omega arith)) (λ c. search needs)
     (λ c κs. omega (arith, simp length-set at (c .before .before .before .put-weights .kept .0), c .before .before .before .put-weights .ensures .0))
     (λ c. search needs)
-    (λ c. c .before .before .put16 .kept .0 ∙ (c .before .before .before .before .before .before .put-weights .kept .0 ∙ simp length-set)) returns)
+    (λ c. c .before .before .put16 .kept .0 ∙ (weighed (c .before .before) .put-weights .kept .0 ∙ simp length-set)) returns)

@@ -5,7 +5,7 @@ use native.Mathlib.Omega.{arith}
 use borrow.Author.Needs.{needs}
 use Rattle.spelling.specs.Spelling.{logRecord}
 use Rattle.spelling.proofs.Items.{recordItem}
-use Rattle.spelling.proofs.Steps.{Storing, storing-again, storing-ends}
+use Rattle.numbers.proofs.Steps.{Storing, storing-again, storing-ends}
 use Rattle.writer.proofs.put_log.Statement.{statement}
 use Rattle.writer.proofs.put_log.Tie as tie
 
@@ -15,19 +15,30 @@ Inv-loop out₀ at log k p₀ i₀ out p i = Storing 6 logRecord out₀ at log k
 abbrev μ-loop : tie.MeasureT-loop
 μ-loop out₀ at log k p₀ i₀ out p i = k - i
 
+-- the places of the code: the start, and the turn of the loop
+abbrev start : tie.At-loop Inv-loop μ-loop → tie.Start Inv-loop μ-loop
+start c = c .before .before .before
+
+abbrev turn : tie.After-put-record Inv-loop μ-loop → tie.In-loop Inv-loop μ-loop
+turn c = c .before .before .before
+
 loop-again : tie.Need-loop-again Inv-loop μ-loop
 loop-again c =
-    let a = c .before .before .before .before .before .before .before .before .before .args in let l = c .before .before .before .before .before .before .loop in let put = c .before .before .put-record in
-    storing-again 6 logRecord (recordItem 0 (omega arith) .wide) (a .out .now) (a .at) (a .log .now) (a .k) (l .out) (l .p) (l .i) (l .inv)
-    (put .last .0) (c .before .before .before .before .before .loop-test .taken) (c .before .before .before .before .before .before .before .before .before .pre .0) (put .kept .0) (put .ensures)
+    let t = turn (c .before .before) in
+    let s = start (t .before) in
+    let l = t .before .loop in
+    let put = c .before .before .put-record in
+    storing-again 6 logRecord (recordItem .wide) (s .args .out .now) (s .args .at) (s .args .log .now) (s .args .k) (l .out) (l .p) (l .i) (l .inv)
+    (put .last .0) (t .loop-test .taken) (s .pre .0) (put .kept .0) (put .ensures)
 
 returns : tie.Need-returns Inv-loop μ-loop
 returns c =
-    let a = c .before .before .before .before .args in let l = c .before .loop in
-    storing-ends 6 logRecord (recordItem 0 (omega arith) .wide) (a .out .now) (a .at) (a .log .now) (a .k) (l .out) (l .p) (l .i) (l .inv) (c .loop-test .left)
+    let a = start (c .before) .args in
+    let l = c .before .loop in
+    storing-ends 6 logRecord (recordItem .wide) (a .out .now) (a .at) (a .log .now) (a .k) (l .out) (l .p) (l .i) (l .inv) (c .loop-test .left)
 
 pub put-log-spec : {M : Type 1} → statement M
 put-log-spec =
     tie.close
     (tie.spec Inv-loop μ-loop (λ c. (search needs, (search needs, (refl, refl)))) (λ c. search needs) (λ c. omega arith) (λ c κs. omega arith)
-    (λ c. omega (arith, c .before .before .before .before .before .before .before .before .before)) (λ c. omega arith) (λ c. omega arith) loop-again (λ c. c .before .loop .inv .1 .1 .0) returns)
+    (λ c. omega (arith, start (turn (c .before .before) .before))) (λ c. omega arith) (λ c. omega arith) loop-again (λ c. c .before .loop .inv .1 .1 .0) returns)

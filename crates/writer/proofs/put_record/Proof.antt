@@ -11,4 +11,4 @@ put-record-spec =
     tie.close
     (tie.spec (λ c. search needs) (λ c κs. search needs) (λ c. search needs) (λ c. search needs)
     (λ c. let k = c .before .before .put32 .kept .0 in simp length-set (omega (arith, k))) (λ c. search needs)
-    (λ c. let a = c .before .before .before .before .before .args in value-first (a .out .now) (c .before .before .put32 .last .0) (a .at) (a .value) (c .before .before .put32 .ensures)))
+    (λ c. let p = c .before .before in let a = p .before .before .before .args in value-first (a .out .now) (p .put32 .last .0) (a .at) (a .value) (p .put32 .ensures)))

@@ -3,8 +3,8 @@ use mathlib.Core.Path.{_≡_}
 use lib.ListN.{length}
 use borrow.Author.Tests.{eq-eqb}
 use borrow.Author.Needs.{needs}
-use Rattle.protocol.specs.Tests.{both}
-use Rattle.entries.proofs.Walk.{and-both}
+use Rattle.lists.specs.Tests.{both}
+use Rattle.lists.proofs.Walk.{and-both}
 use Rattle.ballots.specs.Ballots.{emptyBallot}
 use Rattle.ballots.proofs.Ballot.is_none.Statement.{statement}
 use Rattle.ballots.proofs.Ballot.is_none.Tie as tie

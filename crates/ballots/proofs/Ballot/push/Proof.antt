@@ -1,6 +1,6 @@
 -- A full ballot comes back as it was; otherwise the cell behind the tail is written and the length rises by one.
 use borrow.Author.Tests.{le-ltb, lt-ltb}
-use Rattle.protocol.specs.Tests.{pick}
+use Rattle.lists.specs.Tests.{pick}
 use Rattle.ballots.specs.Ballots.{pushed}
 use borrow.Author.Needs.{needs}
 use Rattle.ballots.proofs.Ballot.push.Statement.{statement}

@@ -1,17 +1,58 @@
--- Without ballots nothing is settled; else the steps are run. The array has eight ballots by its type.
-use mathlib.Core.Path.{_≡_, sym, _∙_}
+-- A run of steps: the state that is left elects the same, and the words behind the settled log are as they were.
+use native.Mathlib.Omega.{arith}
+use mathlib.Core.Path.{_≡_, sym, ap, _∙_}
+use mathlib.Core.Bool.{true}
+use Prim.Native.Nat.{_+_, _-_, _<_}
 use lib.ListN.{length}
+use borrow.Author.Tests.{not-true, not-false}
 use borrow.Author.Needs.{needs}
-use Rattle.protocol.proofs.Tests.{length-mapped}
-use Rattle.frame.proofs.Elect.{elect-quiet}
+use Rattle.frame.specs.Soundness.{soundB}
+use Rattle.frame.specs.declared.Record.{Record}
+use Rattle.frame.proofs.Sound.{sound}
+use Rattle.frame.proofs.Elect.{Running, run-start, run-more, run-last, run-end, elect-unsound}
 use Rattle.frame.proofs.Record.elect.Statement.{statement}
 use Rattle.frame.proofs.Record.elect.Tie as tie
 
-eight : (s : tie.Start) → length (s .args .self .ballots) ≡ 8
-eight s = search (needs, length-mapped)
+abbrev Inv-loop : tie.InvT-loop
+Inv-loop log₀ start now₀ log now = Running now₀ log₀ now log
 
-returns : tie.Need-returns
-returns c = elect-quiet _ _ (sym (c .before .quiet .ensures) ∙ c .if1 .taken) (eight (c .before .before .before .before .before .before))
+abbrev μ-loop : tie.MeasureT-loop
+μ-loop log₀ start now₀ log now = 1024 - now .settled
+
+-- a record that passed the test is sound
+abbrev start : tie.Else1 Inv-loop μ-loop → tie.Start Inv-loop μ-loop
+start c = c .before .before .before .before
+
+sounds : (c : tie.Else1 Inv-loop μ-loop) → let a = start c .args in soundB (a .self) (a .log .now) ≡ true
+sounds c = sym (c .before .sound .ensures) ∙ not-false _ (c .if1 .left)
+
+-- the places of the code: the step before the test of its result
+abbrev stepped : tie.Else2 Inv-loop μ-loop → tie.After-step Inv-loop μ-loop
+stepped c = c .before .before .before .before
+
+abbrev stepped-last : tie.Then2 Inv-loop μ-loop → tie.After-step Inv-loop μ-loop
+stepped-last c = c .before .before .before .before
+
+-- what a step leaves: a run one entry longer, or the same record and words
+more : (c : tie.Else2 Inv-loop μ-loop)
+    → let x = stepped c in let a = start (x .before .before .before) .args in let l = x .before .before .loop in Running (a .self) (a .log .now) (x .step .result) (x .step .last .1 .0) × (x .step .result .settled ≡ l .now .settled + 1) × (l .now .settled < 1024)
+more c = let x = stepped c in run-more _ _ _ _ (x .before .before .loop .inv) _ (x .step .ensures .0) _ (x .step .ensures .1) (c .if2 .left)
+
+last : (c : tie.Then2 Inv-loop μ-loop) → let x = stepped-last c in let l = x .before .before .loop in (x .step .result ≡ l .now) × (x .step .last .1 .0 ≡ l .log)
+last c = let x = stepped-last c in let m = run-last _ _ _ _ (x .before .before .loop .inv) _ (x .step .ensures .0) _ (x .step .ensures .1) (c .if2 .taken) in (m .0, m .1)
+
+returns : tie.Need-returns Inv-loop μ-loop
+returns c = elect-unsound _ _ (sym (c .before .sound .ensures) ∙ not-true _ (c .if1 .taken))
+
+sub-count : tie.Need-sub-count Inv-loop μ-loop
+sub-count c = omega (arith, ap (λ (r : Record). r .settled) (last (c .before) .0), stepped-last (c .before) .before .before .loop .inv .grown)
+
+returns-2 : tie.Need-returns-2 Inv-loop μ-loop
+returns-2 c = let t = c .before in let x = stepped-last t in run-end _ _ _ _ (x .before .before .loop .inv) _ (x .step .ensures .0) _ (x .step .ensures .1) (sounds (x .before .before .before)) (t .if2 .taken)
 
 pub elect-spec : {M : Type 1} → statement M
-elect-spec = tie.close (tie.spec (λ c κs. search needs) (λ c. search needs) returns (λ c κs. search needs) (λ c. search needs) (λ c. search needs))
+elect-spec =
+    tie.close
+    (tie.spec Inv-loop μ-loop (λ c κs. search needs) (λ c. search needs) returns (λ c. run-start _ _ (sound _ _ (sounds c))) (λ c κs. c .before .loop .inv .sound)
+    (λ c. let m = more c in omega arith) (λ c. more c .0) sub-count
+    (λ c. ap length (last (c .before) .1) ∙ stepped-last (c .before) .before .before .loop .inv .long) returns-2)

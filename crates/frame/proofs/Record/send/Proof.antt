@@ -1,31 +1,40 @@
--- Without ballots the message without them is the record's; else the ballots are walked. The array has eight ballots by its type.
-use mathlib.Core.Path.{_≡_, sym, _∙_}
-use lib.ListN.{length}
+-- Soundness is tested once; what the writer requires is in every sound record.
+use mathlib.Core.Path.{sym, _∙_}
 use borrow.Author.Needs.{needs}
-use Rattle.protocol.proofs.Tests.{both-0, length-mapped}
+use borrow.Author.Tests.{not-true, not-false}
 use Rattle.frame.specs.Soundness.{Sound}
-use Rattle.frame.proofs.Front.{quiet-sound}
-use Rattle.frame.proofs.Send.{bare-writable, send-bare}
+use Rattle.frame.proofs.Send.{send-unsound, send-short, send-done, writable}
 use Rattle.frame.proofs.Sound.{sound}
 use Rattle.frame.proofs.Record.send.Statement.{statement}
 use Rattle.frame.proofs.Record.send.Tie as tie
 
-eight : (s : tie.Start) → length (s .args .self .ballots) ≡ 8
-eight s = search (needs, length-mapped)
+abbrev start : tie.Else1 → tie.Start
+start c = c .before .before .before .before
 
-passed : (c : tie.Then1) → let a = c .before .before .before .before .before .before .args in Sound (a .self) (a .log .now)
-passed c = sound _ _ (quiet-sound _ _ (sym (c .before .quiet .ensures) ∙ c .if1 .taken) (eight (c .before .before .before .before .before .before)))
+passed : (c : tie.Else1) → let a = start c .args in Sound (a .self) (a .log .now)
+passed c = sound _ _ (sym (c .before .sound .ensures) ∙ not-false _ (c .if1 .left))
 
 returns : tie.Need-returns
-returns c =
-    let t = c .before .before .before .before .before in
-    let a = t .before .before .before .before .before .before .args in
-    let w = c .before .before .before .write-bare .ensures in
-    let done = send-bare (a .self) (a .log .now) (passed t) (both-0 _ _ (sym (t .before .quiet .ensures) ∙ t .if1 .taken)) (a .out .now) (w .0) (w .1) in
-    (c .answer .ensures ∙ done .0, done .1)
+returns c = let a = c .before .before .before .before .args in send-unsound (a .self) (a .log .now) (a .out .now) (sym (c .before .sound .ensures) ∙ not-true _ (c .if1 .taken))
+
+-- behind the writer
+abbrev tested : tie.After-write → tie.Else1
+tested c = c .before .before .before .before
+
+returns-2 : tie.Need-returns-2
+returns-2 c =
+    let w = c .before .before .before in
+    let a = start (tested w) .args in
+    send-short (a .self) (a .log .now) (passed (tested w)) (a .out .now) (w .write .ensures .0) (w .write .ensures .1) (c .if2 .taken)
+
+returns-3 : tie.Need-returns-3
+returns-3 c =
+    let w = c .before .before .before in
+    let a = start (tested w) .args in
+    send-done (a .self) (a .log .now) (passed (tested w)) (a .out .now) (w .write .ensures .0) (w .write .ensures .1) (c .if2 .left)
 
 pub send-spec : {M : Type 1} → statement M
 send-spec =
     tie.close
-    (tie.spec (λ c κs. search needs) (λ c κs. bare-writable _ _ (passed (c .before))) (λ c κs. search needs) (λ c. search needs) returns
-    (λ c κs. search needs) (λ c. search needs) (λ c. search needs))
+    (tie.spec (λ c κs. search needs) returns (λ c κs. writable _ _ (passed (c .before .before .before))) (λ c. search needs) returns-2 (λ c. search needs)
+    returns-3)

@@ -2,7 +2,7 @@
 use mathlib.Core.Path.{sym, _∙_}
 use borrow.Author.Tests.{not-true, not-false}
 use borrow.Author.Needs.{needs}
-use Rattle.protocol.specs.Tests.{pick}
+use Rattle.lists.specs.Tests.{pick}
 use Rattle.frame.proofs.Sound.{sound}
 use Rattle.frame.proofs.State.{log-length}
 use Rattle.frame.specs.Settling.{settledOf, settledNumber}

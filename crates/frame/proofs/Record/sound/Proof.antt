@@ -1,17 +1,12 @@
--- Without ballots the front decides; else all of it is tested. The array has eight ballots by its type.
-use mathlib.Core.Path.{_≡_, sym, _∙_}
-use lib.ListN.{length}
+-- The definition is that of the fields.
+use Rattle.frame.specs.Soundness.{soundB}
 use borrow.Author.Needs.{needs}
-use Rattle.protocol.proofs.Tests.{length-mapped}
-use Rattle.frame.proofs.Front.{quiet-sound}
 use Rattle.frame.proofs.Record.sound.Statement.{statement}
 use Rattle.frame.proofs.Record.sound.Tie as tie
 
-eight : (s : tie.Start) → length (s .args .self .ballots) ≡ 8
-eight s = search (needs, length-mapped)
-
 returns : tie.Need-returns
-returns c = sym (quiet-sound _ _ (sym (c .before .quiet .ensures) ∙ c .if1 .taken) (eight (c .before .before .before .before .before)))
+unfolding soundB
+returns c = c .sound .ensures
 
 pub sound-spec : {M : Type 1} → statement M
-sound-spec = tie.close (tie.spec (λ c κs. search needs) returns (λ c κs. search needs) (λ c. search needs))
+sound-spec = tie.close (tie.spec (λ c κs. search needs) returns)

@@ -7,6 +7,7 @@ use mathlib.Core.Option.{some}
 use Prim.Native.Nat.{_+_, _-_, _≤_}
 use lib.ListN.{set}
 use borrow.Author.Needs.{needs}
+use Rattle.frame.specs.State.{withHeld}
 use Rattle.frame.specs.Electing.{winnerOf}
 use Rattle.frame.proofs.Elect.{winning, step-won, step-nobody}
 use Rattle.frame.proofs.Steps.{Gathered, Settling, withBallots, votes-step, votes-silent, won-by, won-nobody, shape-here, lost-first, lost-rival, lost-keep, next-turn, lost-end}
@@ -56,7 +57,7 @@ loop2-again c =
     let e = c .before .before .before .before .before .before .w .given .0 .0 in
     let l = c .before .before .before .before .loop2 in
     let bs = l .next .ballots in
-    let turn = next-turn (record { n = r .n; own = r .own; weights = r .weights; settled = r .settled + 1; ballots = r .ballots }) (l .next) (c .if1 .next) e (r .ballots) (l .i + 1) (l .inv .1) in
+    let turn = next-turn (withHeld r (r .settled + 1) (r .ballots)) (l .next) (c .if1 .next) e (r .ballots) (l .i + 1) (l .inv .1) in
     ⊎-elim
     (λ w. let t = turn (set bs (l .i) (w .3 .result)) (w .4) (lost-first r words (s .pre) e bs (l .i) (l .inv .2) (omega arith) (omega arith) (w .1 .result) (w .1 .ensures) (w .2 .taken) (w .3 .result) (w .3 .ensures)) in (omega arith, t .0, t .1))
     (⊎-elim

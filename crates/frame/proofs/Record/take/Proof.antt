@@ -1,19 +1,27 @@
--- Soundness is tested once; the rest is the call on a sound record.
+-- The number first; a refused call leaves all as it was.
+use mathlib.Core.Path.{_≡_, sym, _∙_}
 use borrow.Author.Needs.{needs}
-use mathlib.Core.Path.{refl, sym, _∙_}
-use borrow.Author.Tests.{not-true, not-false}
-use Rattle.frame.proofs.Sound.{sound}
-use Rattle.frame.proofs.Take.{take-refused, not-sound}
+use Rattle.frame.specs.Taking.{takeNumber}
+use Rattle.frame.proofs.Take.{take-refused, take-answer}
 use Rattle.frame.proofs.Record.take.Statement.{statement}
 use Rattle.frame.proofs.Record.take.Tie as tie
 
 returns : tie.Need-returns
-returns c = take-refused _ _ _ 1 (not-sound _ _ _ (sym (c .before .before .sound .ensures) ∙ not-true _ (c .before .if1 .taken))) refl _ (c .refused .ensures)
+returns c = let a = c .before .before .before .before .before .before .args in take-refused (a .self) (a .log .now) (a .msg .now) _ (c .before .take-number .ensures) (c .if1 .taken)
 
-take-sound-requires : tie.Need-take-sound-requires
-take-sound-requires c κs = sound _ _ (sym (c .before .before .sound .ensures) ∙ not-false _ (c .before .if1 .left))
+-- the number is 0
+done : (c : tie.Else1) → let a = c .before .before .before .before .before .before .args in takeNumber (a .self) (a .log .now) (a .msg .now) ≡ 0
+done c = sym (c .before .take-number .ensures) ∙ c .if1 .left
+
+returns-2 : tie.Need-returns-2
+returns-2 c =
+    let t = c .before .before in
+    let e = t .before .before in
+    let a = e .before .before .before .before .before .before .args in
+    (take-answer (a .self) (a .log .now) (a .msg .now) _ (done e) (t .take-accepted .ensures .0), t .take-accepted .ensures .1)
 
 pub take-spec : {M : Type 1} → statement M
 take-spec =
-    tie.close (tie.spec (λ c κs. search needs) (λ c κs. search needs) (λ c. search needs) returns take-sound-requires (λ c. search needs)
-    (λ c. search needs))
+    tie.close
+    (tie.spec (λ c κs. search needs) (λ c κs. c .before .read .ensures) (λ c. search needs) returns
+    (λ c κs. (done (c .before), c .before .before .before .before .read .ensures)) (λ c. search needs) returns-2)

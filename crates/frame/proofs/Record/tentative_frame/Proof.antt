@@ -1,33 +1,56 @@
--- Without ballots the own path is the settled log; else the own ballot is read.
+-- The refusals in the order of their numbers; then the last code in the settled log, and in the own tail behind it.
 use native.Mathlib.Omega.{arith}
 use mathlib.Core.Bool.{true}
 use mathlib.Core.Path.{_≡_, sym, ap, _∙_}
-use lib.ListN.{length}
+use mathlib.Core.List.{List, _++_}
+use Prim.Native.Nat.{ℕ}
+use lib.ListN.{getD, take}
+use lib.Seq.{length-take-le}
+use borrow.Author.Tests.{not-true, not-false}
 use borrow.Author.Needs.{needs}
-use Rattle.protocol.proofs.Tests.{both-0, length-mapped}
-use Rattle.frame.specs.Frames.{shownIn}
-use Rattle.frame.specs.Soundness.{soundB}
-use Rattle.frame.proofs.Front.{quiet-sound}
+use Rattle.protocol.specs.Frames.{lastCode}
+use Rattle.entries.proofs.LastCode.{last-append}
+use Rattle.ballots.specs.Ballots.{offEnd, tailOf}
+use Rattle.ballots.proofs.Laws.{Fine}
+use Rattle.frame.specs.Soundness.{Sound, soundB}
 use Rattle.frame.proofs.Sound.{sound}
-use Rattle.frame.proofs.State.{log-length}
-use Rattle.frame.proofs.Shown.{frame-shown, quiet-path}
+use Rattle.frame.proofs.State.{log-length, tail-at, ballot}
+use Rattle.frame.proofs.Shown.{frame-unsound, frame-shown, shown-past, shown-done}
 use Rattle.frame.proofs.Record.tentative_frame.Statement.{statement}
 use Rattle.frame.proofs.Record.tentative_frame.Tie as tie
 
-eight : (s : tie.Start) → length (s .args .self .ballots) ≡ 8
-eight s = search (needs, length-mapped)
+abbrev start : tie.Else1 → tie.Start
+start c = c .before .before .before
 
-passed : (c : tie.Then1) → soundB (c .before .before .before .before .before .args .self) (c .before .before .before .before .before .args .log .now) ≡ true
-passed c = quiet-sound _ _ (sym (c .before .quiet .ensures) ∙ c .if1 .taken) (eight (c .before .before .before .before .before))
+passed : (c : tie.Else1) → soundB (start c .args .t1) (start c .args .log .now) ≡ true
+passed c = sym (c .before .sound .ensures) ∙ not-false _ (c .if1 .left)
 
-returns : tie.Need-returns
-returns c =
-    let t = c .before .before in
-    let a = t .before .before .before .before .before .args in
-    let S = sound _ _ (passed t) in
-    c .shown .ensures ∙ ap (shownIn (a .line)) (quiet-path (a .self) (a .log .now) (both-0 _ _ (sym (t .before .quiet .ensures) ∙ t .if1 .taken)) (omega (arith, S .head .member, S .head .most, S .eight)))
-    ∙ frame-shown _ _ (a .line) _ (passed t)
+sounds : (c : tie.Else1) → Sound (start c .args .t1) (start c .args .log .now)
+sounds c = sound _ _ (passed c)
+
+own-ballot : (c : tie.Else1) → let r = start c .args .t1 in Fine (r .n) (r .settled) (getD (r .ballots) (r .own) offEnd)
+own-ballot c = let S = sounds c in ballot _ _ S (start c .args .t1 .own) (omega arith)
+
+returns-2 : tie.Need-returns-2
+returns-2 c = let line = start (c .before) .args .line in shown-past line _ (omega arith) ∙ frame-shown _ _ line _ (passed (c .before))
+
+returns-3 : tie.Need-returns-3
+returns-3 c =
+    let settled = c .before .before .before .before in
+    let e = settled .before .before .before in
+    let a = start e .args in
+    let r = a .t1 in
+    let x = take (r .settled) (a .log .now) in
+    let tail = tailOf (getD (r .ballots) (r .own) offEnd) in
+    shown-done (a .line) _ (omega arith) _
+    (c .last-code2 .ensures ∙ ap (λ (v : ℕ). lastCode (a .line) v tail) (settled .last-code .ensures) ∙
+    sym (last-append (a .line) 0 x tail) ∙ ap (λ (t : List ℕ). lastCode (a .line) 0 (x ++ t)) (sym (tail-at r (a .log .now) (r .own))))
+    ∙ frame-shown _ _ (a .line) _ (passed e)
 
 pub tentative-frame-spec : {M : Type 1} → statement M
 tentative-frame-spec =
-    tie.close (tie.spec (λ c κs. search needs) (λ c. sym (log-length _ _ (sound _ _ (passed (c .before))))) (λ c κs. search needs) returns (λ c κs. search needs) (λ c. search needs))
+    tie.close (tie.spec (λ c κs. search needs) (λ c. frame-unsound _ _ _ _ (sym (c .before .sound .ensures) ∙ not-true _ (c .if1 .taken)))
+    returns-2 (λ c. sym (log-length _ _ (sounds (c .before .before))))
+    (λ c κs. search needs) (λ c. let S = sounds (c .before .before .before) in omega arith) (λ c. let S = sounds (c .before .before .before) in omega arith)
+    (λ c. let F = own-ballot (c .before .before .before .before .before) in omega arith) (λ c. let F = own-ballot (c .before .before .before .before .before .before) in sym (length-take-le _ _ (omega arith)))
+    (λ c κs. search needs) returns-3)

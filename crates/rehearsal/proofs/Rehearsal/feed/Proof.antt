@@ -6,38 +6,37 @@ use native.Mathlib.Nat.{min-le-right}
 use Prim.Native.Nat.{ℕ, _≤_}
 use lib.ListN.{length, take, length-take}
 use lib.Seq.{length-take-le}
-use Rattle.lines.proofs.Holding.{take-within}
-use borrow.Author.Needs.{needs}
+use Rattle.rehearsal_lines.proofs.Holding.{take-within}
 use Rattle.rehearsal.proofs.Rehearsal.feed.Statement.{statement}
 use Rattle.rehearsal.proofs.Rehearsal.feed.Tie as tie
 
 slice-aggregate-feed-all : tie.Need-slice-aggregate-feed-all
 slice-aggregate-feed-all c =
-    let a = c .before .before .before .before .before .args in
-    let h : length (a .chunk .now) ≡ 8192 = search needs in
-    let size = c .before .before .before .within .result in
-    let s : size ≤ 8192 = rw (c .before .before .before .within .ensures) (min-le-right (a .used) 8192) in
-    sym (length-take-le size (a .chunk .now) (omega arith))
+    let used = c .before .before .before in
+    let start = used .before .before in
+    let h : length (start .args .chunk .now) ≡ 8192 = search needs in
+    let s : used .within .result ≤ 8192 = rw (used .within .ensures) (min-le-right (start .args .used) 8192) in
+    sym (length-take-le (used .within .result) (start .args .chunk .now) (omega arith))
 
 feed-all-requires : tie.Need-feed-all-requires
 feed-all-requires c κs =
-    let a = c .before .before .before .before .before .before .args in
+    let used = c .before .before .before .before in
+    let a = used .before .before .args in
     let h : length (a .chunk .now) ≡ 8192 = search needs in
-    let size = c .before .before .before .before .within .result in
-    let s : size ≤ 8192 = rw (c .before .before .before .before .within .ensures) (min-le-right (a .used) 8192) in
+    let s : used .within .result ≤ 8192 = rw (used .within .ensures) (min-le-right (a .used) 8192) in
     let l : length (a .logs .now) ≡ 8192 = search needs in
     let m : length (a .slots .now) ≡ 28128 = search needs in
     let o : length (a .out .now) ≡ 532480 = search needs in
-    (l, m, omega (arith, length-take size (a .chunk .now)))
+    (l, m, omega (arith, length-take (used .within .result) (a .chunk .now)))
 
 returns : tie.Need-returns
 returns c =
-    let a = c .before .before .before .before .before .before .before .args in
+    let used = c .before .before .before .before .before in
+    let a = used .before .before .args in
     let h : length (a .chunk .now) ≡ 8192 = search needs in
-    let size = c .before .before .before .before .before .within .result in
-    let s : size ≤ 8192 = rw (c .before .before .before .before .before .within .ensures) (min-le-right (a .used) 8192) in
-    let e : take size (a .chunk .now) ≡ take (a .used) (a .chunk .now) = ap (λ (k : ℕ). take k (a .chunk .now)) (c .before .before .before .before .before .within .ensures) ∙ take-within (a .used) 8192 (a .chunk .now) h in
-    (rw (← e) (c .feed-all .ensures .0), omega (arith, c .feed-all .ensures .1, length-take size (a .chunk .now)))
+    let e : take (used .within .result) (a .chunk .now) ≡ take (a .used) (a .chunk .now) =
+    ap (λ (k : ℕ). take k (a .chunk .now)) (used .within .ensures) ∙ take-within (a .used) 8192 (a .chunk .now) h in
+    rw (← e) (c .feed-all .ensures)
 
 pub feed-spec : {M : Type 1} → statement M
 feed-spec = tie.close (tie.spec (λ c κs. search needs) slice-aggregate-feed-all feed-all-requires returns)

@@ -4,7 +4,7 @@ use Rattle.rehearsal.proofs.Rehearsal.new.Statement.{statement}
 use Rattle.rehearsal.proofs.Rehearsal.new.Tie as tie
 
 returns : tie.Need-returns
-returns c = rw (c .before .nobody .ensures, c .none .ensures)
+returns c = rw (c .before .no-offices .ensures, c .none .ensures)
 
 pub new-spec : {M : Type 1} → statement M
 new-spec = tie.close (tie.spec (λ c κs. search needs) (λ c κs. search needs) returns)

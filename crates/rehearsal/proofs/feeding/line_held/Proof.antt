@@ -4,8 +4,8 @@ use native.Mathlib.Nat.{min-le-right}
 use Prim.Native.Nat.{ℕ}
 use lib.ListN.{length, take}
 use lib.Seq.{length-take-le}
-use Rattle.lines.proofs.Holding.{take-within}
-use Rattle.commands.specs.Command.{lineOf}
+use Rattle.rehearsal_lines.proofs.Holding.{take-within}
+use Rattle.rehearsal_commands.specs.Command.{lineOf}
 use borrow.Author.Needs.{needs}
 use Rattle.rehearsal.proofs.feeding.line_held.Statement.{statement}
 use Rattle.rehearsal.proofs.feeding.line_held.Tie as tie

@@ -1,3 +1,0 @@
--- What the rehearsal prints for a line.
-pub mod Decimal
-pub mod Answer

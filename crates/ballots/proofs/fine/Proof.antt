@@ -1,0 +1,106 @@
+-- At once where there are no ballots; else a walk over the lengths, then the cells of four ballots and of four.
+use Rattle.ballots.proofs.fine.Statement.{statement}
+use Rattle.ballots.proofs.fine.Tie as tie
+use mathlib.Core.Path.{_≡_, refl, sym, ap₂, _∙_}
+use mathlib.Core.Bool.{Bool, true, _&&_}
+use Prim.Native.Nat.{ℕ, _-_, _<_, _≤_}
+use native.Mathlib.Omega.{arith}
+use lib.ListN.{length, getD, drop}
+use borrow.Author.Tests.{not-true, not-false}
+use borrow.Author.Needs.{needs}
+use Rattle.lists.specs.Tests.{both, allB}
+use Rattle.lists.proofs.Tests.{both-false-0, both-false-1, both-passed}
+use Rattle.lists.proofs.Walk.{and-both}
+use Rattle.ballots.specs.Ballots.{ballotsFine, offEnd}
+use Rattle.ballots.specs.Fours.{entryCells, unusedZero}
+use Rattle.ballots.proofs.Eight.{none-all, fitFrom, fit-next, fit-done, fit-few, fine-tests-all, of-eight}
+
+abbrev Inv-loop : tie.InvT-loop
+Inv-loop n settled all fit₀ i₀ fit i = (i ≤ 8) × (fitFrom n settled 0 all ≡ both fit (fitFrom n settled i (drop i all)))
+
+abbrev μ-loop : tie.MeasureT-loop
+μ-loop n settled all fit₀ i₀ fit i = 8 - i
+
+loop-holds : tie.Need-loop-holds Inv-loop μ-loop
+unfolding both
+loop-holds c = (search needs, refl)
+
+eight : (s : tie.Start Inv-loop μ-loop) → length (s .args .t1) ≡ 8
+eight s = search needs
+
+returns : tie.Need-returns Inv-loop μ-loop
+returns c = let s = c .before .before in none-all (s .args .n) (s .args .settled) (s .pre .1) (s .args .t1) (eight s) (sym (c .before .no-ballots .ensures) ∙ c .if1 .taken)
+
+-- the places of the code: the call's start, behind the test for no ballots
+abbrev begun : tie.Else1 Inv-loop μ-loop → tie.Start Inv-loop μ-loop
+begun c = c .before .before
+
+loop-again : tie.Need-loop-again Inv-loop μ-loop
+loop-again c =
+    let l = c .before .before .loop in
+    let s = begun (c .before .before .before) in
+    (search needs, fit-next (s .args .n) (s .args .settled) (s .args .t1) (l .fit) (l .i) (l .inv .1) (omega (arith, eight s)) _ (c .fits2 .ensures))
+
+-- the tests of all ballots, once their lengths were walked
+tests : (s : tie.Start Inv-loop μ-loop) → ballotsFine (s .args .n) (s .args .settled) (s .args .t1)
+    ≡ both (fitFrom (s .args .n) (s .args .settled) 0 (s .args .t1)) (both (allB (entryCells (s .args .n)) (s .args .t1)) (allB unusedZero (s .args .t1)))
+tests s = fine-tests-all (s .args .n) (s .args .settled) (s .pre .0) (s .pre .1) (s .args .t1) (eight s)
+
+returns-2 : tie.Need-returns-2 Inv-loop μ-loop
+returns-2 c =
+    let l = c .before .before .loop in
+    let s = begun (c .before .before .before) in
+    let fit = fit-done (s .args .n) (s .args .settled) (s .args .t1) (l .fit) (l .i) (l .inv .1) (omega (arith, eight s)) in
+    sym (tests s ∙ both-false-0 _ _ (sym fit ∙ not-true _ (c .if2 .taken)))
+
+-- the lengths fit
+abbrev walked : tie.Else2 Inv-loop μ-loop → tie.Start Inv-loop μ-loop
+walked c = begun (c .before .before .before)
+
+fitting : (c : tie.Else2 Inv-loop μ-loop) → let s = walked c in fitFrom (s .args .n) (s .args .settled) 0 (s .args .t1) ≡ true
+fitting c =
+    let l = c .before .before .loop in
+    let s = walked c in
+    sym (fit-done (s .args .n) (s .args .settled) (s .args .t1) (l .fit) (l .i) (l .inv .1) (omega (arith, eight s))) ∙ not-false _ (c .if2 .left)
+
+few : (c : tie.Else2 Inv-loop μ-loop) (k : ℕ) → k < 8 → getD (walked c .args .t1) k offEnd .len ≤ 32
+few c k h = let s = walked c in fit-few (s .args .n) (s .args .settled) 0 (s .args .t1) (fitting c) k (omega (arith, eight s))
+
+-- behind the lengths, where the eight ballots are named
+abbrev named : tie.After-four-entries2 Inv-loop μ-loop → tie.Else2 Inv-loop μ-loop
+named c = c .before .before .before .before .before .before .before .before .before .before
+
+abbrev start : tie.After-four-entries2 Inv-loop μ-loop → tie.Start Inv-loop μ-loop
+start c = walked (named c)
+
+-- both tests of the cells
+entries-are : (c : tie.After-four-entries2 Inv-loop μ-loop) → (c .before .four-entries .result && c .four-entries2 .result) ≡ allB (entryCells (start c .args .n)) (start c .args .t1)
+entries-are c = and-both _ _ ∙ ap₂ both (c .before .four-entries .ensures) (c .four-entries2 .ensures) ∙ of-eight (entryCells (start c .args .n)) (start c .args .t1) (eight (start c))
+
+returns-3 : tie.Need-returns-3 Inv-loop μ-loop
+returns-3 c = sym (tests (start (c .before)) ∙ both-false-1 _ _ (both-false-0 _ _ (sym (entries-are (c .before)) ∙ not-true _ (c .if3 .taken))))
+
+four-unused-requires : tie.Need-four-unused-requires Inv-loop μ-loop
+four-unused-requires c κs =
+    let n = named (c .before .before .before) in
+    (c .before .masks .ensures, (few n 0 (omega arith), (few n 1 (omega arith), (few n 2 (omega arith), few n 3 (omega arith)))))
+
+four-unused-requires-2 : tie.Need-four-unused-requires-2 Inv-loop μ-loop
+four-unused-requires-2 c κs =
+    let n = named (c .before .before .before .before .before) in
+    (c .before .before .before .masks .ensures, (few n 4 (omega arith), (few n 5 (omega arith), (few n 6 (omega arith), few n 7 (omega arith)))))
+
+returns-4 : tie.Need-returns-4 Inv-loop μ-loop
+returns-4 c =
+    let e = c .before .before .before .before .before in
+    let s = start (e .before) in
+    and-both _ _ ∙ ap₂ both (c .before .before .four-unused .ensures) (c .four-unused2 .ensures) ∙ of-eight unusedZero (s .args .t1) (eight s)
+    ∙ sym (tests s ∙ both-passed _ _ _ (fitting (named (e .before))) (sym (entries-are (e .before)) ∙ not-false _ (e .if3 .left)))
+
+pub fine-spec : {M : Type 1} → statement M
+fine-spec =
+    tie.close
+    (tie.spec Inv-loop μ-loop (λ c κs. search needs) returns loop-holds (λ c. search needs) (λ c. search needs) (λ c κs. search needs) (λ c. search needs)
+    (λ c. search needs) loop-again returns-2 (λ c. search needs) (λ c. search needs) (λ c. search needs) (λ c. search needs) (λ c. search needs)
+    (λ c. search needs) (λ c. search needs) (λ c. search needs) (λ c κs. search needs) (λ c κs. search needs) returns-3 (λ c κs. search needs)
+    (λ c. search needs) four-unused-requires (λ c. search needs) four-unused-requires-2 returns-4)

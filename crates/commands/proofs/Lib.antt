@@ -1,2 +1,0 @@
--- Laws of the walks over a line.
-pub mod Walks

@@ -1,0 +1,5 @@
+-- Decimal numbers, and the parts of a text.
+pub mod Number
+pub mod Parts
+pub mod Numbers
+pub mod Printing

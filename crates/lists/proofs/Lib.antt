@@ -1,0 +1,6 @@
+-- Laws of tests, of stores, and of loops that walk or fill a list.
+pub mod Tests
+pub mod Stores
+pub mod Walk
+pub mod Fill
+pub mod Same

@@ -1,0 +1,2 @@
+-- Take's work on ballots.
+pub mod Merging

@@ -1,0 +1,50 @@
+// Numbers in bytes, most significant byte first, read and written at a position. The functions are public only for the crates above, which
+// prove the room that each requires.
+ghost use mathlib.Core.Path.{_≡_};
+ghost use Prim.Native.Nat.{_+_, _<_, _≤_};
+ghost use lib.ListN.{length, drop};
+ghost use lib.Seq.{sets};
+ghost use Rattle.numbers.specs.Numbers.{bytes16, bytes32, be16, be32};
+
+// A byte as a number to compute with.
+pub fn wide(x: u8) -> u32
+    ensures { λ r. ⌜ (r ≡ x) × (r < 256) ⌝ }
+{
+    x as u32
+}
+
+// The number in the two bytes at a position.
+pub fn be16_at(s: &[u8], at: usize) -> u16
+    requires { ⌜ at + 2 ≤ length (now s) ⌝ }
+    ensures { λ r. ⌜ r ≡ be16 (drop at (now (s .entry))) ⌝ }
+{
+    (wide(s[at]) * 256 + wide(s[at + 1])) as u16
+}
+
+// The number in the four bytes at a position.
+pub fn be32_at(s: &[u8], at: usize) -> u32
+    requires { ⌜ at + 4 ≤ length (now s) ⌝ }
+    ensures { λ r. ⌜ r ≡ be32 (drop at (now (s .entry))) ⌝ }
+{
+    wide(s[at]) * 16777216 + (wide(s[at + 1]) * 65536 + (wide(s[at + 2]) * 256 + wide(s[at + 3])))
+}
+
+// A number into the two bytes at a position.
+pub fn put16(out: &mut [u8], at: usize, v: u16)
+    requires { ⌜ at + 2 ≤ length (now out) ⌝ }
+    ensures { λ _. ⌜ now (out .exit) ≡ sets (now (out .entry)) at (bytes16 v) ⌝ }
+{
+    out[at] = (v / 256 % 256) as u8;
+    out[at + 1] = (v % 256) as u8;
+}
+
+// A number into the four bytes at a position.
+pub fn put32(out: &mut [u8], at: usize, v: u32)
+    requires { ⌜ at + 4 ≤ length (now out) ⌝ }
+    ensures { λ _. ⌜ now (out .exit) ≡ sets (now (out .entry)) at (bytes32 v) ⌝ }
+{
+    out[at] = (v / 16777216 % 256) as u8;
+    out[at + 1] = (v / 65536 % 256) as u8;
+    out[at + 2] = (v / 256 % 256) as u8;
+    out[at + 3] = (v % 256) as u8;
+}

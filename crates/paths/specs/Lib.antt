@@ -1,2 +1,0 @@
--- Take's work on ballots.
-pub mod Paths

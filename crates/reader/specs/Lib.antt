@@ -1,2 +1,0 @@
--- The definitions that the contracts of `reader` cite.
-pub mod Read

@@ -1,0 +1,174 @@
+-- The tests of a message in the order in which the code makes them, and what reading it answers, exit by exit.
+--     Within, within-..     what `headWithin` says, and both ways between the test and its facts
+--     in-order              the layout and the limits, as the tests of the head, the log records, the ballots, and the tails
+--     no-head, no-log ..    the exits
+-- Assumes nothing.
+use Prim.Native.Nat.{ℕ, zero, suc, _*_, _-_, _≤_, _<_}
+use mathlib.Core.Bool.{Bool, false, true}
+use mathlib.Core.List.{List, [], map}
+use mathlib.Core.Option.{Option, none, some}
+use mathlib.Core.Path.{_∙_, _≡_, ap, refl, sym}
+use native.Mathlib.Omega.{arith}
+use lib.Dec.{eqb, leb, ltb}
+use lib.ListN.{drop, getD, length, length-drop, take}
+use lib.Seq.{take-all}
+use borrow.Author.Tests.{leb-true, le-leb, lt-ltb, ltb-true, eq-eqb}
+use Rattle.lists.specs.Tests.{allB, both, pick}
+use Rattle.lists.proofs.Tests.{alike, all-map, both-0, both-1, both-assoc, both-comm, both-false-0, both-false-1, both-swap, both-true, pick-false, pick-true}
+use Rattle.protocol.specs.Entry.{isEntry}
+use Rattle.protocol.specs.Limits.{isOffice, isWeight, logFine, officeFine, tailFine, tailsFine}
+use Rattle.numbers.specs.Numbers.{Bytes, be16, runAt, runOk}
+use Rattle.numbers.proofs.Runs.{bytes-drop, runAt-length}
+use Rattle.ballots.specs.declared.Ballot.{Ballot}
+use Rattle.ballots.specs.Ballots.{ballotFine, ballotOf, ballotShape, ballotsFine}
+use Rattle.ballots.proofs.Laws.{fine-tail, tails-of}
+use Rattle.spelling.specs.Content.{Content, asMessage, eightTails, validContent}
+use Rattle.spelling.specs.Spelling.{headSize, lengthPlace}
+use Rattle.spelling.specs.Reading.{ballotsOk, contentAt, countAt, headOk, layoutOk, reading, recordAt, recordHere, recordsOk, restAt, senderAt, settledAt, tailsAt}
+use Rattle.spelling.proofs.Ballots.{by-test, tailsAt-length}
+use Rattle.spelling.proofs.Head.{Head, head-facts, head-test}
+use Rattle.spelling.proofs.Items.{be16-below}
+use Rattle.reading.specs.Read.{badReading, ballotsOf, eightWeights, headWithin, logWithin, readingOf}
+
+-- ---- the head
+
+pub record Within (s : List ℕ) : Type 0 where
+  pub layout : Head s
+  pub some-office : 1 ≤ countAt s
+  pub few-offices : countAt s ≤ 8
+  pub sender-below : senderAt s < countAt s
+  pub settled-few : settledAt s ≤ 1024
+
+pub within-facts : (s : List ℕ) → headWithin s ≡ true → Within s
+unfolding headWithin isOffice
+within-facts s e =
+    let t = both-1 (headOk s) _ e in
+    let o = both-0 (both (leb 1 (countAt s)) (both (leb (countAt s) 8) (ltb (senderAt s) (countAt s)))) _ t in
+    let p = both-1 (leb 1 (countAt s)) _ o in
+    record {
+      layout = head-facts s (both-0 _ _ e);
+      some-office = leb-true _ _ (both-0 _ _ o);
+      few-offices = leb-true _ _ (both-0 _ _ p);
+      sender-below = ltb-true _ _ (both-1 (leb (countAt s) 8) _ p);
+      settled-few = leb-true _ _ (both-1 (both (leb 1 (countAt s)) (both (leb (countAt s) 8) (ltb (senderAt s) (countAt s)))) _ t);
+    }
+
+-- the test fails where a fact does not hold; where all but the last hold, that one decides
+pub within-not : (s : List ℕ) → (Within s → ⊥) → false ≡ headWithin s
+within-not s f = by-test _ (headWithin s) (λ e. absurd (f (within-facts s e))) sym
+
+pub within-last : (s : List ℕ) → Head s → 1 ≤ countAt s → countAt s ≤ 8 → senderAt s < countAt s → leb (settledAt s) 1024 ≡ headWithin s
+unfolding headWithin isOffice both
+within-last s h one few below = rw (head-test s h, le-leb 1 (countAt s) one, le-leb (countAt s) 8 few, lt-ltb (senderAt s) (countAt s) below)
+
+pub settled-is : (s : List ℕ) (m p v : ℕ) → m ≡ countAt s → p ≡ lengthPlace m → v ≡ be16 (drop p s) → v ≡ settledAt s
+unfolding settledAt
+settled-is s m p v e q r = r ∙ rw (q, e)
+
+-- ---- the tests in the code's order
+
+-- any two bytes spell a weight
+weights-fine : (k : ℕ) (s : List ℕ) → Bytes s → allB isWeight (runAt 2 be16 k s) ≡ true
+unfolding runAt allB isWeight
+weights-fine zero s b = refl
+weights-fine (suc k) s b = both-true _ _ (lt-ltb (be16 s) 65536 (be16-below s b)) (weights-fine k (drop 2 s) (bytes-drop 2 s b))
+
+shape-fine : (n settled : ℕ) (b : Ballot) → ballotFine n settled b ≡ true → ballotShape b ≡ true
+unfolding ballotFine
+shape-fine n settled b e = both-0 (ballotShape b) _ e
+
+tails-each : (n settled : ℕ) (ts : List (List ℕ)) → tailsFine n settled ts ≡ true → allB (tailFine n settled) ts ≡ true
+unfolding tailsFine
+tails-each n settled ts e = both-0 _ _ (both-1 (eqb (length ts) 8) _ e)
+
+-- ballots that hold tails are within the limits as the tails are
+pub ballots-fine : (n settled : ℕ) (ts : List (List ℕ)) → ballotsFine n settled (map ballotOf ts) ≡ tailsFine n settled ts
+unfolding ballotsFine
+ballots-fine n settled ts = rw (tails-of ts) (alike _ _ (λ e. both-1 (allB ballotShape (map ballotOf ts)) _ e) (λ e. both-true _ _ (shapes e) e))
+  where
+    shape : (t : List ℕ) → tailFine n settled t ≡ true → ballotShape (ballotOf t) ≡ true
+    shape t e = shape-fine n settled (ballotOf t) (fine-tail n settled t e)
+
+    shapes : tailsFine n settled ts ≡ true → allB ballotShape (map ballotOf ts) ≡ true
+    shapes e = all-map (tailFine n settled) ballotShape ballotOf shape ts (tails-each n settled ts e)
+
+pub stored-fine : (n settled : ℕ) (ts : List (List ℕ)) (bs : List Ballot) → bs ≡ ballotsOf n ts → ballotsFine n settled bs ≡ tailsFine n settled (eightTails n ts)
+unfolding ballotsOf
+stored-fine n settled ts bs e = ap (ballotsFine n settled) e ∙ ballots-fine n settled (eightTails n ts)
+
+-- the ballots in the rest of a message, and the eight tails that they say
+abbrev after : List ℕ → ℕ → List ℕ
+after rest k = drop (6 * k) rest
+
+abbrev eightAt : List ℕ → ℕ → ℕ → List (List ℕ)
+eightAt rest n k = eightTails n (tailsAt (after rest k) 0 n)
+
+module _ (s : List ℕ) (b : Bytes s) where
+  -- what is left of the limits: the tests that hold of all bytes are gone
+  limits : validContent (contentAt s)
+      ≡ both (isOffice (countAt s) (senderAt s)) (both (both (leb (settledAt s) 1024) (allB (isEntry (countAt s)) (runAt 6 recordAt (settledAt s) (restAt s)))) (tailsFine (countAt s) (settledAt s) (eightAt (restAt s) (countAt s) (settledAt s))))
+  unfolding validContent contentAt asMessage officeFine logFine both
+  limits =
+      rw (
+        runAt-length 2 be16 (countAt s) (drop 4 s),
+        eq-eqb (countAt s) (countAt s) refl,
+        weights-fine (countAt s) (drop 4 s) (bytes-drop 4 s b),
+        tailsAt-length (after (restAt s) (settledAt s)) 0 (countAt s),
+        eq-eqb (countAt s) (countAt s) refl,
+        runAt-length 6 recordAt (settledAt s) (restAt s),
+      )
+
+  in-order : both (layoutOk s) (validContent (contentAt s))
+      ≡ both (headWithin s) (both (logWithin (restAt s) (countAt s) (settledAt s)) (both (ballotsOk (after (restAt s) (settledAt s)) 0 (countAt s)) (tailsFine (countAt s) (settledAt s) (eightAt (restAt s) (countAt s) (settledAt s)))))
+  unfolding layoutOk recordsOk headWithin logWithin
+  in-order = ap (both (layoutOk s)) limits ∙ ordered (headOk s) _ _ (isOffice (countAt s) (senderAt s)) _ _ _
+    where
+      ordered : (h r b o k e t : Bool) → both (both h (both r b)) (both o (both (both k e) t)) ≡ both (both h (both o k)) (both (both r e) (both b t))
+      ordered h r b o k e t = simp (both-comm, both-assoc, both-swap)
+
+pub no-head : (s : List ℕ) → Bytes s → headWithin s ≡ false → badReading ≡ readingOf (reading s)
+unfolding reading readingOf
+no-head s b e = rw (pick-false _ (some (contentAt s)) none (in-order s b ∙ both-false-0 _ _ e))
+
+-- ---- the whole
+
+-- what the code has of a message whose head passed its test: n, the settled length, the rest
+pub record Parts (s : List ℕ) (n k : ℕ) (rest : List ℕ) : Type 0 where
+  pub bytes : Bytes s
+  pub within : headWithin s ≡ true
+  pub count : n ≡ countAt s
+  pub settled : k ≡ settledAt s
+  pub rest-is : rest ≡ restAt s
+
+pub rest-at : (s : List ℕ) (h : ℕ) → h ≡ headSize (countAt s) → take (length s - h) (drop h s) ≡ restAt s
+unfolding restAt
+rest-at s h e = take-all (length s - h) (drop h s) (omega (arith, length-drop h s)) ∙ rw e
+
+module _ (s : List ℕ) (n k : ℕ) (rest : List ℕ) (P : Parts s n k rest) where
+  -- the tests after the head's
+  decided : both (layoutOk s) (validContent (contentAt s)) ≡ both (logWithin rest n k) (both (ballotsOk (after rest k) 0 n) (tailsFine n k (eightAt rest n k)))
+  unfolding both
+  decided = rw (P .count, P .settled, P .rest-is) (in-order s (P .bytes) ∙ rw (P .within))
+
+  refused : both (layoutOk s) (validContent (contentAt s)) ≡ false → badReading ≡ readingOf (reading s)
+  unfolding reading readingOf
+  refused e = rw (pick-false _ (some (contentAt s)) none e)
+
+  -- a log record fails
+  pub no-log : logWithin rest n k ≡ false → badReading ≡ readingOf (reading s)
+  no-log e = refused (decided ∙ both-false-0 _ _ e)
+
+  -- a ballot or the end fails
+  pub no-ballots : ballotsOk (after rest k) 0 n ≡ false → badReading ≡ readingOf (reading s)
+  no-ballots e = refused (decided ∙ both-false-1 _ _ (both-false-0 _ _ e))
+
+  -- the ballots' tails are outside the limits, or the end fails
+  pub no-tails : both (ballotsOk (after rest k) 0 n) (tailsFine n k (eightAt rest n k)) ≡ false → badReading ≡ readingOf (reading s)
+  no-tails e = refused (decided ∙ both-false-1 _ _ e)
+
+  pub read-all : (a : ℕ) (ws : List ℕ) (bs : List Ballot) → logWithin rest n k ≡ true → both (ballotsOk (after rest k) 0 n) (tailsFine n k (eightAt rest n k)) ≡ true
+      → a ≡ senderAt s → ws ≡ eightWeights n (runAt 2 be16 n (drop 4 s)) → bs ≡ ballotsOf n (tailsAt (after rest k) 0 n)
+      → record { ok = true; sender = a; n = n; weights = ws; settled = k; head = headSize n; ballots = bs } ≡ readingOf (reading s)
+  unfolding reading readingOf contentAt
+  read-all a ws bs el eb ea ew es =
+      rw (pick-true _ (some (contentAt s)) none (decided ∙ both-true _ _ el eb), runAt-length 6 recordAt (settledAt s) (restAt s), es, ew, ea, P .rest-is, P .settled, P .count)

@@ -1,0 +1,201 @@
+// Reading a message: what it says, or a refusal; and its settled entries where they stand, compared with a log or written to it.
+use ballots::Ballot;
+use ballots::fine;
+use numbers::be16_at;
+use numbers::wide;
+use reader::read_ballot;
+use reader::read_end;
+use reader::read_entry;
+use reader::read_log;
+use spelling::OFFICES;
+use spelling::head_size;
+use spelling::length_place;
+ghost use mathlib.Core.Path.{_≡_};
+ghost use Prim.Native.Nat.{_+_, _*_, _≤_};
+ghost use lib.ListN.{length, take, drop};
+ghost use lib.Seq.{sets};
+ghost use Rattle.protocol.specs.Beginning.{begins};
+ghost use Rattle.numbers.specs.Numbers.{be16, runAt};
+ghost use Rattle.spelling.specs.Reading.{recordAt, reading};
+ghost use Rattle.reading.specs.Read.{headWithin, logWithin, eightWeights, badReading, readingOf};
+
+// The most settled entries.
+const LOG: u16 = 1024;
+
+// What a message says. Its settled entries stay in it, six bytes each after the head.
+pub struct Reading {
+    pub sender: usize,
+    pub n: usize,
+    pub weights: [u16; 8],
+    pub settled: usize,
+    pub head: usize,
+    pub ballots: [Ballot; 8],
+    pub ok: bool,
+}
+
+// Whether k log records stand at the start, whose values are entries for n offices: their marks one by one, their values together.
+fn log_within(rest: &[u8], n: usize, k: usize) -> bool
+    ensures { λ r. ⌜ r ≡ logWithin (now (rest .entry)) n k ⌝ }
+{
+    let mut at: usize = 0;
+    let mut bits: u32 = 0;
+    for i in 0..k {
+        let step = read_log(rest, at);
+        let ok = step.ok;
+        if !ok {
+            return false;
+        }
+        bits = bits | entries::raised(step.value, n);
+        at = step.next;
+    }
+    entries::no_carry(bits)
+}
+
+// The k weights at a position, and zeros after them.
+fn weights_at(s: &[u8], from: usize, k: usize) -> [u16; 8]
+    requires { ⌜ (k ≤ 8) × (from + 2 * k ≤ length (now s)) ⌝ }
+    ensures { λ r. ⌜ r ≡ eightWeights k (runAt 2 be16 k (drop from (now (s .entry)))) ⌝ }
+{
+    let mut weights = [0u16; 8];
+    let mut at = from;
+    for i in 0..k {
+        weights[i] = be16_at(s, at);
+        at += 2;
+    }
+    weights
+}
+
+// Whether a message starts with a head whose fields are within the limits.
+fn head_within(s: &[u8]) -> bool
+    ensures { λ r. ⌜ r ≡ headWithin (now (s .entry)) ⌝ }
+{
+    if s.len() < 4 {
+        return false;
+    }
+    if s[0] != 0x53 {
+        return false;
+    }
+    if s[1] != 0x48 {
+        return false;
+    }
+    let n = wide(s[3]) as usize;
+    if n < 1 {
+        return false;
+    }
+    if n > OFFICES {
+        return false;
+    }
+    let sender = wide(s[2]) as usize;
+    if sender >= n {
+        return false;
+    }
+    if s.len() < head_size(n) {
+        return false;
+    }
+    be16_at(s, length_place(n)) <= LOG
+}
+
+// No message.
+fn bad_reading() -> Reading
+    ensures { λ r. ⌜ r ≡ badReading ⌝ }
+{
+    let none = Ballot::none();
+    Reading {
+        ok: false,
+        sender: 0,
+        n: 0,
+        weights: [0u16; 8],
+        settled: 0,
+        head: 0,
+        ballots: [none; 8],
+    }
+}
+
+// What a message says, or a refusal. "The rest of the message after the head" is handed on to the record readers: the log records first,
+// then the ballots, offices rising, then the end; the ballots are tested as a record's are. They are gathered here, since a function that
+// handed them on would copy them.
+pub fn read(msg: &[u8]) -> Reading
+    ensures { λ r. ⌜ r ≡ readingOf (reading (now (msg .entry))) ⌝ }
+{
+    if !head_within(msg) {
+        return bad_reading();
+    }
+    let n = wide(msg[3]) as usize;
+    let settled = be16_at(msg, length_place(n)) as usize;
+    let head = head_size(n);
+    let rest = &msg[head..];
+    if !log_within(rest, n, settled) {
+        return bad_reading();
+    }
+    let none = Ballot::none();
+    let mut ballots = [none; 8];
+    let mut at = 6 * settled;
+    for o in 0..n {
+        let step = read_ballot(rest, at, o);
+        if !step.ok {
+            return bad_reading();
+        }
+        let b = step.ballot;
+        if b.len > 0 {
+            ballots[o] = b;
+        }
+        at = step.next;
+    }
+    let end = read_end(rest, at);
+    if !(end.ok & fine(ballots, n, settled)) {
+        return bad_reading();
+    }
+    let weights = weights_at(msg, 4, n);
+    let sender = wide(msg[2]) as usize;
+    Reading {
+        ok: true,
+        sender,
+        n,
+        weights,
+        settled,
+        head,
+        ballots,
+    }
+}
+
+// Whether the first k words of a log are the values of the first k log records. Public only for the crate above, which proves that
+// there are as many of both, here and below. So every record is there, but a walk that ends where one is not runs faster.
+pub fn same_log(log: &[u32], rest: &[u8], k: usize) -> bool
+    requires { ⌜ (k ≤ length (now log)) × (6 * k ≤ length (now rest)) ⌝ }
+    ensures { λ r. ⌜ r ≡ begins (take k (now (log .entry))) (runAt 6 recordAt k (now (rest .entry))) ⌝ }
+{
+    let mut at: usize = 0;
+    for i in 0..k {
+        let step = read_entry(rest, at);
+        let ok = step.ok;
+        if !ok {
+            return false;
+        }
+        if log[i] != step.value {
+            return false;
+        }
+        at = step.next;
+    }
+    true
+}
+
+// The values of the k log records from a position on, written to the start of a part of the log.
+fn fill(part: &mut [u32], rest: &[u8], from: usize, k: usize)
+    requires { ⌜ (k ≤ length (now part)) × (from + 6 * k ≤ length (now rest)) ⌝ }
+    ensures { λ _. ⌜ now (part .exit) ≡ sets (now (part .entry)) 0 (runAt 6 recordAt k (drop from (now (rest .entry)))) ⌝ }
+{
+    let mut at = from;
+    for i in 0..k {
+        let step = read_entry(rest, at);
+        part[i] = step.value;
+        at = step.next;
+    }
+}
+
+// "Writes the missing entries from its own length onward": those of the message's k log records past the settled length.
+pub fn extend(log: &mut [u32], settled: usize, rest: &[u8], k: usize)
+    requires { ⌜ (settled ≤ k) × ((k ≤ length (now log)) × (6 * k ≤ length (now rest))) ⌝ }
+    ensures { λ _. ⌜ now (log .exit) ≡ sets (now (log .entry)) settled (drop settled (runAt 6 recordAt k (now (rest .entry)))) ⌝ }
+{
+    fill(&mut log[settled..], rest, 6 * settled, k - settled)
+}

@@ -1,0 +1,2 @@
+-- What the rehearsal prints for a line.
+pub mod Answer

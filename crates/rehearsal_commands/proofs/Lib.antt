@@ -1,0 +1,2 @@
+-- Laws of a line of a rehearsal.
+pub mod Lines

@@ -1,0 +1,2 @@
+-- What one line of a rehearsal says.
+pub mod Command

@@ -1,0 +1,3 @@
+-- Laws of the offices of a rehearsal.
+pub mod Fresh
+pub mod Present

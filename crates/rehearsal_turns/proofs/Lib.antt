@@ -1,0 +1,2 @@
+-- Laws of an office's turn.
+pub mod Turning

@@ -1,0 +1,2 @@
+-- The definition of soundness.
+pub mod Soundness

@@ -1,3 +1,0 @@
--- Laws of the offices of a rehearsal.
-pub mod Fresh
-pub mod Aiming

@@ -1,4 +1,0 @@
--- The offices of a rehearsal.
-pub mod World
-pub mod Founding
-pub mod Aims

@@ -1,0 +1,119 @@
+// All that a trial holds is one list of numbers, its book, in the digest's order: the record's numbers, the log's length and words, the
+// output's length and bytes, the message's length and bytes; and behind them the line that is read. A place of the book is 64 bits wide;
+// what it may hold is said by `limit`.
+ghost use Prim.Native.Nat.{_+_, _≤_, _<_};
+ghost use lib.ListN.{length};
+
+pub type Book = [u64; 15604];
+
+// Where the ballots begin, each a length field and 32 cells.
+pub const BALLOTS: usize = 11;
+
+pub const BALLOT: usize = 33;
+
+// Where the length of the log, of the output and of the message stands. What is in them stands behind it.
+pub const LOG: usize = 275;
+
+pub const OUTPUT: usize = 1376;
+
+pub const MESSAGE: usize = 8477;
+
+// Most words of the log, and most bytes of the output and of the message.
+pub const WORDS: usize = 1100;
+
+pub const BYTES: usize = 7100;
+
+// Where the numbers of the line begin, up to 24. All before is the state.
+pub const SAID: usize = 15578;
+
+// How many bytes of a line are held.
+pub const HELD: usize = 15602;
+
+// A place that stays zero.
+pub const ZERO: usize = 15603;
+
+// The most that a number may be at this place, other than a length of a buffer.
+pub fn limit(place: usize) -> u64 {
+    if place > OUTPUT {
+        return 255;
+    }
+    if place > LOG {
+        return 4294967295;
+    }
+    if place >= BALLOTS {
+        if (place - BALLOTS) % BALLOT == 0 {
+            return u64::MAX;
+        }
+        return 4294967295;
+    }
+    if place == 10 {
+        return u64::MAX;
+    }
+    if place < 2 {
+        return u64::MAX;
+    }
+    65535
+}
+
+// The place of the number that is written at turn i, where there are `each` of them.
+fn turn(i: usize, each: usize) -> usize
+    requires { ⌜ 0 < each ⌝ }
+    ensures { λ r. ⌜ r < each ⌝ }
+{
+    i % each
+}
+
+// Writes the `each` numbers from place `from` on, over and over, `total` in all, from place `to` on.
+pub fn write(book: &mut Book, to: usize, total: usize, from: usize, each: usize)
+    requires { ⌜ to + total ≤ 15604 ⌝ }
+    requires { ⌜ from + each ≤ 15604 ⌝ }
+    requires { ⌜ 0 < each ⌝ }
+{
+    for i in 0..total {
+        book[to + i] = book[from + turn(i, each)];
+    }
+}
+
+pub fn wide(x: u32) -> u64 {
+    x as u64
+}
+
+fn of_byte(x: u8) -> u64 {
+    x as u64
+}
+
+// The numbers from this place on as words: the low 32 bits of each.
+pub fn to_words(book: &Book, at: usize, to: &mut [u32])
+    requires { ⌜ at + length (now to) ≤ 15604 ⌝ }
+{
+    for i in 0..to.len() {
+        to[i] = (book[at + i] % 4294967296) as u32;
+    }
+}
+
+// Writes words as numbers from this place on.
+pub fn from_words(from: &[u32], book: &mut Book, at: usize)
+    requires { ⌜ at + length (now from) ≤ 15604 ⌝ }
+{
+    for i in 0..from.len() {
+        book[at + i] = wide(from[i]);
+    }
+}
+
+// The numbers from this place on as bytes: the low 8 bits of each.
+pub fn to_bytes(book: &Book, at: usize, to: &mut [u8])
+    requires { ⌜ at + length (now to) ≤ 15604 ⌝ }
+{
+    for i in 0..to.len() {
+        to[i] = (book[at + i] % 256) as u8;
+    }
+}
+
+// Writes bytes as numbers from this place on.
+pub fn from_bytes(from: &[u8; 7100], book: &mut Book, at: usize)
+    requires { ⌜ at + 7100 ≤ 15604 ⌝ }
+{
+    for i in 0..7100 {
+        book[at + i] = of_byte(from[i]);
+    }
+}

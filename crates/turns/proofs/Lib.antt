@@ -1,3 +1,0 @@
--- Laws of an office's turn.
-pub mod Turning
-pub mod Printed
