@@ -11,6 +11,13 @@
  * elements (count elements, not bytes), is aligned and is not null, even where the count is 0; a log
  * that a call writes is not the memory of its message; an output is not the memory of its log.
  *
+ * And what no call can see to: that no two offices settle differently is proved for offices whose every
+ * call gets the record and log that the last call at that office left, and for messages that nobody
+ * alters. So a service stores both durably before anything of them is sent or shown; never restores an
+ * older state, nor founds a number again; never runs two copies of an office number; and hands take what
+ * an office of the same frame sent, late, twice or never. docs/EMBEDDING.md shows the harm where this is
+ * not kept, what to do after a disk is lost, and that an edit can lose with no call refused.
+ *
  * Link with target/staticlib/libembed.a (x86-64 Linux), which `rt staticlib embed` writes.
  */
 #ifndef JOUKERPAN_H
@@ -46,7 +53,7 @@ enum {
     JOUKERPAN_NO_MESSAGE = 7,     /* message not of the layout, or a number in it outside the limits */
     JOUKERPAN_OTHER_OFFICES = 8,  /* message's n or weights differ from the record's */
     JOUKERPAN_OWN_MESSAGE = 9,    /* sender is the receiver's own office */
-    JOUKERPAN_OTHER_LOG = 10      /* neither settled log is a beginning of the other */
+    JOUKERPAN_OTHER_LOG = 10      /* neither settled log is a beginning of the other: stop (see above) */
 };
 
 /* A ballot: a tail of entries. Length 0 means none, or unknown. Unused cells are zero. */
@@ -57,8 +64,9 @@ typedef struct {
 
 /*
  * What one office knows, apart from its log. The first `settled` words of the log are the settled log,
- * one entry a word: office * 16777216 + line * 65536 + code. Store record and log as they are; sound()
- * says whether what was read back is a record with its log.
+ * one entry a word: office * 16777216 + line * 65536 + code. Store record and log as they are, before
+ * anything of them is sent or shown; sound() says whether what was read back is a record with its log,
+ * and cannot say whether it is the newest.
  */
 typedef struct {
     size_t n;                                     /* offices there are */

@@ -11,22 +11,24 @@ fn archive_folder() -> PathBuf {
     }
 }
 
+/// The library to link. Where there is none, its name says so: `cargo check` and `cargo doc` link nothing and
+/// go on, and a build ends with the one line that no library of that name was found.
+fn library(archive: &Path) -> &'static str {
+    let target = env::var("TARGET").unwrap_or_default();
+    if !(target.starts_with("x86_64-") && target.contains("-linux-")) {
+        "embed (the engine's archive is for x86-64 Linux alone)"
+    } else if !archive.is_file() {
+        "embed (run 'rt staticlib embed' at the repository's root, or name libembed.a's folder in JOUKERPAN_LIB_DIR)"
+    } else {
+        "embed"
+    }
+}
+
 fn main() {
     println!("cargo:rerun-if-env-changed=JOUKERPAN_LIB_DIR");
-    let target = env::var("TARGET").unwrap_or_default();
-    assert!(
-        target.starts_with("x86_64-") && target.contains("-linux-"),
-        "joukerpan-sys: the engine's archive is for x86-64 Linux, and the target is {target}"
-    );
     let folder = archive_folder();
     let archive = folder.join("libembed.a");
     println!("cargo:rerun-if-changed={}", archive.display());
-    assert!(
-        archive.is_file(),
-        "joukerpan-sys: {} is missing. Run `rt staticlib embed` at the repository's root, \
-         or name the folder that holds libembed.a in JOUKERPAN_LIB_DIR",
-        archive.display()
-    );
     println!("cargo:rustc-link-search=native={}", folder.display());
-    println!("cargo:rustc-link-lib=static=embed");
+    println!("cargo:rustc-link-lib=static={}", library(&archive));
 }

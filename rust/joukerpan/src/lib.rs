@@ -26,16 +26,22 @@
 //! # Ok::<(), Refused>(())
 //! ```
 //!
+//! What a service owes in return, above all how it stores an office, stands at [`Office`]. That an edit
+//! can lose, and how that is noticed, stands at [`Office::pending`].
+//!
 //! What is proved and of what, docs/READING.md of the repository says; this crate adds the
-//! memory that the engine borrows, and no rule of its own.
+//! memory that the engine borrows, bytes to store an office as, and no rule of its own.
 
 #![warn(missing_docs)]
 
+mod bytes;
 mod entry;
 mod office;
 mod refused;
+mod unreadable;
 
 pub use entry::Entry;
 pub use joukerpan_sys::{Ballot, Record, CODES, LINES, LOG, MESSAGE_MAX, OFFICES, TAIL};
 pub use office::{sound, Office};
 pub use refused::Refused;
+pub use unreadable::Unreadable;

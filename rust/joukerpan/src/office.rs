@@ -5,9 +5,26 @@ use std::fmt;
 use joukerpan_sys as engine;
 use joukerpan_sys::{Record, Weights, LOG, MESSAGE_MAX, OFFICES};
 
-use crate::Refused;
+use crate::{Entry, Refused};
 
 /// One office's state: its record and its log, which are always sound together.
+///
+/// # What a service owes
+///
+/// That no two offices settle differently is proved for offices whose every call gets the state that the
+/// last call at that office left, and for messages that nobody alters. The crate sees to memory; this is
+/// the service's part:
+///
+/// - **Store before anything is sent or shown.** After a call that changes the office, its bytes
+///   ([`Office::to_bytes`]) are on durable storage before a message of it leaves, and before a frame
+///   of it is shown or printed. A call that was neither stored nor sent nor shown is as if never made.
+/// - **Never restore an older state,** from a backup or otherwise, and never found the number again.
+/// - **Never run two copies of an office number.** A clone is for looking at, and for nothing else.
+/// - **Hand take what was sent,** late, twice or never, as an office of this frame sent it.
+///
+/// A service that breaks this can have line 5 settled as 120 at one office and as 130 at another
+/// (`tests/storage.rs` of this crate shows it), and meets [`Refused::OtherLog`] later, or too late.
+/// What to do when a disk is lost, docs/EMBEDDING.md of the repository says.
 ///
 /// Two offices are equal when their records and their settled logs are.
 #[derive(Clone)]
@@ -27,7 +44,8 @@ pub fn sound(record: &Record, log: &[u32]) -> bool {
 impl Office {
     /// Founds an office: an empty log and no ballots. There is a weight for each office, and `own` is this one.
     ///
-    /// All offices of a frame are founded with the same weights.
+    /// All offices of a frame are founded with the same weights, each number once. A service whose file
+    /// is missing does not found the office again.
     ///
     /// # Errors
     ///
@@ -54,7 +72,7 @@ impl Office {
         Ok(Office { record: founded.record, log })
     }
 
-    /// The office that [`Office::into_parts`] took apart, for a service that stores offices.
+    /// The office that [`Office::into_parts`] took apart. To store an office, see [`Office::to_bytes`].
     ///
     /// # Errors
     ///
@@ -79,7 +97,7 @@ impl Office {
         }
     }
 
-    /// The record and the log, to be stored. The words past the settled ones mean nothing.
+    /// The record and the log. The words past the settled ones mean nothing.
     pub fn into_parts(self) -> (Record, Box<[u32; LOG]>) {
         (self.record, self.log)
     }
@@ -89,7 +107,56 @@ impl Office {
         &self.record
     }
 
-    /// Edits the frame: appends the entry to the office's own ballot.
+    /// This office's number.
+    pub fn own(&self) -> usize {
+        self.record.own
+    }
+
+    /// How many offices there are; their numbers are 0 to one less.
+    pub fn offices(&self) -> usize {
+        self.record.n
+    }
+
+    /// The weight of each office, as it was founded.
+    pub fn weights(&self) -> &[u16] {
+        &self.record.weights[..self.record.n]
+    }
+
+    /// The office's own edits that are not settled yet, the oldest first.
+    ///
+    /// An edit leaves this list in a take or an election, settled or **lost**: a place of the settled
+    /// log takes one entry, of whatever line, and when another office's wins the place of an edit or
+    /// an earlier one, the edit and those behind it are gone, with no refusal. A service that tells its
+    /// supervisors compares this list and the settled log before and after each take and elect
+    /// (docs/EMBEDDING.md of the repository). Entries that this office has adopted from others are
+    /// not its own edits and are not in the list.
+    ///
+    /// ```
+    /// use joukerpan::{Entry, Office, Refused};
+    ///
+    /// let mut office = Office::found(1, &[40, 35, 25])?;
+    /// office.issue(5, 130)?;
+    /// assert_eq!(office.pending(), [Entry { office: 1, line: 5, code: 130 }]);
+    ///
+    /// let mut other = Office::found(0, &[40, 35, 25])?;
+    /// let mut third = Office::found(2, &[40, 35, 25])?;
+    /// other.issue(6, 7)?;              // another line, and the same place
+    /// third.take(&other.message())?;
+    /// assert_eq!(third.elect(), 1);
+    ///
+    /// office.take(&third.message())?;  // done, and the edit is lost
+    /// assert_eq!(office.pending(), []);
+    /// assert_eq!((office.settled_frame(5), office.tentative_frame(5)), (Ok(0), Ok(0)));
+    /// # Ok::<(), Refused>(())
+    /// ```
+    pub fn pending(&self) -> Vec<Entry> {
+        let own = &self.record.ballots[self.record.own];
+        let entries = own.cells[..own.len].iter().map(|&word| Entry::from(word));
+        entries.filter(|entry| usize::from(entry.office) == self.record.own).collect()
+    }
+
+    /// Edits the frame: appends the entry to the office's own ballot. It can lose: see
+    /// [`Office::pending`].
     ///
     /// # Errors
     ///
@@ -101,8 +168,7 @@ impl Office {
         Refused::check(issued.number)
     }
 
-    /// The settled log, an entry to each word ([`Entry`](crate::Entry) reads them): those that no office
-    /// will contradict.
+    /// The settled log, an entry to each word ([`Entry`] reads them): those that no office will contradict.
     ///
     /// ```
     /// use joukerpan::{Entry, Office, Refused};
@@ -179,7 +245,7 @@ impl Office {
         Ok(&output[..sent.length])
     }
 
-    /// The office's message, for any other office to take.
+    /// The office's message, for any other office to take. Store the office before it leaves.
     pub fn message(&self) -> Vec<u8> {
         let mut output = vec![0; MESSAGE_MAX];
         let length = self.send(&mut output).expect("no message is longer").len();

@@ -40,8 +40,26 @@ pub enum Refused {
     /// The message is the office's own.
     OwnMessage = 9,
     /// Neither settled log is a beginning of the other.
+    ///
+    /// Where a service does what [`Office`](crate::Office) asks of it, this is never given (proved). Where it
+    /// is, an older state, a second copy or an altered message has been at work, and what is settled may
+    /// be contradicted: stop the frame and print no more from it.
     OtherLog = 10,
 }
+
+/// Every refusal, by rising number.
+const ALL: [Refused; 10] = [
+    Refused::Unsound,
+    Refused::Founding,
+    Refused::NoEntry,
+    Refused::TailFull,
+    Refused::LogFull,
+    Refused::OutputShort,
+    Refused::NoMessage,
+    Refused::OtherOffices,
+    Refused::OwnMessage,
+    Refused::OtherLog,
+];
 
 impl Refused {
     /// The number of the refusal, 1 to 10.
@@ -49,22 +67,26 @@ impl Refused {
         self as u32
     }
 
+    /// The refusal with this number, as a C caller or a rehearsal has it; none for 0, which is "done",
+    /// and for a number that no refusal has.
+    ///
+    /// ```
+    /// use joukerpan::Refused;
+    ///
+    /// assert_eq!(Refused::from_number(9), Some(Refused::OwnMessage));
+    /// assert_eq!(Refused::from_number(0), None);
+    /// ```
+    pub fn from_number(number: u32) -> Option<Refused> {
+        ALL.into_iter().find(|refused| refused.number() == number)
+    }
+
     /// The answer that goes with a number of the engine's: done, or refused.
     pub(crate) fn check(number: u32) -> Result<(), Refused> {
-        Err(match number {
-            0 => return Ok(()),
-            1 => Refused::Unsound,
-            2 => Refused::Founding,
-            3 => Refused::NoEntry,
-            4 => Refused::TailFull,
-            5 => Refused::LogFull,
-            6 => Refused::OutputShort,
-            7 => Refused::NoMessage,
-            8 => Refused::OtherOffices,
-            9 => Refused::OwnMessage,
-            10 => Refused::OtherLog,
-            _ => unreachable!("the engine answers 0 to 10, not {number}"),
-        })
+        match Refused::from_number(number) {
+            Some(refused) => Err(refused),
+            None if number == 0 => Ok(()),
+            None => unreachable!("the engine has no number {number}"),
+        }
     }
 
     /// The cause, in words.
@@ -94,15 +116,23 @@ impl Error for Refused {}
 
 #[cfg(test)]
 mod tests {
-    use super::Refused;
+    use super::{Refused, ALL};
 
     #[test]
     fn every_number_is_its_own() {
         assert_eq!(Refused::check(0), Ok(()));
-        for number in 1..=10 {
-            let refused = Refused::check(number).unwrap_err();
+        for (number, refused) in (1..).zip(ALL) {
             assert_eq!(refused.number(), number);
+            assert_eq!(Refused::from_number(number), Some(refused));
+            assert_eq!(Refused::check(number), Err(refused));
             assert!(refused.to_string().starts_with(&format!("refused ({number}): ")));
+        }
+    }
+
+    #[test]
+    fn no_other_number_is_a_refusal() {
+        for number in [0, 11, 256, u32::MAX] {
+            assert_eq!(Refused::from_number(number), None);
         }
     }
 }

@@ -1,0 +1,191 @@
+//! An office as bytes, for a service to store.
+//!
+//! Numbers have four bytes, the most significant first. Every version begins with the mark and its own
+//! number and ends with the check sum of all bytes before it; what stands between is the version's.
+//! A record that widens gets a new name in `VERSIONS` and its fields in `to_bytes` and `from_bytes`.
+
+use joukerpan_sys::{Ballot, Record, LOG, OFFICES, TAIL};
+
+use crate::{Office, Unreadable};
+
+/// What a stored office begins with.
+const MARK: [u8; 4] = *b"JKPN";
+
+/// The versions by name, version 1 first. The last one is written and read, the others are refused.
+pub(crate) const VERSIONS: [&str; 1] = ["fixed weights"];
+
+/// The version that is written and read.
+pub(crate) const VERSION: u32 = VERSIONS.len() as u32;
+
+/// The check sum of some bytes: CRC-32, as Ethernet and zip have it.
+fn check_sum(bytes: &[u8]) -> u32 {
+    let bit = |sum: u32, _| (sum >> 1) ^ (0xEDB8_8320 & (sum & 1).wrapping_neg());
+    !bytes.iter().fold(!0, |sum, &byte| (0..8).fold(sum ^ u32::from(byte), bit))
+}
+
+/// Bytes of a version around its numbers.
+fn sealed(version: u32, numbers: &[u32]) -> Vec<u8> {
+    let mut bytes = MARK.to_vec();
+    bytes.extend(version.to_be_bytes());
+    bytes.extend(numbers.iter().flat_map(|number| number.to_be_bytes()));
+    bytes.extend(check_sum(&bytes).to_be_bytes());
+    bytes
+}
+
+/// The numbers that whole bytes of this version hold.
+fn opened(bytes: &[u8]) -> Result<Numbers<'_>, Unreadable> {
+    let inside = bytes.strip_prefix(&MARK).ok_or(Unreadable::NoOffice)?;
+    let (inside, sum) = inside.split_last_chunk().ok_or(Unreadable::Damaged)?;
+    if check_sum(&bytes[..bytes.len() - sum.len()]) != u32::from_be_bytes(*sum) {
+        return Err(Unreadable::Damaged);
+    }
+    let mut numbers = Numbers(inside);
+    match numbers.next()? {
+        [VERSION] => Ok(numbers),
+        [other] => Err(Unreadable::OtherVersion(other)),
+    }
+}
+
+/// Numbers that are still to be read.
+struct Numbers<'a>(&'a [u8]);
+
+impl Numbers<'_> {
+    /// The next N numbers; the bytes are damaged where there are fewer.
+    fn next<const N: usize>(&mut self) -> Result<[u32; N], Unreadable> {
+        let (front, rest) = self.0.split_at_checked(4 * N).ok_or(Unreadable::Damaged)?;
+        self.0 = rest;
+        let mut four = front.chunks_exact(4);
+        Ok([(); N].map(|()| u32::from_be_bytes(four.next().expect("4 × N bytes").try_into().expect("four"))))
+    }
+
+    /// The rest as the settled words of a log.
+    fn log(mut self, settled: usize) -> Result<Box<[u32; LOG]>, Unreadable> {
+        let mut log = Box::new([0; LOG]);
+        for word in log.get_mut(..settled).ok_or(Unreadable::Unsound)? {
+            [*word] = self.next()?;
+        }
+        self.0.is_empty().then_some(log).ok_or(Unreadable::Damaged)
+    }
+}
+
+impl Office {
+    /// The office as bytes, to be stored before anything of it is sent or shown: with a version and a
+    /// check sum, 1,112 bytes and 4 for each settled entry.
+    ///
+    /// ```
+    /// use joukerpan::Office;
+    ///
+    /// let mut office = Office::found(1, &[50, 50])?;
+    /// office.issue(5, 130)?;
+    /// assert_eq!(Office::from_bytes(&office.to_bytes())?, office);
+    /// # Ok::<(), Box<dyn std::error::Error>>(())
+    /// ```
+    pub fn to_bytes(&self) -> Vec<u8> {
+        let Record { n, own, weights, settled, ballots } = self.record();
+        let mut numbers = vec![*n as u32, *own as u32, *settled as u32];
+        numbers.extend(weights.map(u32::from));
+        for ballot in ballots {
+            numbers.push(ballot.len as u32);
+            numbers.extend(ballot.cells);
+        }
+        numbers.extend(self.settled());
+        sealed(VERSION, &numbers)
+    }
+
+    /// The office that [`Office::to_bytes`] wrote. It must be the newest of its number that was ever sent
+    /// or shown; the bytes cannot tell.
+    ///
+    /// # Errors
+    ///
+    /// [`Unreadable`] for any other bytes. The check sum is against accidents: who can compute it can
+    /// write any sound office.
+    ///
+    /// ```
+    /// use joukerpan::{Office, Unreadable};
+    ///
+    /// let mut bytes = Office::found(1, &[50, 50])?.to_bytes();
+    /// bytes[20] ^= 1;
+    /// assert_eq!(Office::from_bytes(&bytes), Err(Unreadable::Damaged));
+    /// assert_eq!(Office::from_bytes(b"a letter"), Err(Unreadable::NoOffice));
+    /// # Ok::<(), joukerpan::Refused>(())
+    /// ```
+    pub fn from_bytes(bytes: &[u8]) -> Result<Office, Unreadable> {
+        let mut numbers = opened(bytes)?;
+        let [n, own, settled] = numbers.next()?.map(|number| number as usize);
+        let mut weights = [0; OFFICES];
+        for (weight, number) in weights.iter_mut().zip(numbers.next::<OFFICES>()?) {
+            *weight = u16::try_from(number).map_err(|_| Unreadable::Unsound)?;
+        }
+        let mut ballots = [Ballot { len: 0, cells: [0; TAIL] }; OFFICES];
+        for ballot in &mut ballots {
+            let [len] = numbers.next()?;
+            *ballot = Ballot { len: len as usize, cells: numbers.next()? };
+        }
+        let log = numbers.log(settled)?;
+        let record = Record { n, own, weights, settled, ballots };
+        Office::from_parts(record, log).map_err(|_| Unreadable::Unsound)
+    }
+}
+
+#[cfg(test)]
+mod tests {
+    use super::{check_sum, sealed, VERSION};
+    use crate::{Office, Unreadable};
+
+    /// An office with a settled entry and two ballots.
+    fn office() -> Office {
+        let mut office = Office::found(1, &[40, 60, 0]).unwrap();
+        office.issue(5, 130).unwrap();
+        office.elect();
+        office.issue(6, 7).unwrap();
+        office
+    }
+
+    /// The numbers of the office's bytes, without mark, version and check sum.
+    fn numbers(office: &Office) -> Vec<u32> {
+        let bytes = office.to_bytes();
+        bytes[8..bytes.len() - 4].chunks_exact(4).map(|four| u32::from_be_bytes(four.try_into().unwrap())).collect()
+    }
+
+    #[test]
+    fn the_check_sum_is_the_common_one() {
+        assert_eq!(check_sum(b"123456789"), 0xCBF4_3926);
+    }
+
+    /// Where this fails the layout has changed, and the version has to, too.
+    #[test]
+    fn a_version_is_one_layout() {
+        let bytes = office().to_bytes();
+        assert_eq!((VERSION, check_sum(&bytes[8..bytes.len() - 4])), (1, 0xCA83_B039));
+    }
+
+    #[test]
+    fn other_versions_are_refused() {
+        for version in [0, VERSION + 1, u32::MAX] {
+            let bytes = sealed(version, &numbers(&office()));
+            assert_eq!(Office::from_bytes(&bytes), Err(Unreadable::OtherVersion(version)));
+        }
+        assert_eq!(Office::from_bytes(&sealed(VERSION, &numbers(&office()))), Ok(office()));
+    }
+
+    #[test]
+    fn whole_bytes_of_no_sound_office_are_refused() {
+        for (place, number) in
+            [(0, 9), (1, 3), (2, 1025), (2, u32::MAX), (3, 65_536), (11, 33), (12, 1), (275, 1 << 27)]
+        {
+            let mut numbers = numbers(&office());
+            numbers[place] = number;
+            assert_eq!(Office::from_bytes(&sealed(VERSION, &numbers)), Err(Unreadable::Unsound), "{place}");
+        }
+    }
+
+    #[test]
+    fn too_many_and_too_few_numbers_are_refused() {
+        let numbers = numbers(&office());
+        for length in 0..numbers.len() {
+            assert_eq!(Office::from_bytes(&sealed(VERSION, &numbers[..length])), Err(Unreadable::Damaged));
+        }
+        let more = [&numbers[..], &[0]].concat();
+        assert_eq!(Office::from_bytes(&sealed(VERSION, &more)), Err(Unreadable::Damaged));
+    }
+}
