@@ -35,8 +35,8 @@ extern "C" {
 enum {
     JOUKERPAN_OFFICES = 8,     /* offices, at most; places of a record */
     JOUKERPAN_TAIL = 32,       /* entries of a ballot's tail, at most */
-    JOUKERPAN_LINES = 64,      /* lines of the frame: 0 to 63 */
-    JOUKERPAN_CODES = 10000,   /* codes of a line: 0 to 9999 */
+    JOUKERPAN_LINES = 64,      /* lines of the frame: 0 to 63; line 64 + j moves weight to office j */
+    JOUKERPAN_CODES = 10000,   /* codes of a line: 0 to 9999; weight that a move moves: 1 to 9999 */
     JOUKERPAN_LOG = 1024,      /* settled entries, at most; words of a log, at least */
     JOUKERPAN_MESSAGE = 7032   /* bytes of a message, at most */
 };
@@ -46,12 +46,12 @@ enum {
     JOUKERPAN_DONE = 0,           /* the call was done */
     JOUKERPAN_UNSOUND = 1,        /* record unsound, or log below 1,024 words */
     JOUKERPAN_FOUNDING = 2,       /* founding: n, own office or weights outside the limits */
-    JOUKERPAN_NO_ENTRY = 3,       /* line above 63, or code above 9999 */
+    JOUKERPAN_NO_ENTRY = 3,       /* line or code outside the limits: see issue; of a frame: line above 63 */
     JOUKERPAN_TAIL_FULL = 4,      /* own tail is 32 long */
     JOUKERPAN_LOG_FULL = 5,       /* settled length and own tail length make 1,024 */
     JOUKERPAN_OUTPUT_SHORT = 6,   /* output shorter than the message */
     JOUKERPAN_NO_MESSAGE = 7,     /* message not of the layout, or a number in it outside the limits */
-    JOUKERPAN_OTHER_OFFICES = 8,  /* message's n or weights differ from the record's */
+    JOUKERPAN_OTHER_OFFICES = 8,  /* message's n or founding weights differ from the record's */
     JOUKERPAN_OWN_MESSAGE = 9,    /* sender is the receiver's own office */
     JOUKERPAN_OTHER_LOG = 10      /* neither settled log is a beginning of the other: stop (see above) */
 };
@@ -63,6 +63,14 @@ typedef struct {
 } joukerpan_ballot;
 
 /*
+ * What the settled log has done. Take and elect keep it true; a record with any other summary than its
+ * founding weights and its settled log give is unsound.
+ */
+typedef struct {
+    uint16_t present[JOUKERPAN_OFFICES];  /* present weights, by which elect counts votes; same total */
+} joukerpan_summary;
+
+/*
  * What one office knows, apart from its log. The first `settled` words of the log are the settled log,
  * one entry a word: office * 16777216 + line * 65536 + code. Store record and log as they are, before
  * anything of them is sent or shown; sound() says whether what was read back is a record with its log,
@@ -71,7 +79,8 @@ typedef struct {
 typedef struct {
     size_t n;                                     /* offices there are */
     size_t own;                                   /* this office, below n */
-    uint16_t weights[JOUKERPAN_OFFICES];          /* zero from place n on */
+    uint16_t weights[JOUKERPAN_OFFICES];          /* founding weights, which messages carry; zero from place n on */
+    joukerpan_summary summary;                    /* what the settled log has done: the present weights */
     size_t settled;                               /* settled length, at most 1,024 */
     joukerpan_ballot ballots[JOUKERPAN_OFFICES];  /* last known ballot of each office */
 } joukerpan_record;
@@ -118,14 +127,23 @@ typedef struct {
     uint32_t number;
 } joukerpan_taken;
 
-/* A fresh record: an empty log and no ballots. Refused: 1 (log size alone), 2. */
+/* A fresh record: an empty log, no ballots, present weights as founded. Refused: 1 (log size alone), 2. */
 joukerpan_founded joukerpan_found(size_t n, size_t own, joukerpan_weights weights,
                                   const uint32_t *log, size_t log_len);
 
-/* Whether the record with its log is sound: a log of 1,024 words or more, and every limit kept. */
+/*
+ * Whether the record with its log is sound: a log of 1,024 words or more, every limit kept, and the
+ * present weights those that follow from the founding weights and the settled log.
+ */
 bool joukerpan_sound(joukerpan_record record, const uint32_t *log, size_t log_len);
 
-/* Appends the entry to the office's own ballot. Refused: 1, 3, 4, 5. */
+/*
+ * Appends the entry to the office's own ballot: an edit, with line 0 to 63 and code 0 to 9999; or a move
+ * of weight, with line JOUKERPAN_LINES + j, j below n, and code 1 to 9999, the weight that the own office
+ * gives to office j. A move has its effect where it is settled, and only if its office then has that much
+ * and office j stays at or below 65535; else, or where j is the own office, it changes no weight. It
+ * changes no code, and can lose as an edit can. Refused: 1, 3, 4, 5.
+ */
 joukerpan_issued joukerpan_issue(joukerpan_record record, const uint32_t *log, size_t log_len,
                                  uint32_t line, uint32_t code);
 
@@ -142,7 +160,8 @@ joukerpan_framed joukerpan_tentative_frame(joukerpan_record record, const uint32
 
 /*
  * Settles entries, one a step, until none wins, and answers how many. Each winner is written to the log
- * behind the settled words; other words keep their contents. Refused: 1.
+ * behind the settled words; other words keep their contents. A step counts by the present weights that
+ * the step before left. Refused: 1.
  */
 joukerpan_elected joukerpan_elect(joukerpan_record record, uint32_t *log, size_t log_len);
 
@@ -154,8 +173,8 @@ joukerpan_sent joukerpan_send(joukerpan_record record, const uint32_t *log, size
                               uint8_t *output, size_t output_len);
 
 /*
- * Works in another office's message, any bytes: first the settled entries that this office misses,
- * then every ballot whose path extends the known one. Refused: 1, 7, 8, 9, 10.
+ * Works in another office's message, any bytes: first the settled entries that this office misses, with
+ * the weights that they move, then every ballot whose path extends the known one. Refused: 1, 7, 8, 9, 10.
  */
 joukerpan_taken joukerpan_take(joukerpan_record record, uint32_t *log, size_t log_len,
                                const uint8_t *message, size_t message_len);
@@ -171,27 +190,29 @@ joukerpan_taken joukerpan_take(joukerpan_record record, uint32_t *log, size_t lo
 JOUKERPAN_ASSERT(sizeof(size_t) == 8, "joukerpan: a 64-bit target");
 JOUKERPAN_ASSERT(sizeof(joukerpan_ballot) == 136, "joukerpan_ballot: size");
 JOUKERPAN_ASSERT(offsetof(joukerpan_ballot, cells) == 8, "joukerpan_ballot: cells");
-JOUKERPAN_ASSERT(sizeof(joukerpan_record) == 1128, "joukerpan_record: size");
+JOUKERPAN_ASSERT(sizeof(joukerpan_summary) == 16, "joukerpan_summary: size");
+JOUKERPAN_ASSERT(sizeof(joukerpan_record) == 1144, "joukerpan_record: size");
 JOUKERPAN_ASSERT(offsetof(joukerpan_record, own) == 8, "joukerpan_record: own");
 JOUKERPAN_ASSERT(offsetof(joukerpan_record, weights) == 16, "joukerpan_record: weights");
-JOUKERPAN_ASSERT(offsetof(joukerpan_record, settled) == 32, "joukerpan_record: settled");
-JOUKERPAN_ASSERT(offsetof(joukerpan_record, ballots) == 40, "joukerpan_record: ballots");
+JOUKERPAN_ASSERT(offsetof(joukerpan_record, summary) == 32, "joukerpan_record: summary");
+JOUKERPAN_ASSERT(offsetof(joukerpan_record, settled) == 48, "joukerpan_record: settled");
+JOUKERPAN_ASSERT(offsetof(joukerpan_record, ballots) == 56, "joukerpan_record: ballots");
 JOUKERPAN_ASSERT(sizeof(joukerpan_weights) == 16, "joukerpan_weights: size");
-JOUKERPAN_ASSERT(sizeof(joukerpan_founded) == 1136, "joukerpan_founded: size");
-JOUKERPAN_ASSERT(offsetof(joukerpan_founded, number) == 1128, "joukerpan_founded: number");
-JOUKERPAN_ASSERT(sizeof(joukerpan_issued) == 1136, "joukerpan_issued: size");
-JOUKERPAN_ASSERT(offsetof(joukerpan_issued, number) == 1128, "joukerpan_issued: number");
+JOUKERPAN_ASSERT(sizeof(joukerpan_founded) == 1152, "joukerpan_founded: size");
+JOUKERPAN_ASSERT(offsetof(joukerpan_founded, number) == 1144, "joukerpan_founded: number");
+JOUKERPAN_ASSERT(sizeof(joukerpan_issued) == 1152, "joukerpan_issued: size");
+JOUKERPAN_ASSERT(offsetof(joukerpan_issued, number) == 1144, "joukerpan_issued: number");
 JOUKERPAN_ASSERT(sizeof(joukerpan_part) == 16, "joukerpan_part: size");
 JOUKERPAN_ASSERT(offsetof(joukerpan_part, length) == 8, "joukerpan_part: length");
 JOUKERPAN_ASSERT(sizeof(joukerpan_framed) == 8, "joukerpan_framed: size");
 JOUKERPAN_ASSERT(offsetof(joukerpan_framed, code) == 4, "joukerpan_framed: code");
-JOUKERPAN_ASSERT(sizeof(joukerpan_elected) == 1144, "joukerpan_elected: size");
-JOUKERPAN_ASSERT(offsetof(joukerpan_elected, number) == 1128, "joukerpan_elected: number");
-JOUKERPAN_ASSERT(offsetof(joukerpan_elected, count) == 1136, "joukerpan_elected: count");
+JOUKERPAN_ASSERT(sizeof(joukerpan_elected) == 1160, "joukerpan_elected: size");
+JOUKERPAN_ASSERT(offsetof(joukerpan_elected, number) == 1144, "joukerpan_elected: number");
+JOUKERPAN_ASSERT(offsetof(joukerpan_elected, count) == 1152, "joukerpan_elected: count");
 JOUKERPAN_ASSERT(sizeof(joukerpan_sent) == 16, "joukerpan_sent: size");
 JOUKERPAN_ASSERT(offsetof(joukerpan_sent, length) == 8, "joukerpan_sent: length");
-JOUKERPAN_ASSERT(sizeof(joukerpan_taken) == 1136, "joukerpan_taken: size");
-JOUKERPAN_ASSERT(offsetof(joukerpan_taken, number) == 1128, "joukerpan_taken: number");
+JOUKERPAN_ASSERT(sizeof(joukerpan_taken) == 1152, "joukerpan_taken: size");
+JOUKERPAN_ASSERT(offsetof(joukerpan_taken, number) == 1144, "joukerpan_taken: number");
 
 #undef JOUKERPAN_ASSERT
 

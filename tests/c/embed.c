@@ -1,4 +1,4 @@
-/* The engine through its C calls: the paper's rehearsal, some lettered cases, each refusal once. */
+/* The engine through its C calls: the paper's rehearsal, some lettered cases, moves of weight, each refusal once. */
 #include <stdio.h>
 #include <stdlib.h>
 #include <string.h>
@@ -153,6 +153,47 @@ static void cases(void) {
     expect("L: log", y.log[0], a);
 }
 
+/* Whether the office has these present weights, and the founding ones of all offices here. */
+static bool present(const office *of, uint16_t first, uint16_t second, uint16_t third) {
+    const uint16_t weights[JOUKERPAN_OFFICES] = {first, second, third};
+    return memcmp(of->record.summary.present, weights, sizeof weights) == 0
+        && memcmp(of->record.weights, WEIGHTS.of, sizeof WEIGHTS.of) == 0;
+}
+
+/* Office 2 hands its weight on to office 0; office 1 hears of it. */
+static void moves(void) {
+    static office of[3];
+    uint8_t message[JOUKERPAN_MESSAGE];
+    for (size_t own = 0; own < 3; own++) {
+        founded(&of[own], own, WEIGHTS, 3);
+        expect("the present weights of a founding", present(&of[own], 40, 35, 25), true);
+    }
+    expect("a move to office 0", issue(&of[2], JOUKERPAN_LINES + 0, 25), JOUKERPAN_DONE);
+    expect("its entry", of[2].record.ballots[2].cells[0], entry(2, 64, 25));
+    expect("take at 0", take(&of[0], message, send(&of[2], message, sizeof message)), JOUKERPAN_DONE);
+    expect("not settled, no effect", present(&of[0], 40, 35, 25), true);
+    expect("elect at 0", elect(&of[0]), 1);
+    expect("settled", present(&of[0], 65, 35, 0), true);
+    expect("an edit at 0", issue(&of[0], 5, 120), JOUKERPAN_DONE);
+    expect("wins alone", elect(&of[0]), 1);
+
+    size_t length = send(&of[0], message, sizeof message);
+    static const uint8_t head[10] = {0x53, 0x48, 0, 3, 0, 40, 0, 35, 0, 25};
+    expect("a message has the founding weights", memcmp(message, head, sizeof head), 0);
+    expect("take at 1", take(&of[1], message, length), JOUKERPAN_DONE);
+    expect("the weights come with the log", present(&of[1], 65, 35, 0), true);
+
+    expect("a move of more than there is", issue(&of[1], JOUKERPAN_LINES + 2, 36), JOUKERPAN_DONE);
+    expect("take at 0", take(&of[0], message, send(&of[1], message, sizeof message)), JOUKERPAN_DONE);
+    expect("elect at 0", elect(&of[0]), 1);
+    expect("is settled and changes nothing", present(&of[0], 65, 35, 0), true);
+
+    expect("a move of all", issue(&of[1], JOUKERPAN_LINES + 2, 35), JOUKERPAN_DONE);
+    of[1].record.summary.present[0]--;
+    expect("weights that do not follow from the log", joukerpan_sound(of[1].record, of[1].log, WORDS), false);
+    expect("issue", issue(&of[1], 5, 120), JOUKERPAN_UNSOUND);
+}
+
 static void founding_refusals(void) {
     static uint32_t log[JOUKERPAN_LOG];
     static const joukerpan_record zero;
@@ -171,7 +212,10 @@ static void founding_refusals(void) {
 static void issue_refusals(void) {
     static office x;
     founded(&x, 1, WEIGHTS, 3);
-    expect("line 64", issue(&x, JOUKERPAN_LINES, 0), JOUKERPAN_NO_ENTRY);
+    expect("a move of 0", issue(&x, JOUKERPAN_LINES, 0), JOUKERPAN_NO_ENTRY);
+    expect("a move of 10000", issue(&x, JOUKERPAN_LINES, JOUKERPAN_CODES), JOUKERPAN_NO_ENTRY);
+    expect("a move to office 3 of 3", issue(&x, JOUKERPAN_LINES + 3, 1), JOUKERPAN_NO_ENTRY);
+    expect("line 256", issue(&x, 256, 1), JOUKERPAN_NO_ENTRY);
     expect("code 10000", issue(&x, 0, JOUKERPAN_CODES), JOUKERPAN_NO_ENTRY);
     for (int i = 0; i < JOUKERPAN_TAIL; i++) {
         expect("issue", issue(&x, 63, 9999), JOUKERPAN_DONE);
@@ -258,6 +302,7 @@ static void longest_message(void) {
 int main(void) {
     rehearsal();
     cases();
+    moves();
     founding_refusals();
     issue_refusals();
     unsound_records();

@@ -1,5 +1,5 @@
 -- What each call of the list may be refused with, and what the offices keep. Assumes nothing.
-use mathlib.Core.Path.{_≡_, refl, sym, ap, _∙_}
+use mathlib.Core.Path.{_≡_, refl, sym, ap, subst, _∙_}
 use mathlib.Core.Bool.{Bool, true, false, _||_, cond}
 use mathlib.Core.List.{List, [], _∷_, _++_}
 use mathlib.Core.Option.{Option, none, some}
@@ -7,13 +7,15 @@ use mathlib.Core.Logic.{_⊎_, inl, inr}
 use Prim.Native.Nat.{ℕ, _+_}
 use native.Mathlib.Omega.{arith}
 use lib.Dec.{eqb, ltb}
-use lib.ListN.{length}
+use lib.ListN.{length, drop}
 use borrow.Author.Tests.{eqb-true}
-use Rattle.lists.specs.Tests.{pick}
+use Rattle.lists.specs.Tests.{pick, allB}
 use Rattle.protocol.specs.Beginning.{begins}
 use Rattle.protocol.specs.Office.{Office, Message, tail}
 use Rattle.protocol.proofs.Limits.{issue-never}
-use Rattle.protocol.specs.Issue.{refuseIssue}
+use Rattle.protocol.specs.Limits.{isWeight, total, Head}
+use Rattle.protocol.specs.Moves.{weightsAfter}
+use Rattle.protocol.proofs.Moves.{weights-total, weights-most, weights-zero}
 use Rattle.protocol.specs.Take.{refuseTake}
 use Rattle.lists.proofs.Tests.{pick-cases}
 use Rattle.frame.specs.Issuing.{issueOf}
@@ -25,7 +27,9 @@ use Rattle.agreement.specs.World.{Replica, World, Call, issue, send, tak
 use Rattle.agreement.specs.Demand.{Founded, says}
 use Rattle.agreement.specs.Calls.{Kept}
 use Rattle.agreement.proofs.Places.{set-same}
-use Rattle.agreement.proofs.View.{means, sendDone, SoundWorld}
+use Rattle.summary.specs.declared.Summary.{Summary}
+use Rattle.agreement.proofs.View.{means, sendDone, SoundReplica, SoundWorld}
+use Rattle.agreement.proofs.Held.{replica-fine}
 use Rattle.agreement.proofs.Issued.{issueReplica, issue-number, issue-refused}
 use Rattle.agreement.proofs.Sent.{send-number}
 use Rattle.agreement.proofs.Taken.{takeReplica, take-number, take-refused}
@@ -95,7 +99,7 @@ module _ (n : ℕ) (ws : List ℕ) (w : World) (s : SoundWorld n ws w) where
     where
       go : (x : Option Replica) → replicaAt w k ≡ x → onSome x 0 (λ d. issueOf (d .held) (d .words) line code .number) ≡ 1 → ⊥
       go none e h = omega arith
-      go (some d) e h = issue-never k line code (says d) .0 (sym (issue-number n ws k d (s .each k d e) line code) ∙ h)
+      go (some d) e h = issue-never n k line code (says d) .0 (sym (issue-number n ws k d (s .each k d e) line code) ∙ h)
   never-unsound (send k out) h = go (sends k out)
     where
       go : (number w (send k out) ≡ 0) ⊎ (number w (send k out) ≡ 6) → ⊥
@@ -140,6 +144,17 @@ module _ (n : ℕ) (ws : List ℕ) (w : World) (s : SoundWorld n ws w) where
       go (some d) e (some b) f h = put-same k d (takeReplica d b) e (take-refused n ws k d (s .each k d e) b (s .spelled m b f) h)
   refused (elect k) h = absurd (h (elects k))
 
+-- ── the present weights ──
+module _ (n : ℕ) (ws : List ℕ) (k : ℕ) (d : Replica) (m : SoundReplica n ws k d) where
+  present : d .held .summary .present ≡ weightsAfter ws (says d .log)
+  present = ap (λ (x : Summary). x .present) (m .sound .done) ∙ ap (λ (l : List ℕ). weightsAfter l (says d .log)) (m .weights)
+
+  present-fine : (allB isWeight (d .held .summary .present) ≡ true) × (allB (eqb 0) (drop n (d .held .summary .present)) ≡ true)
+  present-fine =
+      let H = subst (λ (l : List ℕ). Head (d .held .n) (d .held .own) l) (m .weights) (m .sound .head) in
+      let rest = subst (λ (i : ℕ). allB (eqb 0) (drop i ws) ≡ true) (m .count) (H .rest) in
+      rw present (weights-most ws (says d .log) (H .weights), weights-zero n ws (says d .log) (replica-fine n ws k d m .entries) rest)
+
 -- of every list of calls
 pub kept : (n : ℕ) (weights : List ℕ) (start : World) → Founded n weights start → (cs : List Call) → Kept n weights start cs
 kept n ws start f cs =
@@ -150,6 +165,10 @@ kept n ws start f cs =
       own = λ k d e. s .each k d e .own;
       alike = λ k d e. (s .each k d e .count, s .each k d e .weights);
       sound = λ k d e. sound-true (d .held) (d .words) (s .each k d e .sound);
+      present = λ k d e. present n ws k d (s .each k d e);
+      total-kept = λ k d e. ap total (present n ws k d (s .each k d e)) ∙ weights-total ws (says d .log);
+      weights-fine = λ k d e. present-fine n ws k d (s .each k d e);
+      equal = λ j k d e q r h. present n ws j d (s .each j d q) ∙ ap (weightsAfter ws) h ∙ sym (present n ws k e (s .each k e r));
       never-unsound = never-unsound n ws w s;
       elects = elects n ws w s;
       sends = sends n ws w s;

@@ -2,15 +2,15 @@
 use mathlib.Core.Path.{_≡_, refl, sym, ap, subst, _∙_}
 use mathlib.Core.List.{List, [], _∷_, _++_, map, map-map}
 use mathlib.Core.Option.{Option, none, some}
-use Prim.Native.Nat.{ℕ, _<_}
+use Prim.Native.Nat.{ℕ, _<_, _≤_}
 use lib.ListN as L
 use lib.ListN.{length, getD, List·getD-eq-default, length-map}
 use Rattle.protocol.specs.Entry.{officeOf, lineOf, codeOf}
 use Rattle.protocol.specs.Beginning.{_⊑_}
-use Rattle.protocol.specs.Vote.{byWeights}
+use Rattle.protocol.specs.SettledRule.{bySettled}
 use Rattle.protocol.specs.Office.{Office, fresh, path}
 use Rattle.protocol.specs.Longest.{longest}
-use Rattle.protocol.proofs.Lawful.{byWeights-lawful}
+use Rattle.protocol.proofs.Lawful.{settled-lawful}
 use Rattle.protocol.proofs.World as P
 use Rattle.protocol.proofs.World.{refusal}
 use Rattle.protocol.proofs.OneOrder.{settledLogs}
@@ -19,6 +19,7 @@ use Rattle.agreement.specs.World.{Replica, World, Call, issue, send, tak
 use Rattle.agreement.specs.Demand.{Founded, says, logAt, viewAt, order, IssuedIn, OneOrder}
 use Rattle.agreement.proofs.Places.{not-there, find}
 use Rattle.agreement.proofs.View.{view, sendDone, callOf, SoundWorld, view-at}
+use Rattle.agreement.proofs.Held.{few-offices}
 use Rattle.agreement.proofs.Follows.{sound-start, starts, moves, keeps}
 use Rattle.agreement.proofs.Numbers.{numbers}
 
@@ -77,7 +78,7 @@ module _ (n : ℕ) (ws : List ℕ) (start : World) (f : Founded n ws start) wher
       go w [] s = s
       go w (c ∷ cs) s = go (step w c) cs (keeps n ws w s c)
 
-  follows : Follows (machine start) (byWeights ws) n
+  follows : Follows (machine start) (bySettled ws) n
   follows = record {
     Sound = SoundWorld n ws;
     sound-start = sound-start n ws start f;
@@ -88,8 +89,12 @@ module _ (n : ℕ) (ws : List ℕ) (start : World) (f : Founded n ws start) wher
     issues = λ w c k line code s e h. numbers n ws w s c ∙ ap (refusal (view w)) e ∙ h;
   }
 
+  -- office 0 was founded, so there are at most eight offices
+  few : n ≤ 8
+  few = let first = find (start .replicas) 0 (rw (f .offices) (f .any)) in few-offices n ws 0 (first .0) (sound-start n ws start f .each 0 (first .0) (first .1))
+
   one : (cs : List Call) → OneOrderOf (machine start) n cs
-  one cs = one-order-machine (machine start) (byWeights ws) n follows (byWeights-lawful ws) (f .any) cs
+  one cs = one-order-machine (machine start) (bySettled ws) n follows (settled-lawful ws) few (f .any) cs
 
   after-is : (cs : List Call) → reached (machine start) cs ≡ after start cs
   after-is cs = runs-after start start cs

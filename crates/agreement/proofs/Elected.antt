@@ -4,10 +4,10 @@ use mathlib.Core.Bool.{true}
 use mathlib.Core.List.{List}
 use Prim.Native.Nat.{ℕ}
 use Rattle.lists.specs.Tests.{pick}
-use Rattle.protocol.specs.Vote.{byWeights}
+use Rattle.protocol.specs.SettledRule.{bySettled}
 use Rattle.protocol.specs.Office.{Office}
 use Rattle.protocol.specs.Elect.{withElect}
-use Rattle.protocol.proofs.Lawful.{byWeights-lawful, lawful-voted}
+use Rattle.protocol.proofs.Lawful.{settled-lawful, lawful-voted}
 use Rattle.protocol.proofs.Limits.{elect-fine}
 use Rattle.frame.specs.Electing.{electOf, electWords}
 use Rattle.frame.proofs.Sound.{sound-true}
@@ -22,7 +22,7 @@ electReplica d = record { held = electOf (d .held) (d .words) .«record»; words
 
 module _ (n : ℕ) (ws : List ℕ) (k : ℕ) (d : Replica) (m : SoundReplica n ws k d) where
   abbrev elected : Office
-  elected = withElect (byWeights ws) (says d)
+  elected = withElect (bySettled ws) (says d)
 
   pub elect-number : electOf (d .held) (d .words) .number ≡ 0
   unfolding electOf pick
@@ -30,13 +30,13 @@ module _ (n : ℕ) (ws : List ℕ) (k : ℕ) (d : Replica) (m : SoundReplica n w
 
   elect-replica : electReplica d ≡ pick true (holds d elected) d
   unfolding electOf electWords pick
-  elect-replica = rw (sound-true (d .held) (d .words) (m .sound)) (ap (λ (l : List ℕ). holds d (withElect (byWeights l) (says d))) (m .weights))
+  elect-replica = rw (sound-true (d .held) (d .words) (m .sound)) (ap (λ (l : List ℕ). holds d (withElect (bySettled l) (says d))) (m .weights))
 
   pub elect-says : says (electReplica d) ≡ pick true elected (says d)
   elect-says = moved-says n ws k d m true elected (electReplica d) elect-replica
 
   pub elect-sound : SoundReplica n ws k (electReplica d)
   elect-sound =
-      let rule = byWeights ws in
+      let rule = bySettled ws in
       moved-sound n ws k d m true elected (electReplica d) elect-replica
-      (λ _. elect-fine rule (lawful-voted rule (byWeights-lawful ws)) n (says d) (replica-fine n ws k d m))
+      (λ _. elect-fine rule (lawful-voted rule (settled-lawful ws)) n (says d) (replica-fine n ws k d m))

@@ -11,7 +11,8 @@ use lib.ListN.{length, getElem?, length-map, replicate}
 use borrow.Author.Tests.{lt-ltb, eqb-true}
 use Rattle.lists.specs.Tests.{pick}
 use Rattle.protocol.specs.Entry.{value}
-use Rattle.protocol.specs.Vote.{Rule, byWeights}
+use Rattle.protocol.specs.Vote.{Rule}
+use Rattle.protocol.specs.SettledRule.{bySettled}
 use Rattle.protocol.specs.Office.{Office, Message, fresh}
 use Rattle.protocol.specs.Issue.{withIssue, refuseIssue}
 use Rattle.protocol.specs.Take.{withTake, refuseTake}
@@ -23,7 +24,7 @@ use Rattle.frame.specs.Sending.{sendOf}
 use Rattle.agreement.specs.World.{Replica, World, Call, issue, send, take, elect, replicaAt, messageAt, onSome, put, post, posted, step}
 use Rattle.agreement.specs.Demand.{Founded, says}
 use Rattle.agreement.proofs.Places.{nothing, there, map-there}
-use Rattle.agreement.proofs.View.{view, means, sendDone, callOf, SoundReplica, SoundWorld, put-sound, post-sound, view-there, view-at, put-view}
+use Rattle.agreement.proofs.View.{view, means, sendDone, callOf, SoundReplica, SoundWorld, put-sound, post-sound, view-there, view-at, view-length, put-view}
 use Rattle.agreement.proofs.Founded.{foundReplica, founding-sound, found-says}
 use Rattle.agreement.proofs.Issued.{issueReplica, issue-sound, issue-says}
 use Rattle.agreement.proofs.Sent.{send-spelled, send-means}
@@ -69,7 +70,7 @@ module _ (n : ℕ) (ws : List ℕ) (start : World) (f : Founded n ws start) wher
 -- ── one call ──
 module _ (n : ℕ) (ws : List ℕ) (w : World) (s : SoundWorld n ws w) where
   abbrev rule : Rule
-  rule = byWeights ws
+  rule = bySettled ws
 
   issue-moves : (k line code : ℕ) → view (step w (issue k line code)) ≡ stepP rule (view w) (callOf w (issue k line code))
   unfolding step names refusal done
@@ -79,9 +80,10 @@ module _ (n : ℕ) (ws : List ℕ) (w : World) (s : SoundWorld n ws w) where
           ≡ stepP rule (view w) (onSome x P.idle (λ _. P.issue k line code))
       go none e = step-idle rule (view w)
       go (some d) e =
-          put-view w k d e (issueReplica d line code) (eqb (refuseIssue k line code (says d)) 0) (withIssue k (value k line code) (says d))
+          put-view w k d e (issueReplica d line code) (eqb (refuseIssue n k line code (says d)) 0) (withIssue k (value k line code) (says d))
           (issue-says n ws k d (s .each k d e) line code)
-          ∙ ap (λ (o : Office). pick (eqb (refuseIssue k line code o) 0) (P.put (view w) k (withIssue k (value k line code) o)) (view w)) (sym (view-at w k d e))
+          ∙ ap₂ (λ (c : ℕ) (o : Office). pick (eqb (refuseIssue c k line code o) 0) (P.put (view w) k (withIssue k (value k line code) o)) (view w))
+          (sym (view-length n ws w s)) (sym (view-at w k d e))
           ∙ step-named rule (view w) (P.issue k line code) (view-there w k d e)
 
   send-moves : (k : ℕ) (out : List ℕ) → view (step w (send k out)) ≡ stepP rule (view w) (callOf w (send k out))
@@ -141,7 +143,7 @@ module _ (n : ℕ) (ws : List ℕ) (w : World) (s : SoundWorld n ws w) where
           ∙ ap (λ (o : Office). pick true (P.put (view w) k (withElect rule o)) (view w)) (sym (view-at w k d e))
           ∙ step-named rule (view w) (P.elect k) (view-there w k d e)
 
-  pub moves : (c : Call) → view (step w c) ≡ stepP (byWeights ws) (view w) (callOf w c)
+  pub moves : (c : Call) → view (step w c) ≡ stepP (bySettled ws) (view w) (callOf w c)
   moves (issue k line code) = issue-moves k line code
   moves (send k out) = send-moves k out
   moves (take k m) = take-moves k m

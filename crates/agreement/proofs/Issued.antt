@@ -27,14 +27,14 @@ issueReplica d line code = record { held = issueOf (d .held) (d .words) line cod
 
 module _ (n : ℕ) (ws : List ℕ) (k : ℕ) (d : Replica) (m : SoundReplica n ws k d) (line code : ℕ) where
   abbrev refused : ℕ
-  refused = refuseIssue k line code (says d)
+  refused = refuseIssue n k line code (says d)
 
   abbrev issued : Office
   issued = withIssue k (value k line code) (says d)
 
   pub issue-number : issueOf (d .held) (d .words) line code .number ≡ refused
   unfolding issueOf issueNumber
-  issue-number = pick-true (soundB (d .held) (d .words)) _ 1 (sound-true (d .held) (d .words) (m .sound)) ∙ ap (λ (j : ℕ). refuseIssue j line code (says d)) (m .own)
+  issue-number = pick-true (soundB (d .held) (d .words)) _ 1 (sound-true (d .held) (d .words) (m .sound)) ∙ ap₂ (λ (c j : ℕ). refuseIssue c j line code (says d)) (m .count) (m .own)
 
   issue-replica : issueReplica d line code ≡ pick (eqb refused 0) (holds d issued) d
   unfolding issueOf pick withIssue

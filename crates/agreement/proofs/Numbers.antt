@@ -16,7 +16,7 @@ use Rattle.frame.specs.Taking.{takeOf}
 use Rattle.frame.specs.Electing.{electOf}
 use Rattle.agreement.specs.World.{Replica, World, Call, issue, send, take, elect, replicaAt, messageAt, onSome, number}
 use Rattle.agreement.proofs.Places.{map-there}
-use Rattle.agreement.proofs.View.{view, means, sendDone, callOf, SoundWorld, view-at}
+use Rattle.agreement.proofs.View.{view, means, sendDone, callOf, SoundWorld, view-at, view-length}
 use Rattle.agreement.proofs.Issued.{issue-number}
 use Rattle.agreement.proofs.Sent.{send-number}
 use Rattle.agreement.proofs.Taken.{take-number}
@@ -30,7 +30,7 @@ module _ (n : ℕ) (ws : List ℕ) (w : World) (s : SoundWorld n ws w) where
       go : (x : Option Replica) → replicaAt w k ≡ x
           → onSome x 0 (λ d. issueOf (d .held) (d .words) line code .number) ≡ refusal (view w) (onSome x P.idle (λ _. P.issue k line code))
       go none e = refl
-      go (some d) e = issue-number n ws k d (s .each k d e) line code ∙ ap (refuseIssue k line code) (sym (view-at w k d e))
+      go (some d) e = issue-number n ws k d (s .each k d e) line code ∙ ap₂ (λ (c : ℕ) (o : Office). refuseIssue c k line code o) (sym (view-length n ws w s)) (sym (view-at w k d e))
   numbers (send k out) = go (replicaAt w k) refl
     where
       by : (a : ℕ) → (a ≡ 0) ⊎ (a ≡ 6) → a ≡ cond (eqb a 0) 0 6

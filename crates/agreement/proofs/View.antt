@@ -91,6 +91,10 @@ post-sound n ws w b s x = record { offices = s .offices; each = s .each; spelled
     go zero t e = subst (λ (y : List ℕ). Spelled n ws y) (let q : b ≡ t = cc in q) x
     go (suc m) t e = s .spelled m t e
 
+-- the view has as many offices
+pub view-length : (n : ℕ) (ws : List ℕ) (w : World) → SoundWorld n ws w → length (view w .offices) ≡ n
+view-length n ws w s = length-map (w .replicas) says ∙ s .offices
+
 -- a replica that holds another state, or the same under a test, and the office of the view
 module _ (w : World) (k : ℕ) (d : Replica) (here : replicaAt w k ≡ some d) where
   pub view-there : P.isThere (view w) k ≡ true

@@ -6,8 +6,13 @@ use mathlib.Core.List.{List}
 use mathlib.Core.Option.{some}
 use mathlib.Core.Logic.{_⊎_}
 use Prim.Native.Nat.{ℕ}
-use lib.ListN.{length}
+use lib.Dec.{eqb}
+use lib.ListN.{length, drop}
+use Rattle.lists.specs.Tests.{allB}
+use Rattle.protocol.specs.Limits.{isWeight, total}
+use Rattle.protocol.specs.Moves.{weightsAfter}
 use Rattle.frame.specs.Soundness.{soundB}
+use Rattle.agreement.specs.Demand.{says}
 use Rattle.agreement.specs.World.{Replica, World, Call, send, take, elect, replicaAt, number, step, after}
 
 pub record Kept (n : ℕ) (weights : List ℕ) (start : World) (cs : List Call) : Type 0 where
@@ -16,6 +21,14 @@ pub record Kept (n : ℕ) (weights : List ℕ) (start : World) (cs : List Call) 
   pub own : (k : ℕ) (d : Replica) → replicaAt (after start cs) k ≡ some d → d .held .own ≡ k
   pub alike : (k : ℕ) (d : Replica) → replicaAt (after start cs) k ≡ some d → (d .held .n ≡ n) × (d .held .weights ≡ weights)
   pub sound : (k : ℕ) (d : Replica) → replicaAt (after start cs) k ≡ some d → soundB (d .held) (d .words) ≡ true
+  -- (i) its present weights are those of its settled log: "the total never changes", each is within 0 to 65535, and zero from place n on
+  pub present : (k : ℕ) (d : Replica) → replicaAt (after start cs) k ≡ some d → d .held .summary .present ≡ weightsAfter weights (says d .log)
+  pub total-kept : (k : ℕ) (d : Replica) → replicaAt (after start cs) k ≡ some d → total (d .held .summary .present) ≡ total weights
+  pub weights-fine : (k : ℕ) (d : Replica) → replicaAt (after start cs) k ≡ some d
+      → (allB isWeight (d .held .summary .present) ≡ true) × (allB (eqb 0) (drop n (d .held .summary .present)) ≡ true)
+  -- two offices with equal settled logs have equal present weights
+  pub equal : (j k : ℕ) (d e : Replica) → replicaAt (after start cs) j ≡ some d → replicaAt (after start cs) k ≡ some e
+      → says d .log ≡ says e .log → d .held .summary .present ≡ e .held .summary .present
   -- so no call is refused with 1, and elect is never refused
   pub never-unsound : (c : Call) → number (after start cs) c ≡ 1 → ⊥
   pub elects : (k : ℕ) → number (after start cs) (elect k) ≡ 0

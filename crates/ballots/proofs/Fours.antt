@@ -1,6 +1,7 @@
 -- The tests that the walks over four ballots make.
 --     four-tests, four-none    a test of four ballots, written out, and that of four numbers
---     entry-cells              the test of one ballot's cells, of which there are 32
+--     all-cells                the test of one ballot's cells, of which there are 32
+--     coding-four              the cells of four ballots that all code lines are entries
 --     mask-length, mask-used, mask-unused     how many masks there are, the mask of a used cell, and that of an unused one
 --     masked-next              a walk that joins unused cells, one cell more
 --     unused-begins, unused-ends, unused-none     its begin, its end, and where there is no such cell
@@ -16,14 +17,16 @@ use lib.Dec.{eqb, leb, ltb}
 use lib.ListN.{length, getD, take, drop, replicate, getD-replicate, drop-of-length-le, take-append-drop}
 use lib.Seq.{getD-append-add, getD-take, length-take-le}
 use borrow.Author.Tests.{eqb-true, eq-eqb, le-leb, leb-true, lt-ltb, ltb-true, ltb-false}
-use Rattle.lists.specs.Tests.{allB, both}
+use Rattle.lists.specs.Tests.{allB, both, pick}
 use Rattle.protocol.specs.Entry.{isEntry, proper}
 use Rattle.protocol.specs.Limits.{tailFine}
 use Rattle.lists.proofs.Tests.{all-append, all-mono, all-take, and-true, both-0, both-1, both-true, alike}
+use Rattle.entries.specs.Carries.{isCoding}
 use Rattle.entries.proofs.Carries.{zero-next}
+use Rattle.entries.proofs.Word.{coding-entry}
 use Rattle.lists.proofs.Walk.{AllWith, and-both, with-done}
 use Rattle.ballots.specs.Ballots.{ballotFine, ballotShape, tailOf}
-use Rattle.ballots.specs.Fours.{entryCells, maskWords, ofFour, unusedZero}
+use Rattle.ballots.specs.Fours.{allCells, codingCells, entryCells, maskWords, ofFour, unusedZero}
 use Rattle.ballots.specs.declared.Ballot.{Ballot}
 use Rattle.ballots.proofs.Laws.{Fine, fine}
 
@@ -41,9 +44,20 @@ four-none j k l m e =
     let u = and-true _ _ (t .0) in
     (eqb-true j 0 (u .0), (eqb-true k 0 (u .1), (eqb-true l 0 (t .1), eqb-true m 0 (s .1))))
 
-pub entry-cells : (n : ℕ) (b : Ballot) → length (b .cells) ≡ 32 → allB (isEntry n) (b .cells) ≡ entryCells n b
-unfolding entryCells both
-entry-cells n b h = rw (eq-eqb (length (b .cells)) 32 h)
+pub all-cells : (t : ℕ → Bool) (b : Ballot) → length (b .cells) ≡ 32 → allB t (b .cells) ≡ allCells t b
+unfolding allCells both
+all-cells t b h = rw (eq-eqb (length (b .cells)) 32 h)
+
+pub coding-four : (n : ℕ) (a b c d : Ballot) (r : Bool) → r ≡ ofFour (codingCells n) a b c d → r ≡ true → true ≡ ofFour (entryCells n) a b c d
+unfolding ofFour allCells
+coding-four n a b c d r e t =
+    let abcd = sym e ∙ t in
+    let abc = both-0 _ _ abcd in
+    let ab = both-0 _ _ abc in
+    sym (both-true _ _ (both-true _ _ (both-true _ _ (one a (both-0 _ _ ab)) (one b (both-1 _ _ ab))) (one c (both-1 _ _ abc))) (one d (both-1 _ _ abcd)))
+  where
+    one : (x : Ballot) → codingCells n x ≡ true → entryCells n x ≡ true
+    one x p = both-true _ _ (both-0 _ _ p) (all-mono (isCoding n) (isEntry n) (coding-entry n) (x .cells) (both-1 _ _ p))
 
 -- ── masks ──
 pub mask-length : length maskWords ≡ 64
@@ -101,12 +115,12 @@ unused-none b full none = let e : length (b .cells) ≤ b .len = omega arith in 
 
 -- ── the test of a ballot ──
 zero-entry : (n : ℕ) → 1 ≤ n → isEntry n 0 ≡ true
-unfolding isEntry proper both
+unfolding isEntry proper both pick
 zero-entry n some = rw (lt-ltb 0 n (omega arith))
 
 -- where n is not 0 a cell that is zero is an entry too
 pub fine-tests : (n settled : ℕ) (b : Ballot) → 1 ≤ n → both (both (leb (b .len) 32) (leb (settled + b .len) 1024)) (both (entryCells n b) (unusedZero b)) ≡ ballotFine n settled b
-unfolding entryCells unusedZero ballotFine ballotShape tailFine
+unfolding allCells unusedZero ballotFine ballotShape tailFine
 fine-tests n settled b some = alike _ _ to from
   where
     to : both (both (leb (b .len) 32) (leb (settled + b .len) 1024)) (both (entryCells n b) (unusedZero b)) ≡ true → ballotFine n settled b ≡ true

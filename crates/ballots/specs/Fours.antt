@@ -6,15 +6,23 @@ use lib.Dec.{eqb, leb, ltb}
 use lib.ListN.{length, drop, replicate}
 use Rattle.protocol.specs.Entry.{isEntry}
 use Rattle.lists.specs.Tests.{both, pick, allB}
+use Rattle.entries.specs.Carries.{isCoding}
 use Rattle.ballots.specs.declared.Ballot.{Ballot}
 
 -- a ballot of this length may stand at this place of a record of n offices: no path past 1024, and none from office n on
 unfoldable pub fitsAt : ℕ → ℕ → ℕ → ℕ → Bool
 fitsAt n settled place len = pick (ltb place n) (both (leb len 32) (leb (settled + len) 1024)) (eqb 0 len)
 
--- 32 cells that are all entries, the unused ones too
-unfoldable pub entryCells : ℕ → Ballot → Bool
-entryCells n b = both (eqb (length (b .cells)) 32) (allB (isEntry n) (b .cells))
+-- 32 cells that all pass a test, the unused ones too
+unfoldable pub allCells : (ℕ → Bool) → Ballot → Bool
+allCells t b = both (eqb (length (b .cells)) 32) (allB t (b .cells))
+
+-- cells that are all entries, or entries that code lines
+abbrev pub entryCells : ℕ → Ballot → Bool
+entryCells n = allCells (isEntry n)
+
+abbrev pub codingCells : ℕ → Ballot → Bool
+codingCells n = allCells (isCoding n)
 
 -- "unused cells are zero"
 unfoldable pub unusedZero : Ballot → Bool

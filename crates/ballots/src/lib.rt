@@ -5,7 +5,7 @@ ghost use Prim.Native.Nat.{_≤_};
 ghost use lib.Dec.{eqb};
 ghost use Rattle.lists.specs.Tests.{allB};
 ghost use Rattle.ballots.specs.Ballots.{emptyBallot, noBallot, pushed, ballotsFine};
-ghost use Rattle.ballots.specs.Fours.{entryCells, fitsAt, maskWords, ofFour, unusedZero};
+ghost use Rattle.ballots.specs.Fours.{codingCells, entryCells, fitsAt, maskWords, ofFour, unusedZero};
 
 // A tail of 0 to 32 entries in the first cells. Unused cells are zero; length 0 means none.
 #[repr(C)]
@@ -40,9 +40,21 @@ fn no_ballots(all: [Ballot; 8]) -> bool
     none
 }
 
-// Whether all the cells of four ballots are entries for n offices.
-fn four_entries(a: Ballot, b: Ballot, c: Ballot, d: Ballot, n: usize) -> bool
-    ensures { λ r. ⌜ r ≡ ofFour (entryCells n) a b c d ⌝ }
+// Whether all the cells of a ballot are entries for n offices. Called only where a cell codes no line.
+fn entry_cells(b: Ballot, n: usize) -> bool
+    ensures { λ r. ⌜ r ≡ entryCells n b ⌝ }
+{
+    let cells = b.cells;
+    let mut good = true;
+    for i in 0..32 {
+        good = good & entries::is_entry(cells[i], n);
+    }
+    good
+}
+
+// Whether all the cells of four ballots are entries for n offices that code lines.
+fn four_coding(a: Ballot, b: Ballot, c: Ballot, d: Ballot, n: usize) -> bool
+    ensures { λ r. ⌜ r ≡ ofFour (codingCells n) a b c d ⌝ }
 {
     let w = a.cells;
     let x = b.cells;
@@ -59,6 +71,16 @@ fn four_entries(a: Ballot, b: Ballot, c: Ballot, d: Ballot, n: usize) -> bool
         s = s | entries::raised(z[i], n);
     }
     entries::no_carry(p) & entries::no_carry(q) & entries::no_carry(r) & entries::no_carry(s)
+}
+
+// Whether all the cells of four ballots are entries for n offices. Most ballots have no move of weight, and then the faster test sees it.
+fn four_entries(a: Ballot, b: Ballot, c: Ballot, d: Ballot, n: usize) -> bool
+    ensures { λ r. ⌜ r ≡ ofFour (entryCells n) a b c d ⌝ }
+{
+    if four_coding(a, b, c, d, n) {
+        return true;
+    }
+    entry_cells(a, n) & entry_cells(b, n) & entry_cells(c, n) & entry_cells(d, n)
 }
 
 // 32 words without bits and 32 with all: from place 32 - len on they are the masks of the unused cells of a ballot.

@@ -1,6 +1,6 @@
--- The raised numbers of words: no carry says that each word is an entry, and words may be joined by `|` before the bits are looked at.
---     at-most-256         the offices that a word is raised for
---     no-carry-raised     one word: no carry exactly where it is an entry
+-- The raised numbers of words: no carry says that each word is an entry that codes a line, and words may be joined by `|` before the bits are
+-- looked at.
+--     no-carry-raised     one word: no carry exactly where it is such an entry
 --     no-carry-or         joined numbers: no carry exactly where neither has one
 --     no-carry-zero       no word was joined yet
 --     raised-next         a walk that joins raised words, one word more
@@ -16,11 +16,11 @@ use lib.ListN.{getD, length}
 use lib.Bits.{bitOr, or-add-and, and-le-l, and-le-r, or-shr, or-mod}
 use borrow.Author.Tests.{eqb-true, leb-true, ltb-true, eq-eqb, le-leb, lt-ltb}
 use Rattle.lists.specs.Tests.{both, pick}
-use Rattle.protocol.specs.Entry.{isEntry, proper}
-use Rattle.lists.proofs.Tests.{pick-cases, both-0, both-1, both-true, alike, both-comm, both-assoc, both-swap}
-use Rattle.entries.specs.Carries.{raised, noCarry}
+use Rattle.lists.proofs.Tests.{both-0, both-1, both-true, alike, both-comm, both-assoc, both-swap}
+use Rattle.protocol.specs.Entry.{officeOf, lineOf, codeOf}
+use Rattle.entries.specs.Carries.{isCoding, raised, noCarry}
 use Rattle.lists.proofs.Walk.{AllWith, with-next, and-both}
-use Rattle.entries.proofs.Word.{few-offices}
+use Rattle.entries.proofs.Word.{at-most-256, few}
 
 ruleset any-order = (both-comm, both-assoc, both-swap)
 
@@ -32,34 +32,32 @@ zero-leb x y k p q = alike (eqb x 0) (leb y k) (λ e. le-leb y k (p (eqb-true x 
 below : (x j y k : ℕ) → (x < j → y < k) → (y < k → x < j) → ltb x j ≡ ltb y k
 below x j y k p q = alike (ltb x j) (ltb y k) (λ e. lt-ltb y k (p (ltb-true x j e))) (λ e. lt-ltb x j (q (ltb-true y k e)))
 
--- the offices that a word is raised for
-pub at-most-256 : (n : ℕ) → pick (leb n 256) n 256 ≤ 256
-at-most-256 n = pick-cases (λ (k : ℕ). k ≤ 256) (leb n 256) n 256 (leb-true n 256) (λ e. omega arith)
-
--- the three tests of a raised word, each as the definition of an entry makes it
+-- the three tests of a raised word, each as the definition makes it
 module _ (n w : ℕ) (h : w < 4294967296) where
   -- half the code reaches bit 15 where the code is past 9999, and nothing stands between bit 15 and the line's bits
-  code-carries : eqb (raised n w / 32768 % 2) 0 ≡ leb (w % 65536) 9999
+  code-carries : eqb (raised n w / 32768 % 2) 0 ≡ leb (codeOf w) 9999
   unfolding raised
-  code-carries = zero-leb (raised n w / 32768 % 2) (w % 65536) 9999 (λ e. omega arith) (λ e. omega arith)
+  code-carries = zero-leb (raised n w / 32768 % 2) (codeOf w) 9999 (λ e. omega arith) (λ e. omega arith)
 
   -- the line's bits stand as they are
-  line-stands : eqb (raised n w / 2097152 % 4) 0 ≡ leb (w / 65536 % 256) 63
+  line-stands : eqb (raised n w / 2097152 % 4) 0 ≡ leb (lineOf w) 63
   unfolding raised
-  line-stands = ap (λ (x : ℕ). eqb x 0) bits ∙ zero-leb (w / 4194304 % 4) (w / 65536 % 256) 63 (λ e. omega arith) (λ e. omega arith)
+  line-stands = ap (λ (x : ℕ). eqb x 0) bits ∙ zero-leb (w / 4194304 % 4) (lineOf w) 63 (λ e. omega arith) (λ e. omega arith)
     where
       bits : raised n w / 2097152 % 4 ≡ w / 4194304 % 4
       bits = omega arith
 
   -- the office reaches bit 31 where it is not below the offices
-  office-carries : ltb (raised n w) 2147483648 ≡ ltb (w / 16777216) (pick (leb n 256) n 256)
+  office-carries : ltb (raised n w) 2147483648 ≡ ltb (officeOf w) n
   unfolding raised
-  office-carries = let few = at-most-256 n in below (raised n w) 2147483648 (w / 16777216) (pick (leb n 256) n 256) (λ e. omega arith) (λ e. omega arith)
+  office-carries =
+      let most = at-most-256 n in
+      below (raised n w) 2147483648 (officeOf w) (pick (leb n 256) n 256) (λ e. omega arith) (λ e. omega arith) ∙ few n (officeOf w) (λ (k : ℕ). k) (λ k. omega arith) (omega arith)
 
--- one word: no carry exactly where it is an entry
-pub no-carry-raised : (n w : ℕ) → w < 4294967296 → noCarry (raised n w) ≡ isEntry n w
-unfolding noCarry isEntry proper
-no-carry-raised n w h = rw (code-carries n w h, line-stands n w h, office-carries n w h) (simp any-order) ∙ few-offices n w h
+-- one word: no carry exactly where it is an entry that codes a line
+pub no-carry-raised : (n w : ℕ) → w < 4294967296 → noCarry (raised n w) ≡ isCoding n w
+unfolding noCarry isCoding
+no-carry-raised n w h = rw (code-carries n w h, line-stands n w h, office-carries n w h) (simp any-order)
 
 -- two numbers joined are 0 where both are
 or-zero : (x y : ℕ) → eqb (bitOr x y) 0 ≡ both (eqb x 0) (eqb y 0)
@@ -69,7 +67,7 @@ or-zero x y =
     (λ e. eq-eqb (bitOr x y) 0 (ap₂ bitOr (eqb-true x 0 (both-0 _ _ e)) (eqb-true y 0 (both-1 _ _ e))))
 
 -- so are the j bits from bit k on
-or-bits : (k j a b : ℕ) → eqb (bitOr a b / 2 ^ k % 2 ^ j) 0 ≡ both (eqb (a / 2 ^ k % 2 ^ j) 0) (eqb (b / 2 ^ k % 2 ^ j) 0)
+pub or-bits : (k j a b : ℕ) → eqb (bitOr a b / 2 ^ k % 2 ^ j) 0 ≡ both (eqb (a / 2 ^ k % 2 ^ j) 0) (eqb (b / 2 ^ k % 2 ^ j) 0)
 or-bits k j a b = rw (or-shr a b k, or-mod (a / 2 ^ k) (b / 2 ^ k) j) (or-zero (a / 2 ^ k % 2 ^ j) (b / 2 ^ k % 2 ^ j))
 
 -- and they are below 2 ^ 31, with no bit from bit 31 on, where both are
@@ -94,8 +92,8 @@ no-carry-zero = refl
 
 -- walks over a list: what was joined so far stands for the tests made
 module _ {b : Bool} (xs : List ℕ) (bits i v : ℕ) (h : i < length xs) where
-  pub raised-next : (n : ℕ) → AllWith b (isEntry n) xs (noCarry bits) i → noCarry v ≡ isEntry n (getD xs i 0) → AllWith b (isEntry n) xs (noCarry (bitOr bits v)) (i + 1)
-  raised-next n inv e = rw (and-both (noCarry bits) (noCarry v) ∙ sym (no-carry-or bits v)) at (with-next (isEntry n) 0 xs (noCarry bits) i inv h (noCarry v) e)
+  pub raised-next : (n : ℕ) → AllWith b (isCoding n) xs (noCarry bits) i → noCarry v ≡ isCoding n (getD xs i 0) → AllWith b (isCoding n) xs (noCarry (bitOr bits v)) (i + 1)
+  raised-next n inv e = rw (and-both (noCarry bits) (noCarry v) ∙ sym (no-carry-or bits v)) at (with-next (isCoding n) 0 xs (noCarry bits) i inv h (noCarry v) e)
 
   pub zero-next : AllWith b (eqb 0) xs (eqb bits 0) i → v ≡ getD xs i 0 → AllWith b (eqb 0) xs (eqb (bitOr bits v) 0) (i + 1)
   zero-next inv e = rw (and-both (eqb bits 0) (eqb v 0) ∙ sym (or-zero bits v)) at (with-next (eqb 0) 0 xs (eqb bits 0) i inv h (eqb v 0) (turned v ∙ ap (eqb 0) e))

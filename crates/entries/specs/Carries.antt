@@ -3,6 +3,11 @@ use Prim.Native.Nat.{ℕ, _+_, _-_, _*_, _/_, _%_}
 use mathlib.Core.Bool.{Bool}
 use lib.Dec.{eqb, ltb, leb}
 use Rattle.lists.specs.Tests.{both, pick}
+use Rattle.protocol.specs.Entry.{officeOf, lineOf, codeOf}
+
+-- v is the value of an entry for n offices that codes a line, as each did in document 01; all other entries are moves of weight
+unfoldable pub isCoding : ℕ → ℕ → Bool
+isCoding n v = both (ltb (officeOf v) n) (both (leb (lineOf v) 63) (leb (codeOf v) 9999))
 
 -- a word's office, the upper two bits of its line and half its code, raised for n offices: the office carries into bit 31, the code into
 -- bit 15, and the line's two bits stand at bits 21 and 22

@@ -20,12 +20,16 @@ use Rattle.protocol.specs.Entry.{isEntry}
 use Rattle.protocol.specs.Vote.{Rule}
 use Rattle.protocol.specs.Office.{Office, votes}
 use Rattle.protocol.specs.Elect.{lose, settle, tailEntries, next, electing, withElect, electCount}
-use Rattle.protocol.proofs.Vote.{byWeights-voted}
+use Rattle.protocol.proofs.Lawful.{settled-lawful, lawful-voted}
 use Rattle.protocol.proofs.Limits as Limits
 use Rattle.protocol.proofs.Elect.{elect-none, elect-some, elect-log, elect-stops}
 use Rattle.ballots.specs.Ballots.{tailOf, ballotOf, wordsWith}
 use Rattle.ballots.specs.declared.Ballot.{Ballot}
-use Rattle.frame.specs.State.{heldBy, withHeld, holding}
+use Rattle.protocol.proofs.Vote.{NamesVoted}
+use Rattle.summary.specs.Summary.{startWith, summaryNext}
+use Rattle.summary.specs.declared.Summary.{Summary}
+use Rattle.summary.proofs.Laws.{summary-next}
+use Rattle.frame.specs.State.{heldBy, withHeld, doneBy, holding}
 use Rattle.frame.specs.Soundness.{soundB, Sound}
 use Rattle.frame.specs.Electing.{ruleOf, electedOf, electOf, electWords, winnerOf, stepOf, stepWords}
 use Rattle.frame.specs.declared.Record.{Record}
@@ -34,6 +38,10 @@ use Rattle.frame.proofs.Sound.{sound}
 use Rattle.frame.proofs.State.{log-length, held, held-by, held-fine, words-kept, words-length, sound-of}
 
 -- ── one step ──
+-- the winner has a vote
+rule-voted : (r : Record) → NamesVoted (ruleOf r)
+rule-voted r = lawful-voted (ruleOf r) (settled-lawful (r .weights))
+
 -- the state and the record after e was settled
 abbrev pub stepped : Record → List ℕ → ℕ → Office
 stepped r words e = settle e (heldBy r words)
@@ -41,13 +49,13 @@ stepped r words e = settle e (heldBy r words)
 module _ (r : Record) (words : List ℕ) (S : Sound r words) (e : ℕ) (w : winnerOf r words ≡ some e) where
   pub winning : (isEntry (r .n) e ≡ true) × (r .settled < 1024)
   winning =
-      let at = byWeights-voted (r .weights) (heldBy r words .log) (votes (heldBy r words)) e w in
+      let at = rule-voted r (heldBy r words .log) (votes (heldBy r words)) e w in
       let x = Limits.first-entry (r .n) (heldBy r words) (held-fine r words S) (at .0) e (at .1) in
       (x .0, omega (arith, x .1, log-length r words S))
 
   step-fine : Limits.Fine (r .n) (stepped r words e)
   step-fine =
-      let at = byWeights-voted (r .weights) (heldBy r words .log) (votes (heldBy r words)) e w in
+      let at = rule-voted r (heldBy r words .log) (votes (heldBy r words)) e w in
       Limits.settle-fine (r .n) e (heldBy r words) (held-fine r words S) (at .0) (at .1)
 
   next-length : length (take (r .settled) words ++ e ∷ []) ≡ r .settled + 1
@@ -55,9 +63,12 @@ module _ (r : Record) (words : List ℕ) (S : Sound r words) (e : ℕ) (w : winn
 
   -- the next record holds the state with e settled
   step-held : (bs : List Ballot) → bs ≡ map ballotOf (map (lose e) (map tailOf (r .ballots)))
-      → withHeld r (r .settled + 1) bs ≡ holding r (stepped r words e)
+      → (x : Summary) → x ≡ summaryNext (r .summary) e → withHeld r x (r .settled + 1) bs ≡ holding r (stepped r words e)
   unfolding settle
-  step-held bs q = ap₂ (withHeld r) (sym next-length) q
+  step-held bs q x p = λ i. withHeld r (after i) (sym next-length i) (q i)
+    where
+      after : x ≡ doneBy r (take (r .settled) words ++ e ∷ [])
+      after = p ∙ ap (λ (s : Summary). summaryNext s e) (S .done) ∙ sym (summary-next (startWith (r .weights)) (take (r .settled) words) e)
 
   -- and so do the words with e written behind the settled log
   step-words : set words (r .settled) e ≡ wordsWith (stepped r words e .log) words
@@ -75,10 +86,10 @@ module _ (r : Record) (words : List ℕ) (S : Sound r words) (e : ℕ) (w : winn
   step-settled = next-length
 
   pub step-won : (bs : List Ballot) → bs ≡ map ballotOf (map (lose e) (map tailOf (r .ballots)))
-      → (withHeld r (r .settled + 1) bs ≡ stepOf r words) × (set words (r .settled) e ≡ stepWords r words)
+      → (x : Summary) → x ≡ summaryNext (r .summary) e → (withHeld r x (r .settled + 1) bs ≡ stepOf r words) × (set words (r .settled) e ≡ stepWords r words)
   unfolding stepOf stepWords
-  step-won bs q = (
-    step-held bs q ∙ ap (λ (x : Option ℕ). next x r (λ f. holding r (stepped r words f))) (sym w),
+  step-won bs q x p = (
+    step-held bs q x p ∙ ap (λ (x : Option ℕ). next x r (λ f. holding r (stepped r words f))) (sym w),
     step-words ∙ ap (λ (x : Option ℕ). next x words (λ f. wordsWith (stepped r words f .log) words)) (sym w),
   )
 
@@ -146,7 +157,7 @@ module _ (r₀ : Record) (words₀ : List ℕ) (r : Record) (words : List ℕ) (
       record {
         sound = step-sound r words (R .sound) e w;
         made = ap (λ (x : Record). holding x o) (R .made) ∙ ap (holding r₀) (sym back);
-        same = R .same ∙ elect-some (ruleOf r₀) (byWeights-voted (r₀ .weights)) (heldBy r words) e (ap (λ (f : Rule). f (heldBy r words .log) (votes (heldBy r words))) (sym rule-same) ∙ w) ∙ ap (withElect (ruleOf r₀)) (sym back);
+        same = R .same ∙ elect-some (ruleOf r₀) (rule-voted r₀) (heldBy r words) e (ap (λ (f : Rule). f (heldBy r words .log) (votes (heldBy r words))) (sym rule-same) ∙ w) ∙ ap (withElect (ruleOf r₀)) (sym back);
         kept = kept-next e ∙ ap (λ (x : Office). wordsWith (x .log) words₀) (sym back);
         long = words-length (o .log) words (fits e w) ∙ R .long;
         grown = let g = R .grown in omega (arith, step-settled r words (R .sound) e w);
@@ -199,7 +210,7 @@ unfolding electOf pick
 elect-zero r words e = rw e
 
 elected-fine : (r : Record) (words : List ℕ) → Sound r words → Limits.Fine (r .n) (electedOf r words)
-elected-fine r words S = Limits.elect-fine (ruleOf r) (byWeights-voted (r .weights)) (r .n) (heldBy r words) (held-fine r words S)
+elected-fine r words S = Limits.elect-fine (ruleOf r) (rule-voted r) (r .n) (heldBy r words) (held-fine r words S)
 
 -- a done elect
 pub record ElectDone (r : Record) (words : List ℕ) : Type 0 where
@@ -244,4 +255,4 @@ elect-grows r words q =
 pub elect-ends : (r : Record) (words : List ℕ) → electOf r words .number ≡ 0 → winnerOf (electOf r words .«record») (electWords r words) ≡ none
 elect-ends r words q =
     let D = elect-done r words q in
-    ap₂ (λ (x : Record) (o : Office). ruleOf x (o .log) (votes o)) (D .made) (elect-state r words q) ∙ elect-stops (ruleOf r) (byWeights-voted (r .weights)) (heldBy r words)
+    ap₂ (λ (x : Record) (o : Office). ruleOf x (o .log) (votes o)) (D .made) (elect-state r words q) ∙ elect-stops (ruleOf r) (rule-voted r) (heldBy r words)

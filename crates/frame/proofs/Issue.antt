@@ -18,6 +18,7 @@ use Rattle.protocol.specs.Office.{tail}
 use Rattle.protocol.specs.Issue.{withIssue, refusalAt, refuseIssue}
 use Rattle.lists.proofs.Tests.{pick-true, pick-false, map-set}
 use Rattle.protocol.proofs.Limits as Limits
+use Rattle.protocol.proofs.Moves.{Proper, proper-true}
 use Rattle.ballots.specs.Ballots.{tailOf, ballotOf, offEnd, pushed, wordsWith}
 use Rattle.ballots.specs.declared.Ballot.{Ballot}
 use Rattle.ballots.proofs.Laws as B
@@ -35,7 +36,7 @@ unfolding issueNumber
 number-unsound r words line code e = sym (pick-false (soundB r words) _ 1 e)
 
 module _ (r : Record) (words : List ℕ) (S : Sound r words) (line code : ℕ) where
-  pub number-sound : (k : ℕ) → k ≡ refuseIssue (r .own) line code (heldBy r words) → k ≡ issueNumber r words line code
+  pub number-sound : (k : ℕ) → k ≡ refuseIssue (r .n) (r .own) line code (heldBy r words) → k ≡ issueNumber r words line code
   unfolding issueNumber
   number-sound k q = q ∙ sym (pick-true (soundB r words) _ 1 (sound-true r words S))
 
@@ -47,9 +48,9 @@ module _ (r : Record) (words : List ℕ) (S : Sound r words) (line code : ℕ) w
 
   -- an entry more in the own ballot is an entry more in the own tail
   pub issue-held : (b : Ballot) → b ≡ pushed (getD (r .ballots) (r .own) offEnd) entry → len < 32
-      → withHeld r (r .settled) (set (r .ballots) (r .own) b) ≡ issuedRecord r words line code
+      → withHeld r (r .summary) (r .settled) (set (r .ballots) (r .own) b) ≡ issuedRecord r words line code
   unfolding withIssue
-  issue-held b q h = ap₂ (withHeld r) (sym (log-length r words S)) (sym ballots)
+  issue-held b q h = λ i. withHeld r (S .done i) (sym (log-length r words S) i) (sym ballots i)
     where
       grown : ballotOf (tail (heldBy r words) (r .own) ++ entry ∷ []) ≡ b
       grown =
@@ -66,9 +67,9 @@ module _ (r : Record) (words : List ℕ) (S : Sound r words) (line code : ℕ) w
   tail-is = tail-length r words S (r .own) (omega arith)
 
   -- the number by the record's own lengths
-  pub number-at : (k : ℕ) → k ≡ refusalAt line code (r .settled) len → k ≡ issueNumber r words line code
+  pub number-at : (k : ℕ) → k ≡ refusalAt (r .n) line code (r .settled) len → k ≡ issueNumber r words line code
   unfolding refuseIssue
-  number-at k q = number-sound k (q ∙ sym (ap₂ (λ (s l : ℕ). refusalAt line code s l) (log-length r words S) tail-is))
+  number-at k q = number-sound k (q ∙ sym (ap₂ (λ (s l : ℕ). refusalAt (r .n) line code s l) (log-length r words S) tail-is))
 
 issued-words : (r : Record) (words : List ℕ) (S : Sound r words) (line code : ℕ) → wordsWith (withIssue (r .own) (value (r .own) line code) (heldBy r words) .log) words ≡ words
 unfolding withIssue
@@ -77,7 +78,7 @@ issued-words r words S line code = words-kept r words S
 -- a done issue: what it found, and the record that it made
 pub record IssueMade (r : Record) (words : List ℕ) (line code : ℕ) : Type 0 where
   pub was : Sound r words
-  pub allowed : refuseIssue (r .own) line code (heldBy r words) ≡ 0
+  pub allowed : refuseIssue (r .n) (r .own) line code (heldBy r words) ≡ 0
   pub made : issueOf r words line code .«record» ≡ issuedRecord r words line code
 
 pub issue-made : (r : Record) (words : List ℕ) (line code : ℕ) → issueOf r words line code .number ≡ 0 → IssueMade r words line code
@@ -85,10 +86,10 @@ unfolding issueOf issueNumber
 issue-made r words line code q = go (soundB r words) refl
   where
     go : (b : Bool) → soundB r words ≡ b → IssueMade r words line code
-    go false e = absurd (omega (arith, q, pick-false (soundB r words) (refuseIssue (r .own) line code (heldBy r words)) 1 e))
+    go false e = absurd (omega (arith, q, pick-false (soundB r words) (refuseIssue (r .n) (r .own) line code (heldBy r words)) 1 e))
     go true e = record {
       was = sound r words e;
-      allowed = sym (pick-true (soundB r words) (refuseIssue (r .own) line code (heldBy r words)) 1 e) ∙ q;
+      allowed = sym (pick-true (soundB r words) (refuseIssue (r .n) (r .own) line code (heldBy r words)) 1 e) ∙ q;
       made = pick-true (eqb (issueNumber r words line code) 0) (issuedRecord r words line code) r (eq-eqb (issueNumber r words line code) 0 q);
     }
 
@@ -123,8 +124,8 @@ issue-refused r words line code k q h = λ i. record { number = q i; «record» 
 pub record Allowed (r : Record) (words : List ℕ) (line code : ℕ) : Type 0 where
   pub was : Sound r words
   pub place : r .own < 8
-  pub line-ok : line ≤ 63
-  pub code-ok : code ≤ 9999
+  pub limits : Proper (r .n) line code
+  pub few : r .n ≤ 8
   pub short : getD (r .ballots) (r .own) offEnd .len < 32
 
 pub allowed : (r : Record) (words : List ℕ) (line code : ℕ) → issueNumber r words line code ≡ 0 → Allowed r words line code
@@ -133,19 +134,19 @@ allowed r words line code q =
     let D = issue-made r words line code q in
     let S = D .was in
     let H = S .head in
-    let d = Limits.issue-done (r .own) line code (heldBy r words) (D .allowed) in
+    let d = Limits.issue-done (r .n) (r .own) line code (heldBy r words) (D .allowed) in
     let F = ballot r words S (r .own) (omega arith) in
     let short : getD (r .ballots) (r .own) offEnd .len ≡ 32 → ⊥ = λ e. d .short (tail-is r words S line code ∙ e) in
     record {
       was = S;
       place = omega arith;
-      line-ok = d .line-ok;
-      code-ok = d .code-ok;
+      limits = proper-true (r .n) line code (d .limits);
+      few = H .most;
       short = omega arith;
     }
 
 pub issue-done : (r : Record) (words : List ℕ) (line code : ℕ) → issueNumber r words line code ≡ 0 → (b : Ballot) → b ≡ pushed (getD (r .ballots) (r .own) offEnd) (value (r .own) line code)
-    → _≡_ {A = Issued} (record { number = 0; «record» = withHeld r (r .settled) (set (r .ballots) (r .own) b) }) (issueOf r words line code)
+    → _≡_ {A = Issued} (record { number = 0; «record» = withHeld r (r .summary) (r .settled) (set (r .ballots) (r .own) b) }) (issueOf r words line code)
 unfolding issueOf
 issue-done r words line code q b p =
     let A = allowed r words line code q in

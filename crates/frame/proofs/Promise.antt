@@ -1,6 +1,6 @@
 -- The promise to the two users. The supervisor: "an edit shows in its office's tentative frame when made". The tabulator: the settled frame
 -- is changed by no issue, done or refused. (Send hands back no record and writes no log; so only take and elect change a settled frame.)
---     edit-shows          after a done issue of (line, code) the tentative frame of the line answers the code
+--     edit-shows          after a done issue of (line, code), the line one of the frame, the tentative frame of the line answers the code
 --     settled-stays       after any issue the settled frame of every line is as it was
 -- Assumes nothing.
 use mathlib.Core.Path.{_≡_, refl, sym, ap, ap₂, _∙_}
@@ -18,6 +18,7 @@ use Rattle.protocol.specs.Office.{Office, tail, path}
 use Rattle.protocol.specs.Issue.{withIssue}
 use Rattle.protocol.specs.Frames.{lastCode}
 use Rattle.protocol.proofs.Limits as Limits
+use Rattle.protocol.proofs.Moves.{proper-true}
 use Rattle.entries.proofs.LastCode.{last-append}
 use Rattle.frame.specs.State.{heldBy}
 use Rattle.frame.specs.Soundness.{soundB}
@@ -41,20 +42,20 @@ last-issued office line code p l c =
     last-append line 0 p (value office line code ∷ []) ∙
     ap (λ (b : Bool). pick b (codeOf (value office line code)) (lastCode line 0 p)) (eq-eqb (lineOf (value office line code)) line here) ∙ shown
 
-pub edit-shows : (r : Record) (words : List ℕ) (line code : ℕ) → issueOf r words line code .number ≡ 0
+pub edit-shows : (r : Record) (words : List ℕ) (line code : ℕ) → line ≤ 63 → issueOf r words line code .number ≡ 0
     → tentativeFrameOf (issueOf r words line code .«record») words line ≡ record { number = 0; code = code }
-edit-shows r words line code q =
+edit-shows r words line code low q =
     let D = issue-made r words line code q in
     let S = D .was in
     let H = S .head in
-    let I = Limits.issue-done (r .own) line code (heldBy r words) (D .allowed) in
+    let I = proper-true (r .n) line code (Limits.issue-done (r .n) (r .own) line code (heldBy r words) (D .allowed) .limits) in
     let F = held-fine r words S in
     let e = value (r .own) line code in
     let r' = issueOf r words line code .«record» in
     let own : r' .own ≡ r .own = ap (λ (x : Record). x .own) (D .made) in
     let shown : path (heldBy r' words) (r' .own) ≡ path (heldBy r words) (r .own) ++ (e ∷ []) =
     ap₂ path (issue-state r words line code q) own ∙ own-path (r .own) e (heldBy r words) (omega (arith, F .eight, H .member, H .most)) in
-    sym (shown-done line (path (heldBy r' words) (r' .own)) (I .line-ok) code (sym (ap (lastCode line 0) shown ∙ last-issued (r .own) line code (path (heldBy r words) (r .own)) (I .line-ok) (I .code-ok)))
+    sym (shown-done line (path (heldBy r' words) (r' .own)) low code (sym (ap (lastCode line 0) shown ∙ last-issued (r .own) line code (path (heldBy r words) (r .own)) low (I .code-ok)))
     ∙ frame-shown r' words line (path (heldBy r' words) (r' .own)) (sound-true r' words (issue-sound r words line code q)))
 
 frame-same : (r r' : Record) (words : List ℕ) (line : ℕ) (p p' : List ℕ) → soundB r' words ≡ soundB r words → p' ≡ p → frameOf r' words line p' ≡ frameOf r words line p

@@ -5,7 +5,7 @@
 --     held-fine       the state of a sound record is within the protocol's limits
 --     sound-of        a state within the limits makes a sound record, in words with room
 -- Assumes nothing.
-use mathlib.Core.Path.{_≡_, ap, ap₂, _∙_}
+use mathlib.Core.Path.{_≡_, sym, ap, _∙_}
 use mathlib.Core.List.{List, _++_}
 use Prim.Native.Nat.{ℕ, _<_, _≤_}
 use native.Mathlib.Omega.{arith}
@@ -17,7 +17,7 @@ use Rattle.lists.proofs.Tests.{all-at, all-map, drop-map}
 use Rattle.protocol.proofs.Limits as Limits
 use Rattle.ballots.specs.Ballots.{ballotFine, isNoBallot, tailOf, ballotOf, offEnd, wordsWith}
 use Rattle.ballots.proofs.Laws as B
-use Rattle.frame.specs.State.{heldBy, withHeld, holding}
+use Rattle.frame.specs.State.{heldBy, withHeld, doneBy, holding}
 use Rattle.frame.specs.Soundness.{Sound}
 use Rattle.frame.specs.declared.Record.{Record}
 
@@ -39,7 +39,7 @@ module _ (r : Record) (words : List ℕ) (S : Sound r words) where
   log-length = length-take-le (r .settled) words (omega arith)
 
   pub held : holding r (heldBy r words) ≡ r
-  held = ap₂ (withHeld r) log-length (B.held-all (r .n) (r .settled) (r .ballots) (S .fine))
+  held = λ i. withHeld r (sym (S .done) i) (log-length i) (B.held-all (r .n) (r .settled) (r .ballots) (S .fine) i)
 
   pub words-kept : wordsWith (heldBy r words .log) words ≡ words
   words-kept = ap (λ (k : ℕ). take (r .settled) words ++ drop k words) log-length ∙ take-append-drop (r .settled) words
@@ -66,6 +66,7 @@ module _ (r : Record) (o : Office) (words : List ℕ) (H : Head (r .n) (r .own) 
     head = H;
     most = F .most;
     entries = rw take-append-seam (F .entries);
+    done = ap (doneBy r) (sym (take-append-seam (o .log) (drop (length (o .log)) words)));
     eight = length-map (o .tails) ballotOf ∙ F .eight;
     fine = all-map (tailFine (r .n) (length (o .log))) (ballotFine (r .n) (length (o .log))) ballotOf (B.fine-tail (r .n) (length (o .log))) (o .tails) (F .tails);
     rest = rw (drop-map ballotOf (r .n) (o .tails)) (all-map isEmpty isNoBallot ballotOf B.empty-none (drop (r .n) (o .tails)) (F .rest));

@@ -31,6 +31,7 @@ use Rattle.tallies.specs.declared.Winner.{Winner}
 use Rattle.tallies.specs.declared.Winner.the-variants.{Entry, Nobody}
 use Rattle.tallies.proofs.Walks.{winner-some, winner-none}
 use Rattle.tallies.proofs.Cells.{vote-none, cast-vote, lost-for, lost-other, lost-none}
+use Rattle.summary.specs.declared.Summary.{Summary}
 use Rattle.frame.specs.State.{heldBy, withHeld}
 use Rattle.frame.specs.Soundness.{Sound}
 use Rattle.frame.specs.Electing.{winnerOf}
@@ -77,7 +78,7 @@ Settling e bs xs i = xs ≡ filled (map (lost e) bs) bs i
 
 -- the record with these ballots
 abbrev pub withBallots : Record → List Ballot → Record
-withBallots r bs = withHeld r (r .settled) bs
+withBallots r bs = withHeld r (r .summary) (r .settled) bs
 
 -- a turn that makes xs of the ballots leaves the rest of the record
 pub next-turn : (r next out : Record) (e : ℕ) (bs : List Ballot) (k : ℕ) → next ≡ withBallots r (next .ballots) → (xs : List Ballot) → out ≡ withBallots next xs → Settling e bs xs k
@@ -125,9 +126,9 @@ module _ (r : Record) (words : List ℕ) (S : Sound r words) where
           ap first (sym (B.tail-at (r .ballots) k))
 
   -- what the winner that is found by the gathered votes says
-  module _ (vs : List ℕ) (i : ℕ) (inv : Gathered (r .ballots) vs i) (e : i ≡ r .n) (w : Winner) (q : w ≡ winnerIs (winner (r .weights) ltb (votesIn vs))) where
+  module _ (vs : List ℕ) (i : ℕ) (inv : Gathered (r .ballots) vs i) (e : i ≡ r .n) (w : Winner) (q : w ≡ winnerIs (winner (r .summary .present) ltb (votesIn vs))) where
     winner-of : winnerIs (winnerOf r words) ≡ w
-    winner-of = sym (q ∙ ap (λ (v : Votes). winnerIs (winner (r .weights) ltb v)) (ap votesIn (votes-end vs i inv e) ∙ cast-votes))
+    winner-of = sym (q ∙ ap₂ (λ (ws : List ℕ) (v : Votes). winnerIs (winner ws ltb v)) (ap (λ (s : Summary). s .present) (S .done)) (ap votesIn (votes-end vs i inv e) ∙ cast-votes))
 
     pub won-by : (f : ℕ) → w ≡ Entry f → winnerOf r words ≡ some f
     won-by f p = winner-some (winnerOf r words) f (winner-of ∙ p)

@@ -13,15 +13,18 @@ use Prim.Native.Nat.{ℕ, _+_, _-_, _*_, _<_, _≤_}
 use native.Mathlib.Omega.{arith}
 use lib.Dec.{eqb}
 use lib.ListN.{length, take, drop, replicate, length-append, length-drop, length-replicate, length-take, take-append-drop, length-map}
-use lib.Seq.{take-at}
+use lib.Seq.{take-at, take-append-seam}
 use borrow.Author.Tests.{eq-eqb, ne-eqb}
 use Rattle.lists.specs.Tests.{both, pick, allB, same}
 use Rattle.protocol.specs.Office.{Office, Message}
 use Rattle.protocol.specs.Beginning.{comparable}
 use Rattle.protocol.specs.Take.{withTake, refuseTake}
+use Rattle.protocol.proofs.Beginning.{⊑-rest}
+use Rattle.protocol.proofs.Limits.{take-grows}
 use Rattle.lists.proofs.Tests.{both-0, both-false-0, pick-false, zeros}
 use Rattle.ballots.specs.Ballots.{tailOf, ballotOf, wordsWith}
 use Rattle.lists.proofs.Same.{same-true, same-refl}
+use Rattle.lists.proofs.Walk.{take-from}
 use Rattle.ballots.proofs.Laws.{held-all, tails-of}
 use Rattle.numbers.specs.Numbers.{runAt}
 use Rattle.spelling.specs.Content.{Content, asMessage, eightTails}
@@ -34,12 +37,16 @@ use Rattle.reading.specs.declared.Reading.{Reading}
 use Rattle.intake.specs.Intake.{messageIn, mergedOf, Ready}
 use Rattle.intake.specs.declared.Merged.{Merged}
 use Rattle.reading.proofs.Answers.{read-some, read-none, rest-of-message}
-use Rattle.frame.specs.State.{withHeld, heldBy, holding}
+use Rattle.summary.specs.Summary.{startWith, summaryAfter}
+use Rattle.summary.specs.declared.Summary.{Summary}
+use Rattle.summary.proofs.Laws.{summary-append}
+use Rattle.frame.specs.State.{withHeld, heldBy, doneBy, holding}
 use Rattle.frame.specs.Soundness.{soundB, Sound}
 use Rattle.frame.specs.Taking.{sameOffices, onReading, takeNumber, takenOffice, takeOf, takeWords}
 use Rattle.frame.specs.declared.Record.{Record}
 use Rattle.frame.specs.declared.taking.Taken.{Taken}
 use Rattle.frame.proofs.Sound.{sound, sound-true}
+use Rattle.frame.proofs.State as State
 
 pub take-refused : (r : Record) (words s : List ℕ) (x : ℕ) → x ≡ takeNumber r words s → (x ≡ 0 → ⊥)
     → (_≡_ {A = Taken} (record { number = x; «record» = r }) (takeOf r words s)) × (words ≡ takeWords r words s)
@@ -312,12 +319,45 @@ module _ (r : Record) (words s : List ℕ) (m : Reading) (e : takeNumber r words
         theirs-held = ap (map ballotOf) held-tails ∙ sym (says-it .ballots);
       }
 
-  pub take-made : (q : Merged) (ws : List ℕ) → q ≡ mergedOf (withTake (r .own) (messageIn (restOf m s) m) (heldBy r words))
-      → ws ≡ wordsWith (withTake (r .own) (messageIn (restOf m s) m) (heldBy r words) .log) words
-      → (withHeld r (q .settled) (q .ballots) ≡ takeOf r words s .«record») × (ws ≡ takeWords r words s)
-  take-made q ws eq ew =
-      let o : withTake (r .own) (messageIn (restOf m s) m) (heldBy r words) ≡ takenOffice r words s = ap (λ (x : Message). withTake (r .own) x (heldBy r words)) is-message ∙ sym (taken-office r words s taken) in
-      let d = take-done-is r words s e in (
-        ap (λ (x : Merged). withHeld r (x .settled) (x .ballots)) (eq ∙ ap mergedOf o) ∙ sym (d .0),
-        ew ∙ ap (λ (x : Office). wordsWith (x .log) words) o ∙ sym (d .1),
-      )
+  abbrev next : Office
+  next = withTake (r .own) (messageIn (restOf m s) m) (heldBy r words)
+
+  -- what is made of the message: its log and ballots, and the words with that log in front
+  module _ (q : Merged) (ws : List ℕ) (eq : q ≡ mergedOf next) (ew : ws ≡ wordsWith (next .log) words) where
+    abbrev log : List ℕ
+    log = take (r .settled) words
+
+    -- what was added behind the settled log
+    abbrev more : List ℕ
+    more = drop (length log) (next .log)
+
+    grown : log ++ more ≡ next .log
+    grown = ⊑-rest log (next .log) (take-grows (r .own) (messageIn (restOf m s) m) (heldBy r words))
+
+    log-is : length log ≡ r .settled
+    log-is = State.log-length r words (taken .sounds)
+
+    length-is : q .settled ≡ length (next .log)
+    length-is = ap (λ (x : Merged). x .settled) eq
+
+    pub part-within : (r .settled ≤ q .settled) × (q .settled ≤ length ws)
+    part-within = (
+      omega (arith, length-is, ap length grown, length-append log more, log-is),
+      omega (arith, length-is, ap length ew, length-append (next .log) (drop (length (next .log)) words)),
+    )
+
+    -- the part of the log that the code walks
+    added : take (q .settled - r .settled) (drop (r .settled) ws) ≡ more
+    added = take-from (r .settled) (q .settled) ws ∙ ap₂ drop (sym log-is) (ap₂ take length-is ew ∙ take-append-seam (next .log) (drop (length (next .log)) words))
+
+    after : (x : Summary) → x ≡ summaryAfter (r .summary) (take (q .settled - r .settled) (drop (r .settled) ws)) → x ≡ doneBy r (next .log)
+    after x p = p ∙ ap₂ summaryAfter (taken .sounds .done) added ∙ sym (summary-append (startWith (r .weights)) log more) ∙ ap (doneBy r) grown
+
+    pub take-made : (x : Summary) → x ≡ summaryAfter (r .summary) (take (q .settled - r .settled) (drop (r .settled) ws))
+        → (withHeld r x (q .settled) (q .ballots) ≡ takeOf r words s .«record») × (ws ≡ takeWords r words s)
+    take-made x p =
+        let o : next ≡ takenOffice r words s = ap (λ (y : Message). withTake (r .own) y (heldBy r words)) is-message ∙ sym (taken-office r words s taken) in
+        let d = take-done-is r words s e in (
+          ap₂ (λ (z : Summary) (y : Merged). withHeld r z (y .settled) (y .ballots)) (after x p) eq ∙ ap (holding r) o ∙ sym (d .0),
+          ew ∙ ap (λ (y : Office). wordsWith (y .log) words) o ∙ sym (d .1),
+        )

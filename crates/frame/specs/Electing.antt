@@ -3,7 +3,8 @@ use Prim.Native.Nat.{ℕ}
 use mathlib.Core.List.{List}
 use mathlib.Core.Option.{Option}
 use Rattle.lists.specs.Tests.{pick}
-use Rattle.protocol.specs.Vote.{Rule, byWeights}
+use Rattle.protocol.specs.Vote.{Rule}
+use Rattle.protocol.specs.SettledRule.{bySettled}
 use Rattle.protocol.specs.Office.{Office, votes}
 use Rattle.protocol.specs.Elect.{settle, next, withElect, electCount}
 use Rattle.frame.specs.State.{heldBy, holding}
@@ -12,9 +13,9 @@ use Rattle.frame.specs.Soundness.{soundB}
 use Rattle.frame.specs.declared.Record.{Record}
 use Rattle.frame.specs.declared.electing.Elected.{Elected}
 
--- the rule of the record's weights
+-- the rule of the record's frame, by its founding weights
 abbrev pub ruleOf : Record → Rule
-ruleOf r = byWeights (r .weights)
+ruleOf r = bySettled (r .weights)
 
 -- the office's state after elect
 abbrev pub electedOf : Record → List ℕ → Office

@@ -12,7 +12,7 @@ use Rattle.frame.specs.declared.issuing.Issued.{Issued}
 
 -- 1: "record unsound, or log below 1024 words"; 3, 4 and 5 are the protocol's
 unfoldable pub issueNumber : Record → List ℕ → ℕ → ℕ → ℕ
-issueNumber r words line code = pick (soundB r words) (refuseIssue (r .own) line code (heldBy r words)) 1
+issueNumber r words line code = pick (soundB r words) (refuseIssue (r .n) (r .own) line code (heldBy r words)) 1
 
 -- the record with the entry issued
 abbrev pub issuedRecord : Record → List ℕ → ℕ → ℕ → Record

@@ -6,23 +6,29 @@ use lib.ListN.{length, replicate}
 use Rattle.protocol.specs.Office.{Office}
 use Rattle.ballots.specs.Ballots.{ballotOf, noBallot, officeIn}
 use Rattle.ballots.specs.declared.Ballot.{Ballot}
+use Rattle.summary.specs.Summary.{startWith, summaryAfter}
+use Rattle.summary.specs.declared.Summary.{Summary}
 use Rattle.frame.specs.declared.Record.{Record}
 
 -- the state that the record and its log hold
 abbrev pub heldBy : Record → List ℕ → Office
 heldBy r words = officeIn words (r .settled) (r .ballots)
 
--- the record r with another settled length and other ballots: offices, own office and weights stay
-abbrev pub withHeld : Record → ℕ → List Ballot → Record
-withHeld r settled ballots = record { n = r .n; own = r .own; weights = r .weights; settled = settled; ballots = ballots }
+-- the record r with another summary, settled length and ballots: offices, own office and founding weights stay
+abbrev pub withHeld : Record → Summary → ℕ → List Ballot → Record
+withHeld r summary settled ballots = record { n = r .n; own = r .own; weights = r .weights; summary = summary; settled = settled; ballots = ballots }
+
+-- what a settled log has done in the record's frame, from its founding weights on
+abbrev pub doneBy : Record → List ℕ → Summary
+doneBy r log = summaryAfter (startWith (r .weights)) log
 
 -- the record r with that state
 abbrev pub holding : Record → Office → Record
-holding r o = withHeld r (length (o .log)) (map ballotOf (o .tails))
+holding r o = withHeld r (doneBy r (o .log)) (length (o .log)) (map ballotOf (o .tails))
 
 -- "a fresh record has an empty log and no ballots"
 abbrev pub freshRecord : ℕ → ℕ → List ℕ → Record
-freshRecord n own ws = record { n = n; own = own; weights = ws; settled = 0; ballots = replicate 8 noBallot }
+freshRecord n own ws = record { n = n; own = own; weights = ws; summary = startWith ws; settled = 0; ballots = replicate 8 noBallot }
 
 -- "all-zero record"
 abbrev pub zeroRecord : Record
@@ -30,4 +36,4 @@ zeroRecord = freshRecord 0 0 (replicate 8 0)
 
 -- what an array of records gives past its end
 abbrev pub offEnd : Record
-offEnd = record { n = 0; own = 0; weights = []; settled = 0; ballots = [] }
+offEnd = record { n = 0; own = 0; weights = []; summary = startWith []; settled = 0; ballots = [] }

@@ -14,8 +14,8 @@ pub struct Elected {
 }
 
 impl Record {
-    // One election step on a sound record: the winner is written to the log, and the next record handed back; the record itself where no
-    // entry wins. The ballots change where they stand and are walked to n, not 8: a walk of known length is unrolled, and copies them.
+    // One election step on a sound record, by the present weights: the winner is written to the log, and the next record handed back; the
+    // record itself where no entry wins. The ballots change where they stand and are walked to n, not 8: a walk of known length is unrolled, and copies them.
     fn step(self, log: &mut [u32]) -> Record
         requires { ⌜ Sound self (now log) ⌝ }
         ensures { λ r. ⌜ (r ≡ stepOf self (now (log .entry))) × (now (log .exit) ≡ stepWords self (now (log .entry))) ⌝ }
@@ -23,7 +23,8 @@ impl Record {
         let mut next = self;
         let n = next.n;
         let settled = next.settled;
-        let weights = next.weights;
+        let summary = next.summary;
+        let weights = summary.present;
         let none = tallies::NO_VOTE;
         let mut votes = [none; 8];
         for i in 0..n {
@@ -36,6 +37,8 @@ impl Record {
             Winner::Entry(e) => {
                 log[settled] = e;
                 next.settled = settled + 1;
+                let after = summary.next(e);
+                next.summary = after;
                 for i in 0..n {
                     let b = next.ballots[i];
                     if b.len > 0 {

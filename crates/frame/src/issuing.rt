@@ -12,19 +12,28 @@ pub struct Issued {
     pub number: u32,
 }
 
-// Whether an entry may have this line and code.
-fn proper(line: u32, code: u32) -> bool
-    ensures { λ r. ⌜ r ≡ proper line code ⌝ }
+// Whether an entry of n offices may have this line and code: a code of a line, or a weight to move to an office.
+fn proper(n: usize, line: u32, code: u32) -> bool
+    ensures { λ r. ⌜ r ≡ proper n line code ⌝ }
 {
-    (line < Record::LINES) & (code < Record::CODES)
+    if code >= Record::CODES {
+        return false;
+    }
+    if line < Record::LINES {
+        return true;
+    }
+    if code < 1 {
+        return false;
+    }
+    ((line - Record::LINES) as usize) < n
 }
 
-// The number of an issue on a sound record, by the lengths of its log and of its own tail.
-fn refusal(line: u32, code: u32, settled: usize, len: usize) -> u32
+// The number of an issue on a sound record of n offices, by the lengths of its log and of its own tail.
+fn refusal(n: usize, line: u32, code: u32, settled: usize, len: usize) -> u32
     requires { ⌜ (settled ≤ 1024) × (len ≤ 32) ⌝ }
-    ensures { λ r. ⌜ r ≡ refusalAt line code settled len ⌝ }
+    ensures { λ r. ⌜ r ≡ refusalAt n line code settled len ⌝ }
 {
-    if !proper(line, code) {
+    if !proper(n, line, code) {
         return 3;
     }
     if len == Record::TAIL {
@@ -49,7 +58,7 @@ impl Record {
         }
         let own = self.own;
         let b = self.ballots[own];
-        let number = refusal(line, code, self.settled, b.len);
+        let number = refusal(self.n, line, code, self.settled, b.len);
         if number != 0 {
             return Issued {
                 record: self,

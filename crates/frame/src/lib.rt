@@ -3,6 +3,7 @@
 ghost use mathlib.Core.Path.{_≡_};
 ghost use Rattle.frame.specs.Soundness.{soundB};
 use ballots::Ballot;
+use summary::Summary;
 
 pub mod electing;
 pub mod founding;
@@ -12,12 +13,14 @@ pub mod sending;
 mod settling;
 pub mod taking;
 
-// n offices with their weights, the own office, the settled length and each office's ballot. The settled entries are the log's first words.
+// n offices with their founding weights, the own office, what the settled log has done (the present weights), the settled length and each
+// office's ballot. The settled entries are the log's first words.
 #[repr(C)]
 pub struct Record {
     pub n: usize,
     pub own: usize,
     pub weights: [u16; 8],
+    pub summary: Summary,
     pub settled: usize,
     pub ballots: [Ballot; 8],
 }
@@ -40,7 +43,16 @@ impl Record {
         ensures { λ r. ⌜ r ≡ soundB self (now (log .entry)) ⌝ }
     {
         let weights = self.weights;
+        let summary = self.summary;
         let ballots = self.ballots;
-        soundness::sound(self.n, self.own, weights, self.settled, ballots, log)
+        soundness::sound(
+            self.n,
+            self.own,
+            weights,
+            summary,
+            self.settled,
+            ballots,
+            log,
+        )
     }
 }

@@ -42,7 +42,7 @@ impl Record {
         0
     }
 
-    // Takes an accepted message: the settled length and the ballots that the message makes of them.
+    // Takes an accepted message: the settled length and the ballots that the message makes of them, and what the added entries have done.
     fn take_accepted(self, log: &mut [u32], msg: &[u8], m: Reading) -> Record
         requires { ⌜ (takeNumber self (now log) (now msg) ≡ 0) × (m ≡ readingOf (reading (now msg))) ⌝ }
         ensures { λ r. ⌜ (r ≡ takeOf self (now (log .entry)) (now (msg .entry)) .«record») × (now (log .exit) ≡ takeWords self (now (log .entry)) (now (msg .entry))) ⌝ }
@@ -52,8 +52,12 @@ impl Record {
         let head = m.head;
         let merged = intake::take_in(log, settled, ballots, self.own, &msg[head..], m);
         let left = merged.ballots;
+        let end = merged.settled;
+        let summary = self.summary;
+        let after = summary.after(&log[settled..end]);
         let mut next = self;
-        next.settled = merged.settled;
+        next.summary = after;
+        next.settled = end;
         next.ballots = left;
         next
     }

@@ -18,7 +18,7 @@ use Rattle.lists.specs.Tests.{pick}
 use Rattle.protocol.specs.Beginning.{_⊑_, _⊏_, begins, comparable}
 use Rattle.lists.proofs.Tests.{pick-cases}
 use Rattle.protocol.proofs.Beginning.{⊑-cases, ⊏-length, ⊑-length, ⊑-rest, ⊑-refl, begins-true, begins-of}
-use Rattle.merging.proofs.Walks.{take-from}
+use Rattle.lists.proofs.Walk.{take-from}
 use Rattle.numbers.specs.Numbers.{runAt}
 use Rattle.spelling.specs.Reading.{recordAt}
 use Rattle.numbers.proofs.Runs.{runAt-length}

@@ -3,4 +3,5 @@ pub mod Tests
 pub mod Stores
 pub mod Walk
 pub mod Fill
+pub mod Fold
 pub mod Same

@@ -1,13 +1,14 @@
 -- Loops that walk a list: the invariant says that what is left of it answers as the whole list does.
 --     rest-step                        the rest at i is the element at i and the rest at i + 1
+--     rest-part, take-from             the part of a list from a place on, and up to another
 --     all-next, all-stop, all-done     of `allB`, up to the first element that fails: one passes, one fails, the list is at its end
 --     with-next, with-done             of `allB`, testing every element: one more, the list is at its end
 -- Assumes nothing.
-use mathlib.Core.Path.{_≡_, refl, sym, _∙_}
+use mathlib.Core.Path.{_≡_, refl, sym, ap, _∙_}
 use mathlib.Core.Bool.{Bool, true, false, _&&_}
-use mathlib.Core.List.{List, _∷_}
-use Prim.Native.Nat.{ℕ, _+_, _-_, _<_, _≤_}
-use native.Mathlib.Numerals.{add-one}
+use mathlib.Core.List.{List, [], _∷_}
+use Prim.Native.Nat.{ℕ, zero, suc, _+_, _-_, _<_, _≤_}
+use native.Mathlib.Numerals.{add-one, unary-clauses}
 use lib.ListN.{length, getD, take, drop, drop-of-length-le, length-drop}
 use lib.Seq.{drop-cons, take-all}
 use native.Mathlib.Omega.{arith}
@@ -19,6 +20,20 @@ rest-step d xs i h = rw (add-one, drop-cons xs i d)
 -- the part `&xs[a..]` of a list of n elements is the rest at a
 pub rest-part : {A : Type 0} (n a : ℕ) (xs : List A) → length xs ≡ n → take (n - a) (drop a xs) ≡ drop a xs
 rest-part n a xs h = take-all (n - a) (drop a xs) (simp length-drop (omega arith))
+
+-- the part `&xs[from..k]`
+pub take-from : (from k : ℕ) (l : List ℕ) → take (k - from) (drop from l) ≡ drop from (take k l)
+take-from zero k l = simp unary-clauses
+take-from (suc from) zero l = ap (λ (j : ℕ). take j (drop (suc from) l)) none
+  where
+    none : 0 - suc from ≡ 0
+    none = omega arith
+take-from (suc from) (suc k) [] = nothing (suc k - suc from)
+  where
+    nothing : (j : ℕ) → take {A = ℕ} j [] ≡ []
+    nothing zero = refl
+    nothing (suc j) = refl
+take-from (suc from) (suc k) (x ∷ l) = simp unary-clauses (take-from from k l)
 
 -- a walk of `allB t`: the invariant is that the rest gives the answer b
 abbrev pub AllRest : {A : Type 0} → Bool → (A → Bool) → List A → ℕ → Type 0

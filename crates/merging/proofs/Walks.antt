@@ -10,7 +10,6 @@ use mathlib.Core.Path.{_≡_, refl, sym, ap, _∙_}
 use mathlib.Core.Bool.{Bool, true, false}
 use mathlib.Core.List.{List, [], _∷_}
 use Prim.Native.Nat.{ℕ, zero, suc, _+_, _-_, _<_, _≤_}
-use native.Mathlib.Numerals.{unary-clauses}
 use native.Mathlib.Omega.{arith}
 use lib.Dec.{eqb}
 use lib.ListN.{length, getD, take, drop, replicate, drop-of-length-le, length-drop, length-take}
@@ -19,7 +18,7 @@ use Rattle.lists.specs.Tests.{pick}
 use Rattle.protocol.specs.Beginning.{extends}
 use Rattle.protocol.proofs.Beginning.{⊏-length, extends-true}
 use Rattle.lists.proofs.Tests.{pick-cases, zeros, all-zeros, all-drop}
-use Rattle.lists.proofs.Walk.{rest-step}
+use Rattle.lists.proofs.Walk.{take-from, rest-step}
 use Rattle.ballots.specs.declared.Ballot.{Ballot}
 use Rattle.ballots.specs.Ballots.{tailOf, ballotOf, noBallot}
 use Rattle.ballots.proofs.Laws.{tail-of}
@@ -54,20 +53,6 @@ take-taken (suc k) (x ∷ l) = ap (λ (r : List ℕ). x ∷ r) (take-taken k l)
 -- the cells up to the tail's length
 pub part-tail : (b : Ballot) (k : ℕ) → k ≡ length (tailOf b) → take k (b .cells) ≡ tailOf b
 part-tail b k e = rw e (take-taken (b .len) (b .cells))
-
--- the part of a list from one place to another
-pub take-from : (from k : ℕ) (l : List ℕ) → take (k - from) (drop from l) ≡ drop from (take k l)
-take-from zero k l = simp unary-clauses
-take-from (suc from) zero l = ap (λ (j : ℕ). take j (drop (suc from) l)) none
-  where
-    none : 0 - suc from ≡ 0
-    none = omega arith
-take-from (suc from) (suc k) [] = nothing (suc k - suc from)
-  where
-    nothing : (j : ℕ) → take {A = ℕ} j [] ≡ []
-    nothing zero = refl
-    nothing (suc j) = refl
-take-from (suc from) (suc k) (x ∷ l) = simp unary-clauses (take-from from k l)
 
 -- the cells from one place up to the tail's length
 pub part-past : (b : Ballot) (from k : ℕ) → k ≡ length (tailOf b) → take (k - from) (drop from (b .cells)) ≡ drop from (tailOf b)

@@ -8,7 +8,9 @@ use lib.Dec.{ltb}
 use lib.ListN.{replicate}
 use Rattle.protocol.specs.Entry.{value, proper}
 use Rattle.protocol.specs.Beginning.{begins, extends}
-use Rattle.protocol.specs.Vote.{tally, unheard, supported, wins, winner, byWeights}
+use Rattle.protocol.specs.Vote.{tally, unheard, supported, wins, winner}
+use Rattle.protocol.specs.Moves.{isMove, move, weightsAfter}
+use Rattle.protocol.specs.SettledRule.{bySettled}
 use Rattle.protocol.specs.Office.{Office, Message, votes, fresh}
 use Rattle.lists.specs.Tests.{both, pick}
 use Rattle.protocol.specs.Issue.{refusalAt, refuseIssue}
@@ -17,27 +19,27 @@ use Rattle.protocol.specs.Elect.{settle, electing, withElect, electCount
 use Rattle.protocol.proofs.World.{World, take, names, refusal, done, step}
 
 -- ── the cases' entries, weights and states ──
-abbrev a : ℕ
+abbrev pub a : ℕ
 a = value 0 5 120
 
-abbrev b : ℕ
+abbrev pub b : ℕ
 b = value 1 5 130
 
-abbrev c : ℕ
+abbrev pub c : ℕ
 c = value 2 5 140
 
-abbrev d : ℕ
+abbrev pub d : ℕ
 d = value 0 6 7
 
 -- the weights of three offices; the others' are zero
-abbrev three : ℕ → ℕ → ℕ → List ℕ
+abbrev pub three : ℕ → ℕ → ℕ → List ℕ
 three x y z = x ∷ y ∷ z ∷ 0 ∷ 0 ∷ 0 ∷ 0 ∷ 0 ∷ []
 
-abbrev usual : List ℕ
+abbrev pub usual : List ℕ
 usual = three 40 35 25
 
 -- a log, and the ballots of offices 0, 1 and 2; the others have none
-abbrev state : List ℕ → List ℕ → List ℕ → List ℕ → Office
+abbrev pub state : List ℕ → List ℕ → List ℕ → List ℕ → Office
 state l x y z = record { log = l; tails = x ∷ y ∷ z ∷ [] ∷ [] ∷ [] ∷ [] ∷ [] ∷ [] }
 
 abbrev from : ℕ → Office → Message
@@ -52,8 +54,8 @@ abbrev Unheard : List ℕ → Office → ℕ → Type 0
 Unheard ws o u = unheard ws (votes o) ≡ u
 
 -- elect leaves r and answers the count
-abbrev Elects : List ℕ → Office → Office → ℕ → Type 0
-Elects ws o r count = (withElect (byWeights ws) o ≡ r) × (electCount (byWeights ws) o ≡ count)
+abbrev pub Elects : List ℕ → Office → Office → ℕ → Type 0
+Elects ws o r count = (withElect (bySettled ws) o ≡ r) × (electCount (bySettled ws) o ≡ count)
 
 -- office k takes the message: the number, and the state afterwards
 abbrev Takes : ℕ → Message → Office → Office → Type 0
@@ -118,8 +120,8 @@ pub cases :
     -- K: no change
     Takes 1 messageJ afterJ afterJ ×
     -- L: 10, and a refused call changes nothing
-    ((refusal inL (take 1 0) ≡ 10) × (step (byWeights usual) inL (take 1 0) ≡ inL))
-unfolding begins extends tally unheard supported wins winner rebase catchUp withTake refuseTake settle electing withElect names refusal done step
+    ((refusal inL (take 1 0) ≡ 10) × (step (bySettled usual) inL (take 1 0) ≡ inL))
+unfolding begins extends weightsAfter move isMove both pick tally unheard supported wins winner rebase catchUp withTake refuseTake settle electing withElect names refusal done step
 cases = (
   (refl, refl, (refl, refl)),
   (refl, refl, (refl, refl)),
@@ -149,7 +151,7 @@ pub mistakes :
     Takes 1 (from 0 (state [] [] (b ∷ d ∷ []) [])) (state [] [] (b ∷ []) []) (state [] [] (b ∷ []) []) ×
     -- resetting all ballots when the log grows, or none: with log a, 0:ad keeps its path, 1:b and 2:a become none
     Takes 1 (from 2 settledA) (state [] (a ∷ d ∷ []) (b ∷ []) (a ∷ [])) (state (a ∷ []) (d ∷ []) [] [])
-unfolding begins extends tally unheard supported wins winner rebase catchUp withTake refuseTake settle electing withElect
+unfolding begins extends weightsAfter move isMove both pick tally unheard supported wins winner rebase catchUp withTake refuseTake settle electing withElect
 mistakes = ((refl, refl), refl, refl, (refl, refl, refl, (refl, refl)), (refl, refl), (refl, refl), (refl, refl))
 
 -- "Tails of 31 and 32, lengths of 1023 and 1024, line 63 and 64, code 9999 and 10000": the number of an issue at office 0
@@ -157,9 +159,9 @@ abbrev full : ℕ → ℕ → Office
 full settled own = state (replicate settled a) (replicate own a) [] []
 
 pub limits :
-    (refuseIssue 0 63 9999 (full 0 0) ≡ 0) × (refuseIssue 0 64 9999 (full 0 0) ≡ 3) × (refuseIssue 0 63 10000 (full 0 0) ≡ 3) ×
-    (refuseIssue 0 63 9999 (full 0 31) ≡ 0) × (refuseIssue 0 63 9999 (full 0 32) ≡ 4) × (refuseIssue 0 64 9999 (full 0 32) ≡ 3) ×
-    (refuseIssue 0 63 9999 (full 1023 0) ≡ 0) × (refuseIssue 0 63 9999 (full 1024 0) ≡ 5) × (refuseIssue 0 63 9999 (full 992 31) ≡ 0) ×
-    (refuseIssue 0 63 9999 (full 993 31) ≡ 5) × (refuseIssue 0 63 9999 (full 992 32) ≡ 4)
+    (refuseIssue 3 0 63 9999 (full 0 0) ≡ 0) × (refuseIssue 3 0 67 9999 (full 0 0) ≡ 3) × (refuseIssue 3 0 63 10000 (full 0 0) ≡ 3) ×
+    (refuseIssue 3 0 63 9999 (full 0 31) ≡ 0) × (refuseIssue 3 0 63 9999 (full 0 32) ≡ 4) × (refuseIssue 3 0 67 9999 (full 0 32) ≡ 3) ×
+    (refuseIssue 3 0 63 9999 (full 1023 0) ≡ 0) × (refuseIssue 3 0 63 9999 (full 1024 0) ≡ 5) × (refuseIssue 3 0 63 9999 (full 992 31) ≡ 0) ×
+    (refuseIssue 3 0 63 9999 (full 993 31) ≡ 5) × (refuseIssue 3 0 63 9999 (full 992 32) ≡ 4)
 unfolding refuseIssue refusalAt proper both pick
 limits = (refl, refl, refl, refl, refl, refl, refl, refl, refl, refl, refl)

@@ -13,11 +13,13 @@ use native.Mathlib.Nat.{le-refl}
 use native.Mathlib.Omega.{arith}
 use lib.Dec.{eqb, ltb}
 use lib.ListN.{length, getD, length-append}
-use Rattle.protocol.specs.Vote.{Rule, byWeights}
+use Rattle.protocol.specs.Vote.{Rule}
+use Rattle.protocol.specs.Moves.{weightsAfter}
+use Rattle.protocol.specs.SettledRule.{bySettled}
 use Rattle.protocol.specs.Winning.{Wins}
 use Rattle.protocol.specs.Office.{Office, first, votes}
 use Rattle.protocol.specs.Elect.{lose, settle, tailEntries, next, electing, withElect, electCount}
-use Rattle.protocol.proofs.Vote.{NamesVoted, byWeights-voted, winner-none}
+use Rattle.protocol.proofs.Vote.{NamesVoted, byLog-voted, winner-none}
 use Rattle.protocol.proofs.Office.{next-cases}
 
 lose-short : (e : ℕ) (t : List ℕ) → length (lose e t) ≤ length t
@@ -155,6 +157,9 @@ module _ (rule : Rule) (law : NamesVoted rule) where
       let whole : l ≡ length (o .log ++ (e ∷ [])) + length (g .0) = ap length (g .1) ∙ length-append (o .log ++ (e ∷ [])) (g .0) in
       omega (arith, ap (λ (r : Office). length (r .log)) (elect-some o e q), whole, length-append (o .log) (e ∷ []))
 
--- document 01's rule: after elect no entry wins
-pub elect-no-winner : (ws : List ℕ) (o : Office) (e : ℕ) → Wins ws ltb (votes (withElect (byWeights ws) o)) e → ⊥
-elect-no-winner ws o e w = winner-none ws ltb (votes (withElect (byWeights ws) o)) .0 (elect-stops (byWeights ws) (byWeights-voted ws) o) e w
+-- the frame's rule: after elect no entry wins, by the weights of the log as it is then
+pub elect-no-winner : (founding : List ℕ) (o : Office) (e : ℕ)
+    → let r : Office = withElect (bySettled founding) o in Wins (weightsAfter founding (r .log)) ltb (votes r) e → ⊥
+elect-no-winner founding o e w =
+    let r : Office = withElect (bySettled founding) o in
+    winner-none (weightsAfter founding (r .log)) ltb (votes r) .0 (elect-stops (bySettled founding) (byLog-voted (weightsAfter founding) (λ log. ltb)) o) e w

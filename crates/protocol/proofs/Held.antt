@@ -5,7 +5,8 @@
 -- Assumes nothing.
 use mathlib.Core.Path.{_≡_, subst}
 use mathlib.Core.List.{List, _∷_}
-use Prim.Native.Nat.{ℕ, _<_}
+use Prim.Native.Nat.{ℕ, _<_, _≤_}
+use lib.ListN.{length}
 use Rattle.protocol.specs.Entry.{officeOf}
 use Rattle.protocol.specs.Beginning.{_⊑_, _⊏_}
 use Rattle.protocol.specs.Vote.{Rule}
@@ -13,7 +14,7 @@ use Rattle.protocol.specs.Office.{tail, path}
 use Rattle.protocol.proofs.World.{Call, issue, refusal}
 use Rattle.protocol.proofs.Beginning.{⊑-append, ⊑-⊏-trans, ⊏-irrefl, snoc-⊏}
 use Rattle.protocol.proofs.Lawful.{Lawful}
-use Rattle.protocol.proofs.History.{Past, past-refl, past-trans, officeAt, logAt, ownAt}
+use Rattle.protocol.proofs.History.{Past, past-refl, past-trans, after, after-length, officeAt, logAt, ownAt}
 use Rattle.protocol.proofs.Steady.{past-moves, Voted, voted-unique, voted-later}
 use Rattle.protocol.proofs.Issued.{Issued, EachIssued}
 use Rattle.protocol.proofs.Settled.{order-issued, ballot-issued}
@@ -22,9 +23,11 @@ use Rattle.protocol.proofs.OneOrder.{parts-of}
 
 module _ (rule : Rule) (n : ℕ) where
   -- an entry's office is the one that issued it
-  pub issued-office : (cs : List Call) (l p : List ℕ) (e : ℕ) (i : Issued rule n cs l p e) → officeOf e ≡ i .k
+  pub issued-office : n ≤ 8 → (cs : List Call) (l p : List ℕ) (e : ℕ) (i : Issued rule n cs l p e) → officeOf e ≡ i .k
   unfolding refusal
-  issued-office cs l p e i = parts-of (i .k) (i .line) (i .code) (officeAt rule n (i .k) (i .moment)) (i .done) e (i .entry) .office
+  issued-office most cs l p e i =
+      let few : length (after rule n (i .moment) .offices) ≤ 8 = rw (after-length rule n (i .moment)) most in
+      parts-of (length (after rule n (i .moment) .offices)) (i .k) (i .line) (i .code) (officeAt rule n (i .k) (i .moment)) few (i .done) e (i .entry) .office
 
   -- right after its issue the entry is its office's vote
   pub issued-voted : (cs : List Call) (l p : List ℕ) (e : ℕ) (i : Issued rule n cs l p e) → Voted rule n cs (i .k) p e

@@ -1,11 +1,13 @@
--- What the one order needs of an election rule, and that document 01's has it. Assumes nothing.
+-- What the one order needs of an election rule, and that the frame's has it. Assumes nothing.
 use mathlib.Core.Path.{_≡_}
 use mathlib.Core.List.{List}
 use mathlib.Core.Option.{some}
 use mathlib.Core.Bool.{Bool}
 use Prim.Native.Nat.{ℕ}
 use lib.Dec.{ltb}
-use Rattle.protocol.specs.Vote.{Votes, Rule, byLog, byWeights}
+use Rattle.protocol.specs.Vote.{Votes, Rule, byLog}
+use Rattle.protocol.specs.Moves.{weightsAfter}
+use Rattle.protocol.specs.SettledRule.{bySettled}
 use Rattle.protocol.specs.Winning.{Wins, Asymmetric}
 use Rattle.protocol.proofs.Vote.{Grows, NamesVoted, wins-unique, wins-grows, wins-voted, winner-wins, ltb-asymmetric}
 
@@ -30,5 +32,6 @@ byLog-lawful weights before asym = record {
   voted = λ l v e w. let s = wins-voted (weights l) (before l) v e w in (s .0, s .2);
 }
 
-pub byWeights-lawful : (ws : List ℕ) → Lawful (byWeights ws)
-byWeights-lawful ws = byLog-lawful (λ _. ws) (λ _. ltb) (λ _. ltb-asymmetric)
+-- the frame's rule
+pub settled-lawful : (founding : List ℕ) → Lawful (bySettled founding)
+settled-lawful founding = byLog-lawful (weightsAfter founding) (λ _. ltb) (λ _. ltb-asymmetric)

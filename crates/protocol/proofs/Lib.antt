@@ -1,11 +1,13 @@
 -- The laws of document 01's definitions, and demand 3 on lists.
--- the lettered cases
+-- the lettered cases, and those of the requests
 pub mod Cases
+pub mod MoveCases
 -- beginnings, the winning rule, the calls at one office
 pub mod Beginning
 pub mod Vote
 pub mod Office
 pub mod Elect
+pub mod Moves
 pub mod Limits
 -- demand 3: the world, what is asked of the rule, the four invariants, each call, the theorem
 pub mod World

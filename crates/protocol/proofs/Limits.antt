@@ -29,6 +29,7 @@ use Rattle.lists.proofs.Tests.{both-0, both-1, both-true, all-getD, all-one, al
 use Rattle.protocol.proofs.Beginning.{⊑-refl, ⊑-cases, ⊏-⊑, ⊑-⊏-trans, ⊑-length, ⊏-length, ⊏-irrefl, ⊑-append, ⊑-trans, begins-true, extends-true, extends-false}
 use Rattle.protocol.proofs.Vote.{NamesVoted}
 use Rattle.protocol.proofs.Office.{rebased-nil, next-cases}
+use Rattle.protocol.proofs.Moves.{value-entry}
 
 -- ── the facts by name ──
 pub record FineTail (n settled : ℕ) (t : List ℕ) : Type 0 where
@@ -123,14 +124,6 @@ fresh-fine n = record {
 }
 
 -- ── issue ──
-pub value-entry : (n office line code : ℕ) → office < n → n ≤ 8 → proper line code ≡ true → isEntry n (value office line code) ≡ true
-unfolding isEntry proper
-value-entry n office line code h m p =
-    let l : line ≤ 63 = leb-true line 63 (both-0 _ _ p) in
-    let c : code ≤ 9999 = leb-true code 9999 (both-1 _ _ p) in
-    both-true _ _ (lt-ltb (officeOf (value office line code)) n (omega arith))
-    (both-true _ _ (le-leb (lineOf (value office line code)) 63 (omega arith)) (le-leb (codeOf (value office line code)) 9999 (omega arith)))
-
 more-fine : (n settled : ℕ) (t : List ℕ) (e : ℕ) → FineTail n settled t → isEntry n e ≡ true → length t < 32 → settled + length t < 1024 → FineTail n settled (t ++ (e ∷ []))
 more-fine n settled t e old p h l =
     let more : length (t ++ (e ∷ [])) ≡ length t + 1 = length-append t (e ∷ []) in
@@ -150,34 +143,30 @@ issue-fine n k e o f h p short room =
     }
 
 -- what a done issue found
-pub record IssueDone (k line code : ℕ) (o : Office) : Type 0 where
-  pub limits : proper line code ≡ true
-  pub line-ok : line ≤ 63
-  pub code-ok : code ≤ 9999
+pub record IssueDone (n k line code : ℕ) (o : Office) : Type 0 where
+  pub limits : proper n line code ≡ true
   pub short : length (tail o k) ≡ 32 → ⊥
   pub room : length (o .log) + length (tail o k) ≡ 1024 → ⊥
 
-pub issue-done : (k line code : ℕ) (o : Office) → refuseIssue k line code o ≡ 0 → IssueDone k line code o
-unfolding refuseIssue refusalAt proper pick
-issue-done k line code o h = go (proper line code) refl (eqb (length (tail o k)) 32) refl (eqb (length (o .log) + length (tail o k)) 1024) refl h
+pub issue-done : (n k line code : ℕ) (o : Office) → refuseIssue n k line code o ≡ 0 → IssueDone n k line code o
+unfolding refuseIssue refusalAt pick
+issue-done n k line code o h = go (proper n line code) refl (eqb (length (tail o k)) 32) refl (eqb (length (o .log) + length (tail o k)) 1024) refl h
   where
-    go : (a : Bool) → proper line code ≡ a → (c : Bool) → eqb (length (tail o k)) 32 ≡ c → (d : Bool) → eqb (length (o .log) + length (tail o k)) 1024 ≡ d
-        → _≡_ {A = ℕ} (pick (not a) 3 (pick c 4 (pick d 5 0))) 0 → IssueDone k line code o
+    go : (a : Bool) → proper n line code ≡ a → (c : Bool) → eqb (length (tail o k)) 32 ≡ c → (d : Bool) → eqb (length (o .log) + length (tail o k)) 1024 ≡ d
+        → _≡_ {A = ℕ} (pick (not a) 3 (pick c 4 (pick d 5 0))) 0 → IssueDone n k line code o
     go false p c r d s x = absurd (omega arith)
     go true p true r d s x = absurd (omega arith)
     go true p false r true s x = absurd (omega arith)
     go true p false r false s x = record {
       limits = p;
-      line-ok = leb-true line 63 (both-0 _ _ p);
-      code-ok = leb-true code 9999 (both-1 _ _ p);
       short = eqb-false (length (tail o k)) 32 r;
       room = eqb-false (length (o .log) + length (tail o k)) 1024 s;
     }
 
 -- an issue is done, or refused with 3, 4 or 5: never with 1, which the state of a sound record does not meet, or with 10
-pub issue-never : (k line code : ℕ) (o : Office) → (refuseIssue k line code o ≡ 1 → ⊥) × (refuseIssue k line code o ≡ 10 → ⊥)
+pub issue-never : (n k line code : ℕ) (o : Office) → (refuseIssue n k line code o ≡ 1 → ⊥) × (refuseIssue n k line code o ≡ 10 → ⊥)
 unfolding refuseIssue refusalAt pick
-issue-never k line code o = go (not (proper line code)) (eqb (length (tail o k)) 32) (eqb (length (o .log) + length (tail o k)) 1024)
+issue-never n k line code o = go (not (proper n line code)) (eqb (length (tail o k)) 32) (eqb (length (o .log) + length (tail o k)) 1024)
   where
     other : (x : ℕ) → (x ≡ 1 → ⊥) → (x ≡ 10 → ⊥) → (x ≡ 1 → ⊥) × (x ≡ 10 → ⊥)
     other x p q = (p, q)
@@ -188,9 +177,9 @@ issue-never k line code o = go (not (proper line code)) (eqb (length (tail o k))
     go false false true = other 5 (λ e. omega arith) (λ e. omega arith)
     go false false false = other 0 (λ e. omega arith) (λ e. omega arith)
 
-pub issue-done-fine : (n k line code : ℕ) (o : Office) → Fine n o → k < n → n ≤ 8 → refuseIssue k line code o ≡ 0 → Fine n (withIssue k (value k line code) o)
+pub issue-done-fine : (n k line code : ℕ) (o : Office) → Fine n o → k < n → n ≤ 8 → refuseIssue n k line code o ≡ 0 → Fine n (withIssue k (value k line code) o)
 issue-done-fine n k line code o f h m r =
-    let d = issue-done k line code o r in
+    let d = issue-done n k line code o r in
     let t = tail-at n o f k in
     issue-fine n k (value k line code) o f h (value-entry n k line code h m (d .limits)) (below _ 32 (t .short) (d .short)) (below _ 1024 (t .room) (d .room))
   where
@@ -297,6 +286,13 @@ catchUp-fine n new o f most p =
     (λ _. f)
 
 -- the log that is caught up with has the message's as a beginning, where they are comparable
+-- take only lets the settled log grow
+pub take-grows : (k : ℕ) (m : Message) (o : Office) → o .log ⊑ withTake k m o .log
+unfolding withTake catchUp rebase
+take-grows k m o =
+    if-cases (λ (r : Office). o .log ⊑ r .log) (extends (m .state .log) (o .log)) (rebase (m .state .log) o) o
+    (λ e. ⊏-⊑ (o .log) (m .state .log) (extends-true (m .state .log) (o .log) e)) (λ _. ⊑-refl (o .log))
+
 pub catchUp-log : (new : List ℕ) (o : Office) → (o .log ⊑ new) ⊎ (new ⊑ o .log) → new ⊑ catchUp new o .log
 unfolding catchUp rebase
 catchUp-log new o c =

@@ -2,7 +2,7 @@
 -- follows document 01's steps has one order. Assumes nothing.
 use mathlib.Core.Path.{_≡_, refl, sym, ap, subst, _∙_}
 use mathlib.Core.List.{List, [], _∷_, _++_}
-use Prim.Native.Nat.{ℕ, _<_}
+use Prim.Native.Nat.{ℕ, _<_, _≤_}
 use native.Mathlib.Omega.{arith}
 use lib.ListN as L
 use lib.ListN.{getD}
@@ -113,9 +113,9 @@ module _ (m : Machine) (rule : Rule) (n : ℕ) (f : Follows m rule n) where
   unfolding theirs
   view-at cs = sym (view-runs (m .start) cs (f .sound-start) ∙ ap (λ (x : World). run rule x (calls m (m .start) cs)) (f .starts))
 
-  pub one-order-machine : Lawful rule → 0 < n → (cs : List (m .C)) → OneOrderOf m n cs
+  pub one-order-machine : Lawful rule → n ≤ 8 → 0 < n → (cs : List (m .C)) → OneOrderOf m n cs
   unfolding theirs
-  one-order-machine law pos cs = record {
+  one-order-machine law most pos cs = record {
     order = one .order;
     is-longest = one .is-longest ∙ ap (λ (w : World). longest (settledLogs w)) (view-at cs);
     present = (one .present .0, one .present .1, rw (← view-at cs) (one .present .2));
@@ -127,7 +127,7 @@ module _ (m : Machine) (rule : Rule) (n : ℕ) (f : Follows m rule n) where
   }
     where
       one : OneOrder rule n (theirs cs)
-      one = one-order-of rule n law pos (theirs cs)
+      one = one-order-of rule n law most pos (theirs cs)
 
       by : (p : List ℕ) (e : ℕ) → IssuedIn rule n (theirs cs) p e → IssuedBy m n cs p e
       by p e i =

@@ -2,14 +2,15 @@
 use mathlib.Core.Path.{_≡_, refl, sym, ap, subst, _∙_}
 use mathlib.Core.List.{List, [], _∷_, _++_, map, reverseAux, reverse}
 use mathlib.Core.Logic.{_⊎_, inl, inr}
-use Prim.Native.Nat.{ℕ, suc, _<_}
+use Prim.Native.Nat.{ℕ, suc, _<_, _≤_}
 use native.Mathlib.Omega.{arith}
 use lib.ListN as L
 use lib.ListN.{length, getD, length-map}
 use lib.Seq.{take-suc}
 use Rattle.protocol.specs.Entry.{value, officeOf, lineOf, codeOf}
 use Rattle.protocol.specs.Beginning.{_⊑_}
-use Rattle.protocol.specs.Vote.{Rule, byWeights}
+use Rattle.protocol.specs.Vote.{Rule}
+use Rattle.protocol.specs.SettledRule.{bySettled}
 use Rattle.protocol.specs.Office.{Office, fresh, path}
 use Rattle.protocol.specs.Issue.{refuseIssue}
 use Rattle.protocol.specs.Longest.{longest}
@@ -18,7 +19,8 @@ use Rattle.protocol.proofs.Beginning.{⊑-trans, take-⊑}
 use Rattle.protocol.proofs.Longest.{longest-is}
 use Rattle.protocol.proofs.World.{World, Call, issue, at, founded, refusal, run}
 use Rattle.protocol.proofs.Limits.{issue-done}
-use Rattle.protocol.proofs.Lawful.{Lawful, byWeights-lawful}
+use Rattle.protocol.proofs.Moves.{proper-true, value-parts}
+use Rattle.protocol.proofs.Lawful.{Lawful, settled-lawful}
 use Rattle.protocol.proofs.History.{Past, now, before, past-refl, past-trans, past-cases, after, after-length, logAt}
 use Rattle.protocol.proofs.Steady.{past-moves}
 use Rattle.protocol.proofs.Issued.{Issued}
@@ -101,12 +103,10 @@ pub record Parts (k line code e : ℕ) : Type 0 where
   pub line-is : lineOf e ≡ line
   pub code-is : codeOf e ≡ code
 
-pub parts-of : (k line code : ℕ) (o : Office) → refuseIssue k line code o ≡ 0 → (e : ℕ) → value k line code ≡ e → Parts k line code e
-parts-of k line code o h e q =
-    let d = issue-done k line code o h in
-    let line-ok = d .line-ok in
-    let code-ok = d .code-ok in
-    subst (λ (v : ℕ). Parts k line code v) q (record { office = omega arith; line-is = omega arith; code-is = omega arith })
+pub parts-of : (n k line code : ℕ) (o : Office) → n ≤ 8 → refuseIssue n k line code o ≡ 0 → (e : ℕ) → value k line code ≡ e → Parts k line code e
+parts-of n k line code o m h e q =
+    let s = value-parts n k line code m (proper-true n line code (issue-done n k line code o h .limits)) in
+    subst (λ (v : ℕ). Parts k line code v) q (record { office = s .0; line-is = s .1; code-is = s .2 })
 
 module _ (rule : Rule) (n : ℕ) where
   run-after : (cs h : List Call) → run rule (after rule n h) cs ≡ after rule n (reverseAux cs h)
@@ -118,9 +118,10 @@ module _ (rule : Rule) (n : ℕ) where
   unfolding after
   world-after cs = run-after cs []
 
-  issued-in : (cs : List Call) (l p : List ℕ) (e : ℕ) → Issued rule n (reverse cs) l p e → IssuedIn rule n cs p e
+  -- of eight offices at most: a move's line is in the value then
+  issued-in : n ≤ 8 → (cs : List Call) (l p : List ℕ) (e : ℕ) → Issued rule n (reverse cs) l p e → IssuedIn rule n cs p e
   unfolding refusal
-  issued-in cs l p e i = go (find cs [] c (i .moment) (i .call))
+  issued-in most cs l p e i = go (find cs [] c (i .moment) (i .call))
     where
       c : Call
       c = issue (i .k) (i .line) (i .code)
@@ -131,7 +132,9 @@ module _ (rule : Rule) (n : ℕ) where
       go : Past (c ∷ i .moment) [] ⊎ ((a : List Call) × (b : List Call) × (a ++ (c ∷ b) ≡ cs) × (i .moment ≡ reverse a)) → IssuedIn rule n cs p e
       go (inl q) = absurd (none-first q)
       go (inr q) =
-          let parts = parts-of (i .k) (i .line) (i .code) (at (after rule n (i .moment)) (i .k)) (i .done) e (i .entry) in
+          let w = after rule n (i .moment) in
+          let few : length (w .offices) ≤ 8 = rw (after-length rule n (i .moment)) most in
+          let parts = parts-of (length (w .offices)) (i .k) (i .line) (i .code) (at w (i .k)) few (i .done) e (i .entry) in
           let same : after rule n (i .moment) ≡ world rule n (q .0) = ap (after rule n) (q .3) ∙ sym (world-after (q .0)) in
           record {
             k = i .k;
@@ -150,14 +153,14 @@ module _ (rule : Rule) (n : ℕ) where
           }
 
   -- for any rule that is lawful
-  pub one-order-of : Lawful rule → 0 < n → (cs : List Call) → OneOrder rule n cs
-  one-order-of law pos cs = record {
+  pub one-order-of : Lawful rule → n ≤ 8 → 0 < n → (cs : List Call) → OneOrder rule n cs
+  one-order-of law most pos cs = record {
     order = inv .order;
     is-longest = longest-is (inv .order) (settledLogs (world rule n cs)) (λ k. subst (λ (l : List ℕ). l ⊑ inv .order) (sym (log-at k)) (inv .logs k)) (inv .longest .0)
         (omega (arith, inv .longest .1, there)) (log-at (inv .longest .0) ∙ inv .longest .2);
     present = (inv .longest .0, inv .longest .1, rw (world-after cs) (inv .longest .2));
     logs = λ a b e k. log-in a b e k;
-    issued = λ p h. issued-in cs (inv .order) (L.take p (inv .order)) (getD (inv .order) p 0)
+    issued = λ p h. issued-in most cs (inv .order) (L.take p (inv .order)) (getD (inv .order) p 0)
         (order-issued rule n law (reverse cs) (inv .order) (inv .elected) (inv .issued) (L.take p (inv .order)) (getD (inv .order) p 0)
         (subst (λ (l : List ℕ). l ⊑ inv .order) (take-suc (inv .order) p 0 h) (take-⊑ (suc p) (inv .order))));
     never = λ a b c e h. never-10 rule n law (reverse a) (invariant rule n law pos (reverse a)) c (rw (world-after a) at h);
@@ -178,6 +181,6 @@ module _ (rule : Rule) (n : ℕ) where
           let p : Past (reverse a) (reverse cs) = subst (λ (l : List Call). Past (reverse a) l) (sym (rev-append a b []) ∙ ap reverse e) (past-rev b (reverse a)) in
           rw (world-after a) (⊑-trans (logAt rule n k (reverse a)) (logAt rule n k (reverse cs)) (inv .order) (past-moves rule n p k .0) (inv .logs k))
 
--- for document 01's rule: the theorem on lists
-pub one-order : (ws : List ℕ) (n : ℕ) → 0 < n → (cs : List Call) → OneOrder (byWeights ws) n cs
-one-order ws n pos cs = one-order-of (byWeights ws) n (byWeights-lawful ws) pos cs
+-- for the frame's rule: the theorem on lists. "One order behind all offices must still be found when such entries are among the edits."
+pub one-order : (founding : List ℕ) (n : ℕ) → n ≤ 8 → 0 < n → (cs : List Call) → OneOrder (bySettled founding) n cs
+one-order founding n most pos cs = one-order-of (bySettled founding) n (settled-lawful founding) most pos cs

@@ -14,7 +14,7 @@ use native.Mathlib.Omega.{arith}
 use lib.Dec.{eqb, ltb}
 use lib.ListN.{length}
 use borrow.Author.Tests.{eqb-true, ltb-true, eq-eqb, lt-ltb}
-use Rattle.protocol.specs.Vote.{Votes, later, isFor, isNone, tally, unheard, and-also, supported, beats, beatsAll, wins, firstWinner, winner, Rule, byWeights}
+use Rattle.protocol.specs.Vote.{Votes, later, isFor, isNone, tally, unheard, and-also, supported, beats, beatsAll, wins, firstWinner, winner, Rule, byLog}
 use Rattle.protocol.specs.Winning.{Supported, Beats, Wins, Asymmetric}
 use Rattle.lists.proofs.Tests.{and-true, and-of, or-true, or-right}
 
@@ -242,5 +242,5 @@ ltb-asymmetric e f p q = omega (arith, ltb-true e f p, ltb-true f e q)
 abbrev pub NamesVoted : Rule → Type 0
 NamesVoted rule = (l : List ℕ) (v : Votes) (e : ℕ) → rule l v ≡ some e → (k : ℕ) × (v k ≡ some e)
 
-pub byWeights-voted : (ws : List ℕ) → NamesVoted (byWeights ws)
-byWeights-voted ws l v e h = let s = winner-voted ws ltb v e h in (s .0, s .2)
+pub byLog-voted : (weights : List ℕ → List ℕ) (before : List ℕ → ℕ → ℕ → Bool) → NamesVoted (byLog weights before)
+byLog-voted weights before l v e h = let s = winner-voted (weights l) (before l) v e h in (s .0, s .2)

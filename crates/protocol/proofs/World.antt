@@ -57,7 +57,7 @@ taking k (some m) o = withTake k m o
 
 -- the call's number, 0 when it is done
 unfoldable pub refusal : World → Call → ℕ
-refusal w (issue k line code) = refuseIssue k line code (at w k)
+refusal w (issue k line code) = refuseIssue (length (w .offices)) k line code (at w k)
 refusal w (send k room) = cond room 0 6
 refusal w (take k m) = refuseTaking k (getElem? (w .sent) m) (at w k)
 refusal w (elect k) = 0

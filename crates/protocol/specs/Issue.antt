@@ -12,14 +12,14 @@ use Rattle.protocol.specs.Office.{Office, tail}
 unfoldable pub withIssue : ℕ → ℕ → Office → Office
 withIssue k e o = record { log = o .log; tails = set (o .tails) k (tail o k ++ (e ∷ [])) }
 
--- 3: "line above 63, or code above 9999"; 4: "own tail is 32 long"; 5: "settled length + own tail length = 1024". By the line and the code,
--- the settled length and the own tail's length
-unfoldable pub refusalAt : ℕ → ℕ → ℕ → ℕ → ℕ
-refusalAt line code settled len =
-    pick (not (proper line code)) 3
+-- 3: a line and a code that no entry of n offices has; 4: "own tail is 32 long"; 5: "settled length + own tail length = 1024". By n, the line
+-- and the code, the settled length and the own tail's length
+unfoldable pub refusalAt : ℕ → ℕ → ℕ → ℕ → ℕ → ℕ
+refusalAt n line code settled len =
+    pick (not (proper n line code)) 3
     (pick (eqb len 32) 4
     (pick (eqb (settled + len) 1024) 5 0))
 
--- of office k's state
-unfoldable pub refuseIssue : ℕ → ℕ → ℕ → Office → ℕ
-refuseIssue k line code o = refusalAt line code (length (o .log)) (length (tail o k))
+-- of office k's state, with n offices
+unfoldable pub refuseIssue : ℕ → ℕ → ℕ → ℕ → Office → ℕ
+refuseIssue n k line code o = refusalAt n line code (length (o .log)) (length (tail o k))

@@ -1,10 +1,12 @@
--- Document 01's rules on lists.
+-- Document 01's rules on lists, as document 02 has changed them.
 pub mod Entry
 pub mod Beginning
 pub mod Vote
 pub mod Winning
 pub mod Office
 pub mod Limits
+pub mod Moves
+pub mod SettledRule
 pub mod Issue
 pub mod Take
 pub mod Elect

@@ -69,7 +69,3 @@ Rule = List ℕ → Votes → Option ℕ
 -- the rule whose weights and tie order follow from the settled log
 abbrev pub byLog : (List ℕ → List ℕ) → (List ℕ → ℕ → ℕ → Bool) → Rule
 byLog weights before log v = winner (weights log) (before log) v
-
--- document 01's rule: fixed weights, the lower value first
-abbrev pub byWeights : List ℕ → Rule
-byWeights ws = byLog (λ log. ws) (λ log. ltb)

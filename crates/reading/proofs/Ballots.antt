@@ -1,20 +1,18 @@
 -- One turn of the loops that read the log records and the ballots, and their exits.
---     leftAt, log-..    the log records: their marks one by one, their values joined
+--     leftAt, log-..    the log records
 --     Left, again ..    the ballots and the end
 -- Assumes nothing.
 use Prim.Native.Nat.{ℕ, _+_, _-_, _<_, _≤_, suc, zero}
-use mathlib.Core.Bool.{Bool, false, true}
+use mathlib.Core.Bool.{Bool, _&&_, false, true}
 use mathlib.Core.List.{List, [], _∷_, map, map-append}
 use mathlib.Core.Path.{_∙_, _≡_, ap, refl, sym}
 use native.Mathlib.Nat.{le-of-eq, not-suc-le-zero, sub-zero}
 use native.Mathlib.Numerals.{add-one}
 use native.Mathlib.Omega.{arith}
 use lib.ListN.{drop, getD, length, length-map, replicate, set}
-use lib.Bits.{bitOr}
 use lib.Seq.{drop-drop, getD-set-other, set-getD, sets}
 use Rattle.ballots.specs.Ballots.{ballotOf, noBallot}
 use Rattle.ballots.specs.declared.Ballot.{Ballot}
-use Rattle.entries.specs.Carries.{noCarry, raised}
 use Rattle.protocol.specs.Entry.{isEntry}
 use Rattle.lists.specs.Tests.{allB, both, pick}
 use Rattle.records.specs.Steps.{badBallot, badLog, ballotAt, endAt, logAt}
@@ -24,7 +22,6 @@ use Rattle.records.specs.declared.LogStep.{LogStep}
 use Rattle.spelling.specs.Content.{eightTails}
 use Rattle.numbers.specs.Numbers.{runAt, runOk}
 use Rattle.spelling.specs.Reading.{afterBallot, ballotOk, ballotsOk, endOk, recordAt, recordHere, sizeAt, tailAt, tailsAt}
-use Rattle.entries.proofs.Carries.{no-carry-or, no-carry-raised, no-carry-zero}
 use Rattle.lists.proofs.Tests.{both-assoc, both-false-0, both-false-1, both-swap, getD-replicate}
 use Rattle.spelling.proofs.Ballots.{by-test, tailsAt-length}
 use Rattle.numbers.proofs.Numbers.{sets-alike}
@@ -85,8 +82,8 @@ end-step-ok at s = by-test _ (endOk (drop at s)) (λ e. rw e) (λ e. rw e)
 
 -- ---- the loop over the log records: what was found so far, and what is left to test from position at on
 
--- a test b that was joined to what was found, where it is the first of what was left
-joined : (a b c d : Bool) → (b ≡ true → c ≡ d) → (b ≡ false → c ≡ false) → both (both a b) d ≡ both a c
+-- a test b is added to what was found, where it is the first of what was left
+joined : (a b c d : Bool) → (b ≡ true → c ≡ d) → (b ≡ false → c ≡ false) → both (a && b) d ≡ both a c
 unfolding both
 joined true true c d f g = sym (f refl)
 joined true false c d f g = sym (g refl)
@@ -106,11 +103,11 @@ one-by-one n (suc k) s =
     crossed : (a b c d : Bool) → both (both a b) (both c d) ≡ both (both a c) (both b d)
     crossed a b c d = both-assoc a b (both c d) ∙ ap (both a) (both-swap b c d) ∙ sym (both-assoc a c (both b d))
 
--- the values joined so far, and the records that are left at turn i
-abbrev pub leftAt : ℕ → ℕ → ℕ → ℕ → ℕ → List ℕ → Bool
-leftAt n k bits at i s = both (noCarry bits) (runOk 6 (entryHere n) (k - i) (drop at s))
+-- what was found of the values so far, and the records that are left at turn i
+abbrev pub leftAt : ℕ → ℕ → Bool → ℕ → ℕ → List ℕ → Bool
+leftAt n k good at i s = both good (runOk 6 (entryHere n) (k - i) (drop at s))
 
-module _ (n k bits at i : ℕ) (s : List ℕ) where
+module _ (n k : ℕ) (good : Bool) (at i : ℕ) (s : List ℕ) where
   -- what a log record's step says
   module _ (r : LogStep) (h : i < k) (e : r ≡ logAt s at) where
     -- it answers whether a record stands there
@@ -119,10 +116,10 @@ module _ (n k bits at i : ℕ) (s : List ℕ) where
     stands = rw e (by-test _ (recordHere (drop at s)) (λ t. rw t) (λ t. rw t))
 
     -- none: the loop is left
-    pub log-fails : r .ok ≡ false → false ≡ leftAt n k bits at i s
-    log-fails t = sym (both-false-1 (noCarry bits) _ (test-fails 6 (entryHere n) k i (drop at s) h (both-false-0 (recordHere (drop at s)) _ (stands ∙ t))))
+    pub log-fails : r .ok ≡ false → false ≡ leftAt n k good at i s
+    log-fails t = sym (both-false-1 good _ (test-fails 6 (entryHere n) k i (drop at s) h (both-false-0 (recordHere (drop at s)) _ (stands ∙ t))))
 
-    module _ (t : r .ok ≡ true) (fits : r .value < 4294967296) where
+    module _ (t : r .ok ≡ true) where
       -- else its value and the position after it
       step-value : r .value ≡ recordAt (drop at s)
       unfolding logAt pick
@@ -133,25 +130,25 @@ module _ (n k bits at i : ℕ) (s : List ℕ) where
       step-after = rw (e, stands ∙ t)
 
       -- the record stands there, so the value decides
-      value-tested : noCarry (raised n (r .value)) ≡ entryHere n (drop at s)
+      value-tested : isEntry n (r .value) ≡ entryHere n (drop at s)
       unfolding both
-      value-tested = no-carry-raised n (r .value) fits ∙ ap (isEntry n) step-value ∙ rw (stands ∙ t)
+      value-tested = ap (isEntry n) step-value ∙ rw (stands ∙ t)
 
-      -- and the loop goes on with the value joined
-      pub log-turn : (v : ℕ) → v ≡ raised n (r .value) → leftAt n k (bitOr bits v) (r .next) (i + 1) s ≡ leftAt n k bits at i s
-      log-turn v q =
-          rw (q, no-carry-or bits (raised n (r .value)), value-tested, step-after)
-          (joined (noCarry bits) (entryHere n (drop at s)) _ _ (test-step 6 (entryHere n) k i at s h) (test-fails 6 (entryHere n) k i (drop at s) h))
+      -- and the loop goes on
+      pub log-turn : (g : Bool) → g ≡ isEntry n (r .value) → leftAt n k (good && g) (r .next) (i + 1) s ≡ leftAt n k good at i s
+      log-turn g q =
+          rw (q ∙ value-tested, step-after)
+          (joined good (entryHere n (drop at s)) _ _ (test-step 6 (entryHere n) k i at s h) (test-fails 6 (entryHere n) k i (drop at s) h))
 
   -- no record is left
-  pub log-ends : k ≤ i → noCarry bits ≡ leftAt n k bits at i s
+  pub log-ends : k ≤ i → good ≡ leftAt n k good at i s
   unfolding both
-  log-ends h = by-test _ (noCarry bits) (λ e. rw (e, test-end 6 (entryHere n) k i (drop at s) h)) (λ e. rw e)
+  log-ends h = by-test _ good (λ e. rw (e, test-end 6 (entryHere n) k i (drop at s) h)) (λ e. rw e)
 
 -- all are left
-pub log-begins : (n k : ℕ) (s : List ℕ) → leftAt n k 0 0 0 s ≡ logWithin s n k
+pub log-begins : (n k : ℕ) (s : List ℕ) → leftAt n k true 0 0 s ≡ logWithin s n k
 unfolding both logWithin
-log-begins n k s = rw (no-carry-zero, sub-zero) (one-by-one n k s)
+log-begins n k s = rw sub-zero (one-by-one n k s)
 
 -- ---- the loop over the ballots: what is left to test, and to store, from office o at position at, is what there was to test and to store
 -- at first, and no ballot is stored yet from office o on

@@ -33,22 +33,22 @@ pub struct Reading {
     pub ok: bool,
 }
 
-// Whether k log records stand at the start, whose values are entries for n offices: their marks one by one, their values together.
+// Whether k log records stand at the start, whose values are entries for n offices. A missing mark ends the walk; every value is tested.
 fn log_within(rest: &[u8], n: usize, k: usize) -> bool
     ensures { λ r. ⌜ r ≡ logWithin (now (rest .entry)) n k ⌝ }
 {
     let mut at: usize = 0;
-    let mut bits: u32 = 0;
+    let mut good = true;
     for i in 0..k {
         let step = read_log(rest, at);
         let ok = step.ok;
         if !ok {
             return false;
         }
-        bits = bits | entries::raised(step.value, n);
+        good = good & entries::is_entry(step.value, n);
         at = step.next;
     }
-    entries::no_carry(bits)
+    good
 }
 
 // The k weights at a position, and zeros after them.

@@ -3,7 +3,6 @@ ghost use mathlib.Core.Path.{_≡_};
 ghost use Prim.Native.Nat.{_<_};
 ghost use lib.ListN.{length, drop};
 ghost use Rattle.rehearsal_commands.specs.Command.{noLine, withOne, withTwo, withThree, commandBy, withMore, lineFrom, lineOf};
-
 use decimal::Number;
 use decimal::Numbers;
 use decimal::number_of;

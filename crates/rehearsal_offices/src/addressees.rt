@@ -1,9 +1,9 @@
 // Whom a line is for.
 ghost use mathlib.Core.Path.{_≡_};
 ghost use Rattle.rehearsal_offices.specs.Addressees.{atOffice, commandAddressee, addresseeOf};
+use frame::Record;
 use rehearsal_commands::Command;
 use rehearsal_commands::Parsed;
-use frame::Record;
 
 pub enum Addressee {
     // a founding of so many offices

@@ -5,8 +5,8 @@ ghost use lib.ListN.{length};
 ghost use Rattle.rehearsal_offices.specs.Founding.{freshAt, freshFrom, foundOffices};
 ghost use Rattle.rehearsal_offices.specs.World.{noOffices};
 use crate::Offices;
-use rehearsal_answers::Answer;
 use frame::Record;
+use rehearsal_answers::Answer;
 use rehearsal_turns::says_one;
 
 // The offices after it, and the answer.

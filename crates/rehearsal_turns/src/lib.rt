@@ -5,10 +5,10 @@ ghost use Rattle.frame.specs.Electing.{electWords};
 ghost use lib.ListN.{length};
 ghost use Rattle.rehearsal_turns.specs.Answers.{saysOne, saysTwo, saysThree, question};
 ghost use Rattle.rehearsal_turns.specs.Turns.{stay, issueTurn, sentLengths, sendTurn, sendSlots, takeTurn, takeTurnWords, electTurn, viewTurn, turnAt, turnWords, turnSlots};
-use rehearsal_answers::Answer;
-use rehearsal_commands::Command;
 use frame::Record;
 use lists::within;
+use rehearsal_answers::Answer;
+use rehearsal_commands::Command;
 
 // The message slots, and the bytes of one: those of the longest message.
 const SLOTS: usize = 4;

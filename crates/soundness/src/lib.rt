@@ -6,6 +6,7 @@ ghost use Rattle.lists.specs.Tests.{allB};
 ghost use Rattle.protocol.specs.Limits.{total, headFine};
 ghost use Rattle.soundness.specs.Soundness.{soundFields};
 use ballots::Ballot;
+use summary::Summary;
 
 // The most offices, and the words of a log.
 const OFFICES: usize = 8;
@@ -59,11 +60,12 @@ pub fn sound(
     n: usize,
     own: usize,
     weights: [u16; 8],
+    summary: Summary,
     settled: usize,
     ballots: [Ballot; 8],
     log: &[u32],
 ) -> bool
-    ensures { λ r. ⌜ r ≡ soundFields n own weights settled ballots (now (log .entry)) ⌝ }
+    ensures { λ r. ⌜ r ≡ soundFields n own weights summary settled ballots (now (log .entry)) ⌝ }
 {
     if log.len() < LOG {
         return false;
@@ -75,6 +77,11 @@ pub fn sound(
         return false;
     }
     if !entries::all_entries(&log[..settled], n) {
+        return false;
+    }
+    let start = Summary::start(weights);
+    let follows = start.after(&log[..settled]);
+    if !summary.same(follows) {
         return false;
     }
     ballots::fine(ballots, n, settled)

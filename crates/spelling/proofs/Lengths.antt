@@ -11,7 +11,7 @@ use borrow.Author.Tests.{leb-true, leb-false}
 use Rattle.protocol.specs.Entry.{isEntry, proper}
 use Rattle.protocol.specs.Limits.{isEmpty, isWeight, tailFine}
 use Rattle.protocol.proofs.Limits.{FineTail, fine-tail}
-use Rattle.lists.specs.Tests.{allB, both}
+use Rattle.lists.specs.Tests.{allB, both, pick}
 use Rattle.lists.proofs.Tests.{all-replicate, both-0, both-1}
 use Rattle.spelling.specs.Content.{Content, asMessage, eightTails, validContent}
 use Rattle.numbers.specs.Numbers.{be16, be32, bytes16, bytes32}
@@ -70,11 +70,11 @@ longestContent : Content
 longestContent = record { sender = 0; n = 8; weights = replicate 8 1; log = replicate 992 0; tails = replicate 8 (replicate 32 0) }
 
 zero-entry : isEntry 8 0 ≡ true
-unfolding isEntry proper both
+unfolding isEntry proper both pick
 zero-entry = refl
 
 zeros-fine : tailFine 8 992 (replicate 32 0) ≡ true
-unfolding tailFine allB both isEntry proper
+unfolding tailFine allB both pick isEntry proper
 zeros-fine = refl
 
 -- ballots of 32 values each

@@ -15,9 +15,10 @@ use lib.ListN.{length, getD, take, drop, set, replicate, length-drop, length-rep
 use lib.Seq.{length-take-le, take-all, getD-drop}
 use borrow.Author.Tests.{eqb-true, leb-true, eq-eqb, ne-eqb}
 use Rattle.lists.specs.Tests.{allB}
-use Rattle.protocol.specs.Entry.{isEntry, proper, codeOf}
+use Rattle.protocol.specs.Entry.{isEntry, lineOf, codeOf}
 use Rattle.protocol.specs.Office.{first}
 use Rattle.protocol.specs.Elect.{lose}
+use Rattle.protocol.proofs.Moves.{proper-true}
 use Rattle.lists.proofs.Tests.{both-0, both-1, zeros}
 use Rattle.lists.proofs.Fill.{filled, front-step}
 use Rattle.ballots.specs.Ballots.{tailOf, ballotOf, ballotShape}
@@ -37,9 +38,9 @@ vote-first b h l = go (b .len) (b .cells) h l
     go (suc k) (x ∷ xs) h l = refl
 
 entry-no-vote : (n e : ℕ) → isEntry n e ≡ true → e ≡ noVote → ⊥
-unfolding isEntry proper
+unfolding isEntry
 entry-no-vote n e h q =
-    let code = leb-true (codeOf e) 9999 (both-1 _ _ (both-1 _ _ h)) in
+    let code = proper-true n (lineOf e) (codeOf e) (both-1 _ _ h) .code-ok in
     let most : codeOf e ≡ 65535 = ap codeOf q in
     omega arith
 

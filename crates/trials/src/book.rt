@@ -4,19 +4,25 @@
 ghost use Prim.Native.Nat.{_+_, _≤_, _<_};
 ghost use lib.ListN.{length};
 
-pub type Book = [u64; 15604];
+pub type Book = [u64; 15612];
 
-// Where the ballots begin, each a length field and 32 cells.
-pub const BALLOTS: usize = 11;
+// Where the weights begin, the present weights, the settled length and the ballots, each a length field and 32 cells.
+pub const WEIGHTS: usize = 2;
+
+pub const PRESENT: usize = 10;
+
+pub const SETTLED: usize = 18;
+
+pub const BALLOTS: usize = 19;
 
 pub const BALLOT: usize = 33;
 
 // Where the length of the log, of the output and of the message stands. What is in them stands behind it.
-pub const LOG: usize = 275;
+pub const LOG: usize = 283;
 
-pub const OUTPUT: usize = 1376;
+pub const OUTPUT: usize = 1384;
 
-pub const MESSAGE: usize = 8477;
+pub const MESSAGE: usize = 8485;
 
 // Most words of the log, and most bytes of the output and of the message.
 pub const WORDS: usize = 1100;
@@ -24,13 +30,13 @@ pub const WORDS: usize = 1100;
 pub const BYTES: usize = 7100;
 
 // Where the numbers of the line begin, up to 24. All before is the state.
-pub const SAID: usize = 15578;
+pub const SAID: usize = 15586;
 
 // How many bytes of a line are held.
-pub const HELD: usize = 15602;
+pub const HELD: usize = 15610;
 
 // A place that stays zero.
-pub const ZERO: usize = 15603;
+pub const ZERO: usize = 15611;
 
 // The most that a number may be at this place, other than a length of a buffer.
 pub fn limit(place: usize) -> u64 {
@@ -46,10 +52,10 @@ pub fn limit(place: usize) -> u64 {
         }
         return 4294967295;
     }
-    if place == 10 {
+    if place == SETTLED {
         return u64::MAX;
     }
-    if place < 2 {
+    if place < WEIGHTS {
         return u64::MAX;
     }
     65535
@@ -65,8 +71,8 @@ fn turn(i: usize, each: usize) -> usize
 
 // Writes the `each` numbers from place `from` on, over and over, `total` in all, from place `to` on.
 pub fn write(book: &mut Book, to: usize, total: usize, from: usize, each: usize)
-    requires { ⌜ to + total ≤ 15604 ⌝ }
-    requires { ⌜ from + each ≤ 15604 ⌝ }
+    requires { ⌜ to + total ≤ 15612 ⌝ }
+    requires { ⌜ from + each ≤ 15612 ⌝ }
     requires { ⌜ 0 < each ⌝ }
 {
     for i in 0..total {
@@ -84,7 +90,7 @@ fn of_byte(x: u8) -> u64 {
 
 // The numbers from this place on as words: the low 32 bits of each.
 pub fn to_words(book: &Book, at: usize, to: &mut [u32])
-    requires { ⌜ at + length (now to) ≤ 15604 ⌝ }
+    requires { ⌜ at + length (now to) ≤ 15612 ⌝ }
 {
     for i in 0..to.len() {
         to[i] = (book[at + i] % 4294967296) as u32;
@@ -93,7 +99,7 @@ pub fn to_words(book: &Book, at: usize, to: &mut [u32])
 
 // Writes words as numbers from this place on.
 pub fn from_words(from: &[u32], book: &mut Book, at: usize)
-    requires { ⌜ at + length (now from) ≤ 15604 ⌝ }
+    requires { ⌜ at + length (now from) ≤ 15612 ⌝ }
 {
     for i in 0..from.len() {
         book[at + i] = wide(from[i]);
@@ -102,7 +108,7 @@ pub fn from_words(from: &[u32], book: &mut Book, at: usize)
 
 // The numbers from this place on as bytes: the low 8 bits of each.
 pub fn to_bytes(book: &Book, at: usize, to: &mut [u8])
-    requires { ⌜ at + length (now to) ≤ 15604 ⌝ }
+    requires { ⌜ at + length (now to) ≤ 15612 ⌝ }
 {
     for i in 0..to.len() {
         to[i] = (book[at + i] % 256) as u8;
@@ -111,7 +117,7 @@ pub fn to_bytes(book: &Book, at: usize, to: &mut [u8])
 
 // Writes bytes as numbers from this place on.
 pub fn from_bytes(from: &[u8; 7100], book: &mut Book, at: usize)
-    requires { ⌜ at + 7100 ≤ 15604 ⌝ }
+    requires { ⌜ at + 7100 ≤ 15612 ⌝ }
 {
     for i in 0..7100 {
         book[at + i] = of_byte(from[i]);

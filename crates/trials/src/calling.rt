@@ -40,7 +40,7 @@ fn part_digest(part: &[u32]) -> u64 {
     if part.len() > book::WORDS {
         return 0;
     }
-    let mut numbers = [0u64; 15604];
+    let mut numbers = [0u64; 15612];
     book::from_words(part, &mut numbers, 0);
     digest::with_all(0, &numbers, 0, part.len())
 }

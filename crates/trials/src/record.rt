@@ -4,10 +4,11 @@ use crate::book;
 use crate::book::Book;
 use ballots::Ballot;
 use frame::Record;
+use summary::Summary;
 
 // Eight numbers from this place on as weights: the low 16 bits of each.
 pub fn weights(book: &Book, at: usize) -> [u16; 8]
-    requires { ⌜ at + 8 ≤ 15604 ⌝ }
+    requires { ⌜ at + 8 ≤ 15612 ⌝ }
 {
     let mut weights = [0u16; 8];
     for i in 0..8 {
@@ -22,7 +23,7 @@ fn wide(x: u16) -> u64 {
 
 // Writes weights as numbers from this place on.
 fn keep_weights(weights: [u16; 8], book: &mut Book, at: usize)
-    requires { ⌜ at + 8 ≤ 15604 ⌝ }
+    requires { ⌜ at + 8 ≤ 15612 ⌝ }
 {
     for i in 0..8 {
         book[at + i] = wide(weights[i]);
@@ -31,7 +32,7 @@ fn keep_weights(weights: [u16; 8], book: &mut Book, at: usize)
 
 // The ballot that stands at this place.
 fn ballot(book: &Book, at: usize) -> Ballot
-    requires { ⌜ at ≤ 275 ⌝ }
+    requires { ⌜ at ≤ 283 ⌝ }
 {
     let mut cells = [0u32; 32];
     book::to_words(book, at + 1, &mut cells);
@@ -43,7 +44,7 @@ fn ballot(book: &Book, at: usize) -> Ballot
 
 // Writes a ballot to this place.
 fn keep_ballot(ballot: Ballot, book: &mut Book, at: usize)
-    requires { ⌜ at ≤ 275 ⌝ }
+    requires { ⌜ at ≤ 283 ⌝ }
 {
     let cells = ballot.cells;
     book[at] = ballot.len as u64;
@@ -71,13 +72,15 @@ fn keep_ballots(ballots: [Ballot; 8], book: &mut Book) {
 
 // The record of the book.
 pub fn of(book: &Book) -> Record {
-    let weights = weights(book, 2);
+    let founding = weights(book, book::WEIGHTS);
+    let present = weights(book, book::PRESENT);
     let ballots = ballots(book);
     Record {
         n: book[0] as usize,
         own: book[1] as usize,
-        weights,
-        settled: book[10] as usize,
+        weights: founding,
+        summary: Summary { present },
+        settled: book[book::SETTLED] as usize,
         ballots,
     }
 }
@@ -85,10 +88,13 @@ pub fn of(book: &Book) -> Record {
 // Writes the record into the book.
 pub fn keep(record: Record, book: &mut Book) {
     let weights = record.weights;
+    let summary = record.summary;
+    let present = summary.present;
     let ballots = record.ballots;
     book[0] = record.n as u64;
     book[1] = record.own as u64;
-    keep_weights(weights, book, 2);
-    book[10] = record.settled as u64;
+    keep_weights(weights, book, book::WEIGHTS);
+    keep_weights(present, book, book::PRESENT);
+    book[book::SETTLED] = record.settled as u64;
     keep_ballots(ballots, book);
 }

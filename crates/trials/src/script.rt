@@ -44,6 +44,7 @@ pub fn counted(letter: u8, count: usize) -> bool {
         b'b' | b'l' | b'o' | b'x' | b'I' => count == 2,
         b'F' => count == 10,
         b'r' => count == 11,
+        b'p' => count == 8,
         b'w' | b'm' => count > 1,
         b'a' => count > 2,
         _ => false,

@@ -12,7 +12,7 @@ use lists::within;
 
 // Whether each number of the line from the one at `from` on, and before `end`, is within the limit of its place: the first at `place`, the others behind it.
 pub fn fit(book: &Book, place: usize, from: usize, end: usize) -> bool
-    requires { ⌜ place ≤ 15578 ⌝ }
+    requires { ⌜ place ≤ 15586 ⌝ }
     requires { ⌜ end ≤ 24 ⌝ }
 {
     for i in from..end {
@@ -36,7 +36,7 @@ fn product(times: usize, each: usize) -> usize
 
 // Writes the numbers of the line from the one at `from` on, and before `end`, `times` times over, from place `first` on, where there is room for them, 7100 at most.
 fn spread(book: &mut Book, first: usize, room: usize, from: usize, end: usize, times: usize) -> bool
-    requires { ⌜ first + room ≤ 15578 ⌝ }
+    requires { ⌜ first + room ≤ 15586 ⌝ }
     requires { ⌜ from < end ⌝ }
     requires { ⌜ end ≤ 24 ⌝ }
 {
@@ -51,14 +51,20 @@ fn spread(book: &mut Book, first: usize, room: usize, from: usize, end: usize, t
     true
 }
 
-// `r`, `b` and `a`; `b` alone has two numbers.
-fn set_record(book: &mut Book, letter: u8, count: usize) -> bool
+// `r`: n, the own office and the weights, the present weights like these, and the settled length.
+fn set_fields(book: &mut Book) -> bool {
+    if !spread(book, 0, book::PRESENT, 0, 10, 1) {
+        return false;
+    }
+    book[book::SETTLED] = book[SAID + 10];
+    spread(book, book::PRESENT, 8, 2, 10, 1)
+}
+
+// `b` and `a`; `b` alone has two numbers.
+fn set_ballot(book: &mut Book, count: usize) -> bool
     requires { ⌜ 1 < count ⌝ }
     requires { ⌜ count ≤ 24 ⌝ }
 {
-    if letter == b'r' {
-        return spread(book, 0, book::BALLOTS, 0, 11, 1);
-    }
     if book[SAID] > 7 {
         return false;
     }
@@ -74,7 +80,7 @@ fn set_record(book: &mut Book, letter: u8, count: usize) -> bool
 
 // `l`, `o` and `m`: the numbers are written from place `at` of the buffer on, and end it.
 fn fill(book: &mut Book, buffer: usize, most: usize, at: usize, count: usize) -> bool
-    requires { ⌜ buffer + 1 + most ≤ 15578 ⌝ }
+    requires { ⌜ buffer + 1 + most ≤ 15586 ⌝ }
     requires { ⌜ at ≤ most ⌝ }
     requires { ⌜ 1 < count ⌝ }
     requires { ⌜ count ≤ 24 ⌝ }
@@ -89,7 +95,7 @@ fn fill(book: &mut Book, buffer: usize, most: usize, at: usize, count: usize) ->
 
 // `w` and `x`: the numbers are written over others of the buffer.
 fn replace(book: &mut Book, buffer: usize, most: usize, count: usize) -> bool
-    requires { ⌜ buffer + 1 + most ≤ 15578 ⌝ }
+    requires { ⌜ buffer + 1 + most ≤ 15586 ⌝ }
     requires { ⌜ 1 < count ⌝ }
     requires { ⌜ count ≤ 24 ⌝ }
 {
@@ -100,7 +106,7 @@ fn replace(book: &mut Book, buffer: usize, most: usize, count: usize) -> bool
 
 // `c` and `g`: the message is the first bytes of the message, or of the output.
 fn cut(book: &mut Book, buffer: usize) -> bool
-    requires { ⌜ buffer + 7101 ≤ 15578 ⌝ }
+    requires { ⌜ buffer + 7101 ≤ 15586 ⌝ }
 {
     if book[SAID] > book[buffer] {
         return false;
@@ -135,6 +141,8 @@ pub fn set(book: &mut Book, letter: u8, count: usize) -> bool
         b'm' => fill(book, MESSAGE, book::BYTES, message, count),
         b'w' => replace(book, LOG, book::WORDS, count),
         b'x' => replace(book, MESSAGE, book::BYTES, count),
-        _ => set_record(book, letter, count),
+        b'r' => set_fields(book),
+        b'p' => spread(book, book::PRESENT, 8, 0, count, 1),
+        _ => set_ballot(book, count),
     }
 }

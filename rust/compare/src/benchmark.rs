@@ -8,17 +8,43 @@ use joukerpan_sys as engine;
 use joukerpan_sys::Weights;
 use second::calls as plain;
 use second::message::LONGEST;
-use second::record::{entry, sound, Ballot, Record, LOG, OFFICES, TAIL};
+use second::record::{entry, sound, Ballot, Record, LINES, LOG, OFFICES, TAIL};
+use second::samples::Sample;
 
 use crate::by_value;
 use crate::engine::to_engine;
-use crate::samples::Sample;
 
 /// Rounds of batches of each case; their order changes from round to round.
 const ROUNDS: usize = 61;
 /// Nanoseconds that a batch takes, about.
 const BATCH: f64 = 300_000.0;
 const WEIGHTS: [u16; OFFICES] = [40, 35, 25, 20, 15, 10, 5, 1];
+
+/// What the entries of a state are, in its log and in its ballots.
+#[derive(Clone, Copy, PartialEq)]
+pub enum Entries {
+    /// Edits, none of them of line 63.
+    Edits,
+    /// Moves of weight from office to office, each of which takes effect.
+    Moves,
+}
+
+impl Entries {
+    /// The entry at a place of the path.
+    fn word(self, at: usize) -> u32 {
+        match self {
+            Entries::Edits => entry(at % OFFICES, at as u32 % 63, at as u32 % 10_000),
+            Entries::Moves => entry(at % OFFICES, LINES + (at + 1) as u32 % OFFICES as u32, 1),
+        }
+    }
+
+    fn name(self) -> &'static str {
+        match self {
+            Entries::Edits => "edits",
+            Entries::Moves => "moves",
+        }
+    }
+}
 
 /// What the ballots of a state hold.
 #[derive(Clone, Copy, PartialEq)]
@@ -50,24 +76,50 @@ impl Ballots {
     }
 }
 
-/// An office of eight with a settled log of this length. Line 63 is in no entry.
-pub fn state(settled: usize, ballots: Ballots, own: usize) -> Sample {
-    let word = |at: usize| entry(at % OFFICES, at as u32 % 63, at as u32 % 10_000);
+/// How long the settled log of a state is, and what is in it and in the ballots.
+#[derive(Clone, Copy)]
+pub struct State {
+    pub settled: usize,
+    pub entries: Entries,
+    pub ballots: Ballots,
+}
+
+impl State {
+    /// A fresh office.
+    pub const FOUNDED: State = State { settled: 0, entries: Entries::Edits, ballots: Ballots::EMPTY };
+
+    /// Whether there is no entry in it.
+    fn is_empty(self) -> bool {
+        self.settled + self.ballots.entries() == 0
+    }
+
+    /// What its entries are, in a word.
+    fn entries(self) -> &'static str {
+        if self.is_empty() {
+            "none"
+        } else {
+            self.entries.name()
+        }
+    }
+}
+
+/// Such an office, one of eight.
+pub fn state(State { settled, entries, ballots }: State, own: usize) -> Sample {
     let mut log = vec![0; LOG];
     for (at, place) in log[..settled].iter_mut().enumerate() {
-        *place = word(at);
+        *place = entries.word(at);
     }
     let mut record = Record { n: OFFICES, own, weights: WEIGHTS, settled, ..Record::ZERO };
     for (office, ballot) in record.ballots.iter_mut().enumerate() {
         *ballot = Ballot { len: ballots.entries(), ..Ballot::NONE };
         for (at, cell) in ballot.cells.iter_mut().enumerate().take(ballots.entries()) {
-            *cell = word(settled + at);
+            *cell = entries.word(settled + at);
         }
         if ballots == Ballots::Apart {
             ballot.cells[0] = entry(office, 5, 120);
         }
     }
-    Sample { record, log }
+    Sample { record, log }.derived()
 }
 
 /// One call of a case.
@@ -77,8 +129,7 @@ type Call = Box<dyn FnMut()>;
 /// record handed over by value.
 struct Case {
     call: String,
-    settled: usize,
-    ballots: String,
+    state: State,
     engine: Call,
     second: Call,
     by_value: Call,
@@ -107,6 +158,19 @@ fn median(mut values: Vec<f64>) -> f64 {
 }
 
 impl Case {
+    /// Whether it has a row: moves are told apart from edits in the calls that look at an entry's line.
+    fn is_shown(&self) -> bool {
+        let of_edits = ["settled", "settled frame, newest entry", "send"];
+        self.state.entries == Entries::Edits || !of_edits.contains(&self.call.as_str())
+    }
+
+    /// Whether the other is the same call on a shorter log of such entries.
+    fn is_longer(&self, short: &Case) -> bool {
+        let (a, b) = (self.state, short.state);
+        let alike = a.entries == b.entries || b.is_empty();
+        self.call == short.call && a.ballots == b.ballots && alike && a.settled > b.settled
+    }
+
     fn time(&mut self) -> Time {
         batch(&mut self.engine, 100);
         batch(&mut self.by_value, 100);
@@ -144,14 +208,13 @@ macro_rules! call {
 }
 
 /// Soundness, which every other call tests first.
-fn sound_case(settled: usize, ballots: Ballots, cases: &mut Vec<Case>) {
-    let Sample { record, log } = state(settled, ballots, 0);
+fn sound_case(of: State, cases: &mut Vec<Case>) {
+    let Sample { record, log } = state(of, 0);
     let proved = to_engine(&record);
     let (a, b, c) = (log.clone(), log.clone(), log);
     cases.push(Case {
         call: "sound".into(),
-        settled,
-        ballots: ballots.name(),
+        state: of,
         engine: call!(unsafe { engine::joukerpan_sound(*black_box(&proved), a.as_ptr(), LOG) }),
         second: call!(sound(black_box(&record), &b)),
         by_value: call!(unsafe { by_value::sound(*black_box(&record), c.as_ptr(), LOG) }),
@@ -159,12 +222,12 @@ fn sound_case(settled: usize, ballots: Ballots, cases: &mut Vec<Case>) {
 }
 
 /// The other calls that only read.
-fn reading_cases(settled: usize, ballots: Ballots, cases: &mut Vec<Case>) {
-    let Sample { record, log } = state(settled, ballots, 0);
+fn reading_cases(of: State, cases: &mut Vec<Case>) {
+    let Sample { record, log } = state(of, 0);
     let proved = to_engine(&record);
     let logs = || (log.clone(), log.clone(), log.clone());
     let mut case = |call: &str, engine: Call, second: Call, by_value: Call| {
-        cases.push(Case { call: call.into(), settled, ballots: ballots.name(), engine, second, by_value });
+        cases.push(Case { call: call.into(), state: of, engine, second, by_value });
     };
     let (a, b, c) = logs();
     case(
@@ -173,7 +236,7 @@ fn reading_cases(settled: usize, ballots: Ballots, cases: &mut Vec<Case>) {
         call!(plain::settled(black_box(&record), &b)),
         call!(unsafe { by_value::settled(*black_box(&record), c.as_ptr(), LOG) }),
     );
-    let newest = (settled as u32).saturating_sub(1) % 63;
+    let newest = (of.settled as u32).saturating_sub(1) % 63;
     for (name, line) in [("settled frame, newest entry", newest), ("settled frame, no entry", 63)] {
         let (a, b, c) = logs();
         case(
@@ -193,12 +256,12 @@ fn reading_cases(settled: usize, ballots: Ballots, cases: &mut Vec<Case>) {
 }
 
 /// Issue, which changes the record alone, and send.
-fn writing_cases(settled: usize, ballots: Ballots, cases: &mut Vec<Case>) {
-    let Sample { record, log } = state(settled, ballots, 0);
+fn writing_cases(of: State, cases: &mut Vec<Case>) {
+    let Sample { record, log } = state(of, 0);
     let proved = to_engine(&record);
     let logs = || (log.clone(), log.clone(), log.clone());
     let mut case = |call: &str, engine: Call, second: Call, by_value: Call| {
-        cases.push(Case { call: call.into(), settled, ballots: ballots.name(), engine, second, by_value });
+        cases.push(Case { call: call.into(), state: of, engine, second, by_value });
     };
     let ((a, b, c), (line, code)) = (logs(), (5, 120));
     case(
@@ -218,30 +281,29 @@ fn writing_cases(settled: usize, ballots: Ballots, cases: &mut Vec<Case>) {
 }
 
 /// An election. Its words past the settled ones are the same after every call.
-fn elect_case(settled: usize, ballots: Ballots, cases: &mut Vec<Case>) {
-    let Sample { record, log } = state(settled, ballots, 0);
+fn elect_case(of: State, cases: &mut Vec<Case>) {
+    let Sample { record, log } = state(of, 0);
     let proved = to_engine(&record);
     let (mut a, mut b, mut c) = (log.clone(), log.clone(), log);
     cases.push(Case {
         call: "elect".into(),
-        settled,
-        ballots: ballots.name(),
+        state: of,
         engine: call!(unsafe { engine::joukerpan_elect(*black_box(&proved), a.as_mut_ptr(), LOG) }),
         second: call!(second::elect::elect(*black_box(&record), &mut b)),
         by_value: call!(unsafe { by_value::elect(*black_box(&record), c.as_mut_ptr(), LOG) }),
     });
 }
 
-/// A take. Its words past the settled ones are the same after every call.
-fn take_case(name: &str, receiver: Sample, sender: Sample, ballots: Ballots, cases: &mut Vec<Case>) {
-    let Sample { record, log } = receiver;
+/// A take, from a sender of this state. Its words past the settled ones are the same after every call.
+fn take_case(name: &str, receiver: State, sender: State, cases: &mut Vec<Case>) {
+    let Sample { record, log } = state(receiver, 0);
     let proved = to_engine(&record);
     let (mut a, mut b, mut c) = (log.clone(), log.clone(), log);
-    let (d, e, f) = (sender.message(), sender.message(), sender.message());
+    let message = state(sender, 1).message();
+    let (d, e, f) = (message.clone(), message.clone(), message);
     cases.push(Case {
         call: format!("take, {name}"),
-        settled: sender.record.settled,
-        ballots: ballots.name(),
+        state: sender,
         engine: call!(unsafe { engine::joukerpan_take(*black_box(&proved), a.as_mut_ptr(), LOG, d.as_ptr(), d.len()) }),
         second: call!(second::take::take(*black_box(&record), &mut b, black_box(&e))),
         by_value: call!(unsafe { by_value::take(*black_box(&record), c.as_mut_ptr(), LOG, f.as_ptr(), f.len()) }),
@@ -254,34 +316,43 @@ fn found_case(cases: &mut Vec<Case>) {
     let (n, own, of) = (OFFICES, 0, WEIGHTS);
     cases.push(Case {
         call: "found".into(),
-        settled: 0,
-        ballots: Ballots::EMPTY.name(),
+        state: State::FOUNDED,
         engine: call!(n, own, of => unsafe { engine::joukerpan_found(n, own, Weights { of }, a.as_ptr(), LOG) }),
         second: call!(n, own, of => plain::found(n, own, of, &b)),
         by_value: call!(n, own, of => unsafe { by_value::found(n, own, Weights { of }, c.as_ptr(), LOG) }),
     });
 }
 
+/// Every call on this state, and takes from a sender of it.
+fn all_cases(of: State, cases: &mut Vec<Case>) {
+    sound_case(of, cases);
+    reading_cases(of, cases);
+    writing_cases(of, cases);
+    elect_case(of, cases);
+    take_case("nothing new", of, of, cases);
+    if of.settled > 0 || of.ballots == Ballots::FULL {
+        take_case("all new", State::FOUNDED, of, cases);
+    }
+}
+
 fn cases() -> Vec<Case> {
     let mut cases = vec![];
     found_case(&mut cases);
-    for ballots in [Ballots::EMPTY, Ballots::FULL] {
-        for settled in [0, 256, LOG - ballots.entries()] {
-            sound_case(settled, ballots, &mut cases);
-            reading_cases(settled, ballots, &mut cases);
-            writing_cases(settled, ballots, &mut cases);
-            elect_case(settled, ballots, &mut cases);
-            let (receiver, sender) = (state(settled, ballots, 0), state(settled, ballots, 1));
-            take_case("nothing new", receiver, sender.clone(), ballots, &mut cases);
-            if settled > 0 || ballots == Ballots::FULL {
-                take_case("all new", state(0, Ballots::EMPTY, 0), sender, ballots, &mut cases);
+    for entries in [Entries::Edits, Entries::Moves] {
+        for ballots in [Ballots::EMPTY, Ballots::FULL] {
+            for settled in [0, 256, LOG - ballots.entries()] {
+                let of = State { settled, entries, ballots };
+                if !(entries == Entries::Moves && of.is_empty()) {
+                    all_cases(of, &mut cases);
+                }
             }
         }
     }
-    for entries in [1, 2, 4, 8, 16, 24, 31] {
-        sound_case(0, Ballots::Alike(entries), &mut cases);
+    for each in [1, 2, 4, 8, 16, 24, 31] {
+        sound_case(State { ballots: Ballots::Alike(each), ..State::FOUNDED }, &mut cases);
     }
-    elect_case(LOG - TAIL, Ballots::Apart, &mut cases);
+    elect_case(State { settled: LOG - TAIL, ballots: Ballots::Apart, ..State::FOUNDED }, &mut cases);
+    cases.retain(|case| case.is_shown());
     cases.sort_by(|a, b| a.call.cmp(&b.call));
     cases
 }
@@ -290,33 +361,31 @@ fn cases() -> Vec<Case> {
 pub fn print() -> Result<()> {
     let mut output = stdout().lock();
     let mut rows: Vec<(Case, Time)> = vec![];
-    writeln!(output, "| Call | Settled | Ballots | Engine, ns | Second, ns | Ratio | Ratio by value |")?;
-    writeln!(output, "|---|---:|---|---:|---:|---:|---:|")?;
+    writeln!(output, "| Call | Settled | Entries | Ballots | Engine, ns | Second, ns | Ratio | Ratio by value |")?;
+    writeln!(output, "|---|---:|---|---|---:|---:|---:|---:|")?;
     for mut case in cases() {
         let time = case.time();
+        let State { settled, ballots, .. } = case.state;
+        let (call, entries, ballots) = (&case.call, case.state.entries(), ballots.name());
+        let Time { engine, second, ratio, ratio_by_value } = time;
         writeln!(
             output,
-            "| {} | {} | {} | {:.0} | {:.0} | {:.2} | {:.2} |",
-            case.call, case.settled, case.ballots, time.engine, time.second, time.ratio, time.ratio_by_value
+            "| {call} | {settled} | {entries} | {ballots} | {engine:.0} | {second:.0} | {ratio:.2} | {ratio_by_value:.2} |"
         )?;
         rows.push((case, time));
     }
-    writeln!(output, "\n| Call | Ballots | Engine, ns a settled entry | Second, ns a settled entry | Ratio |")?;
-    writeln!(output, "|---|---|---:|---:|---:|")?;
-    for (long, most) in rows.iter().filter(|(case, _)| case.settled >= LOG - TAIL) {
-        let short = rows
-            .iter()
-            .find(|(case, _)| (case.call == long.call && case.ballots == long.ballots) && case.settled < long.settled);
-        if let Some((short, least)) = short {
-            let entries = (long.settled - short.settled) as f64;
+    writeln!(
+        output,
+        "\n| Call | Entries | Ballots | Engine, ns a settled entry | Second, ns a settled entry | Ratio |"
+    )?;
+    writeln!(output, "|---|---|---|---:|---:|---:|")?;
+    for (long, most) in rows.iter().filter(|(case, _)| case.state.settled >= LOG - TAIL) {
+        if let Some((short, least)) = rows.iter().find(|(short, _)| long.is_longer(short)) {
+            let entries = (long.state.settled - short.state.settled) as f64;
             let (engine, second) = ((most.engine - least.engine) / entries, (most.second - least.second) / entries);
-            writeln!(
-                output,
-                "| {} | {} | {engine:.2} | {second:.2} | {:.2} |",
-                long.call,
-                long.ballots,
-                engine / second
-            )?;
+            let (call, entries, ballots) = (&long.call, long.state.entries(), long.state.ballots.name());
+            let ratio = engine / second;
+            writeln!(output, "| {call} | {entries} | {ballots} | {engine:.2} | {second:.2} | {ratio:.2} |")?;
         }
     }
     Ok(())

@@ -6,11 +6,12 @@ use std::io::{self, stdout, Write};
 use second::calls as plain;
 use second::message::LONGEST;
 use second::random::Random;
-use second::record::{sound, Record, LOG, OFFICES, UNSOUND};
+use second::record::{sound, Record, CODES, DONE, LINES, LOG, OFFICES, UNSOUND};
+use second::samples::Sample;
 
 use crate::engine;
 use crate::forge::{any_bytes, damaged, forged};
-use crate::samples::{any_sample, break_clause, huge, Family, Sample, CLAUSES};
+use crate::samples::{any_sample, break_clause, huge, Family, CLAUSES};
 
 /// The calls, in the order of the tally.
 const CALLS: [&str; 9] =
@@ -26,9 +27,12 @@ const CALLS_A_ROUND: usize = 8;
 struct Tally {
     numbers: [[u64; NUMBERS]; CALLS.len()],
     clauses: [u64; CLAUSES.len()],
+    issued_moves: u64,
     elected_one: u64,
     elected_more: u64,
+    elected_weight: u64,
     grown: u64,
+    taken_weight: u64,
     adopted: u64,
     long_logs: u64,
 }
@@ -86,14 +90,25 @@ impl Trial<'_> {
         self.tally.numbers[call][number as usize] += 1;
     }
 
-    /// A line or a code, around its limit or anywhere.
-    fn number(&mut self, limit: u32) -> u32 {
+    /// A line: a move's, around a limit, or anywhere.
+    fn line(&mut self) -> u32 {
+        let n = self.record.n.min(OFFICES);
         match self.random.below(8) {
-            0 => limit,
-            1 => limit - 1,
-            2 => self.random.bits() as u32,
+            0 | 1 => LINES + self.random.below(n) as u32,
+            2 => self.random.pick(&[63, 64, 63 + n as u32, 64 + n as u32, 71, 72, 255, 256, 320]),
+            3 if self.random.percent(50) => self.random.bits() as u32,
             3 => u32::MAX,
             _ => self.random.pick(&[0, 1, 5, 5, 62, 63]),
+        }
+    }
+
+    /// A code: around a limit, or anywhere.
+    fn code(&mut self) -> u32 {
+        match self.random.below(8) {
+            0 => self.random.pick(&[0, 1, CODES - 1, CODES, 65535, 65536, 65537]),
+            1 if self.random.percent(50) => self.random.bits() as u32,
+            1 => u32::MAX,
+            _ => self.random.pick(&[0, 1, 5, 30, 120, 9999]),
         }
     }
 
@@ -121,9 +136,10 @@ impl Trial<'_> {
     }
 
     fn issue(&mut self) -> Result<(), String> {
-        let (line, code) = (self.number(64), self.number(10_000));
+        let (line, code) = (self.line(), self.code());
         let answer = plain::issue(self.record, self.log.part(), line, code);
         self.count(2, answer.0);
+        self.tally.issued_moves += u64::from(answer.0 == DONE && line >= LINES);
         same(&format!("issue of {line} {code}"), engine::issue(&self.record, self.log.part(), line, code), answer)?;
         self.record = answer.1;
         Ok(())
@@ -137,7 +153,7 @@ impl Trial<'_> {
     }
 
     fn frames(&mut self) -> Result<(), String> {
-        let line = self.number(64);
+        let line = self.line();
         let answer = plain::settled_frame(&self.record, self.log.part(), line);
         self.count(4, answer.0);
         same(&format!("settled frame of {line}"), engine::settled_frame(&self.record, self.log.part(), line), answer)?;
@@ -154,6 +170,7 @@ impl Trial<'_> {
         self.count(6, answer.0);
         self.tally.elected_one += u64::from(answer.1 == 1);
         self.tally.elected_more += u64::from(answer.1 > 1);
+        self.tally.elected_weight += u64::from(answer.2.present != self.record.present);
         same("elect", engine, answer)?;
         same_lent("elect's log", &log, &self.log)?;
         self.record = answer.2;
@@ -184,6 +201,7 @@ impl Trial<'_> {
         let answer = second::take::take(self.record, self.log.part_mut(), &message);
         self.count(8, answer.0);
         self.tally.grown += u64::from(answer.1.settled > self.record.settled);
+        self.tally.taken_weight += u64::from(answer.1.present != self.record.present);
         self.tally.adopted += u64::from(answer.1.ballots != self.record.ballots);
         same(&format!("take of {message:02X?}"), engine, answer)?;
         same_lent("take's log", &log, &self.log)?;
@@ -208,9 +226,7 @@ impl Trial<'_> {
             7 => return any_bytes(random),
             _ => {}
         }
-        let mut message = vec![0; LONGEST];
-        let (_, length) = second::message::send(&from.record, &from.log, &mut message);
-        message.truncate(length);
+        let message = from.message();
         if kind < 11 {
             return damaged(random, message);
         }
@@ -295,8 +311,10 @@ impl Tally {
                 numbers.iter().map(|&count| if count == 0 { String::new() } else { count.to_string() }).collect();
             writeln!(output, "| {call} | {} |", cells.join(" | "))?;
         }
-        writeln!(output, "\nelections of one entry {}, of more {}", self.elected_one, self.elected_more)?;
+        writeln!(output, "\nmoves of weight issued {}", self.issued_moves)?;
+        writeln!(output, "elections of one entry {}, of more {}", self.elected_one, self.elected_more)?;
         writeln!(output, "takes that grew the log {}, that changed a ballot {}", self.grown, self.adopted)?;
+        writeln!(output, "elections that moved weight {}, takes {}", self.elected_weight, self.taken_weight)?;
         writeln!(output, "logs above {LOG} words {}", self.long_logs)?;
         writeln!(output, "records refused with {UNSOUND} for one broken clause:")?;
         for (clause, count) in CLAUSES.iter().zip(&self.clauses) {

@@ -1,16 +1,22 @@
 //! The engine's calls with the second implementation's types, which have the same layout.
 
-use std::mem::{size_of, transmute};
+use std::mem::{offset_of, size_of, transmute};
 
 use joukerpan_sys as engine;
 use joukerpan_sys::Weights;
 use second::record::{Record, OFFICES};
 
-const _: () = assert!(size_of::<Record>() == size_of::<engine::Record>());
+const _: () = {
+    assert!(size_of::<Record>() == size_of::<engine::Record>());
+    assert!(offset_of!(Record, weights) == offset_of!(engine::Record, weights));
+    assert!(offset_of!(Record, present) == offset_of!(engine::Record, summary.present));
+    assert!(offset_of!(Record, settled) == offset_of!(engine::Record, settled));
+    assert!(offset_of!(Record, ballots) == offset_of!(engine::Record, ballots));
+};
 
 /// The record as the engine declares it.
 pub fn to_engine(record: &Record) -> engine::Record {
-    // SAFETY: both are `repr(C)` with the same fields, and hold nothing but numbers.
+    // SAFETY: both are `repr(C)` with the same fields at the same places, and hold nothing but numbers.
     unsafe { transmute::<Record, engine::Record>(*record) }
 }
 

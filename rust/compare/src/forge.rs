@@ -1,9 +1,10 @@
 //! Messages: spelled from parts, so that each part can be made wrong by itself, and damaged bytes.
 
 use second::random::Random;
-use second::record::{LOG, TAIL};
+use second::record::{LOG, OFFICES, TAIL};
+use second::samples::Sample;
 
-use crate::samples::{any_entry, no_entry, Sample};
+use crate::samples::{any_entry, no_entry};
 
 /// A ballot of a message: the office and the length as they are written, and the values.
 #[derive(Clone)]
@@ -18,6 +19,8 @@ struct Forged {
     sender: u8,
     n: u8,
     weights: Vec<u16>,
+    /// The present weights, which no message has.
+    present: Vec<u16>,
     settled: u16,
     log: Vec<u32>,
     ballots: Vec<Spelled>,
@@ -38,6 +41,7 @@ impl Forged {
             sender: record.own as u8,
             n: record.n as u8,
             weights: record.weights[..record.n].to_vec(),
+            present: record.present[..record.n].to_vec(),
             settled: record.settled as u16,
             log: sample.log[..record.settled].to_vec(),
             ballots: spelled.collect(),
@@ -65,8 +69,8 @@ impl Forged {
 
     /// Changes one part; most changes make a message that is refused.
     fn change(&mut self, random: &mut Random) {
-        let n = usize::from(self.n).clamp(1, 8);
-        match random.below(14) {
+        let n = usize::from(self.n).clamp(1, OFFICES);
+        match random.below(15) {
             0 => self.sender = random.pick(&[self.n, self.n.wrapping_add(1), 8, 255]),
             1 => self.sender = random.below(n) as u8,
             2 => self.n = random.pick(&[0, self.n.wrapping_sub(1), self.n.wrapping_add(1), 8, 9, 255]),
@@ -85,18 +89,32 @@ impl Forged {
                 values: vec![any_entry(random, n)],
             }),
             10 => self.ballots.insert(0, Spelled { office: 0, length: 0, values: vec![] }),
+            11 => self.other_offices(random, n),
             _ => self.change_ballot(random, n),
+        }
+    }
+
+    /// One office more or fewer, its weight with it: an entry is one under the message's own n.
+    fn other_offices(&mut self, random: &mut Random, n: usize) {
+        if random.percent(50) {
+            self.n = n as u8 + 1;
+            self.weights.resize(n + 1, 0);
+            self.longer_log(random, (n + 1).min(OFFICES));
+        } else {
+            self.n = n as u8 - 1;
+            self.weights.truncate(n - 1);
         }
     }
 
     /// Other weights, or one more or fewer than n says.
     fn other_weights(&mut self, random: &mut Random) {
-        match random.below(4) {
+        match random.below(5) {
             0 => self.weights.push(0),
             1 => self.weights = vec![0; self.weights.len()],
+            2 => self.weights.clone_from(&self.present),
             _ => {
                 let at = random.below(self.weights.len());
-                self.weights[at] ^= 1 << random.below(16);
+                self.weights.iter_mut().skip(at).take(1).for_each(|weight| *weight ^= 1 << random.below(16));
             }
         }
     }

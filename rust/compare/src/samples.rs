@@ -3,13 +3,7 @@
 
 use second::random::Random;
 use second::record::{entry, Ballot, Record, CODES, LINES, LOG, OFFICES, TAIL};
-
-/// A record and its log.
-#[derive(Clone)]
-pub struct Sample {
-    pub record: Record,
-    pub log: Vec<u32>,
-}
+use second::samples::Sample;
 
 /// What related samples have in common: offices, weights, few entries, and one path that they all stray from.
 pub struct Family {
@@ -21,20 +15,50 @@ pub struct Family {
     around: usize,
 }
 
-/// Any entry among n offices, at the limits more often than not.
-pub fn any_entry(random: &mut Random, n: usize) -> u32 {
+/// Any edit among n offices, at the limits more often than not.
+fn any_edit(random: &mut Random, n: usize) -> u32 {
     let line = random.pick(&[0, 1, 5, 5, 62, 63]);
     let code = random.pick(&[0, 1, 120, 255, 256, 9998, 9999]);
     entry(random.below(n), line, code)
 }
 
-/// A word that is no entry among n offices: its office, its line or its code is outside the limits.
-pub fn no_entry(random: &mut Random, n: usize) -> u32 {
-    match random.below(4) {
-        0 => (random.pick(&[n as u32, n as u32 + 1, 9, 255]).clamp(n as u32, 255)) << 24,
-        1 => any_entry(random, n) & 0xFF00_FFFF | random.pick(&[LINES, LINES + 1, 128, 255]) << 16,
+/// Any move among n offices, to itself too, and of little more often than not.
+fn any_move(random: &mut Random, n: usize) -> u32 {
+    let to = random.within(0, n + 1).min(n - 1);
+    let weight = random.pick(&[1, 1, 1, 2, 5, 15, 25, 50, 256, 9998, 9999]);
+    entry(random.below(n), LINES + to as u32, weight)
+}
+
+/// Any entry among n offices.
+pub fn any_entry(random: &mut Random, n: usize) -> u32 {
+    if random.percent(30) {
+        any_move(random, n)
+    } else {
+        any_edit(random, n)
+    }
+}
+
+/// The ways in which a word is no entry.
+const WRONG_WORDS: usize = 5;
+
+/// A word that is no entry among n offices: its office, its line, its code, the office that a move goes to or the
+/// weight that it moves is outside the limits.
+fn wrong_word(random: &mut Random, n: usize, way: usize) -> u32 {
+    let past = LINES + n as u32;
+    match way {
+        0 => any_entry(random, n) & 0x00FF_FFFF | random.pick(&[n as u32, 8, 9, 255]) << 24,
+        1 => any_entry(random, n) & 0xFF00_FFFF | random.pick(&[72, 127, 128, 255]) << 16,
         2 => any_entry(random, n) & 0xFFFF_0000 | random.pick(&[CODES, CODES + 1, 16384, 65535]),
-        _ => u32::MAX,
+        3 => any_move(random, n) & 0xFF00_FFFF | random.pick(&[past, past, 72]) << 16,
+        _ => any_move(random, n) & 0xFFFF_0000,
+    }
+}
+
+/// A word that is no entry among n offices, for any reason.
+pub fn no_entry(random: &mut Random, n: usize) -> u32 {
+    match random.below(WRONG_WORDS + 1) {
+        WRONG_WORDS => u32::MAX,
+        way => wrong_word(random, n, way),
     }
 }
 
@@ -54,7 +78,7 @@ fn place(random: &mut Random, from: usize, to: usize) -> usize {
 
 /// Weights of n offices, at least one of them not zero.
 fn weights(random: &mut Random, n: usize) -> [u16; OFFICES] {
-    let kind = random.below(6);
+    let kind = random.below(7);
     let mut weights = [0; OFFICES];
     for (office, weight) in weights[..n].iter_mut().enumerate() {
         *weight = match kind {
@@ -63,6 +87,7 @@ fn weights(random: &mut Random, n: usize) -> [u16; OFFICES] {
             2 => random.bits() as u16,
             3 => u16::MAX,
             4 => random.pick(&[50, 50, 0, 25]),
+            5 => random.pick(&[65535, 65534, 55537, 55536, 9999, 9998, 1]), // a move passes the limits or just does not
             _ => [40, 35, 25, 20, 15, 10, 5, 0][office],
         };
     }
@@ -75,10 +100,13 @@ fn weights(random: &mut Random, n: usize) -> [u16; OFFICES] {
 impl Family {
     pub fn new(random: &mut Random) -> Family {
         let n = if random.percent(40) { 3 } else { random.within(1, OFFICES) };
-        let entries: Vec<u32> = (0..random.within(2, 5)).map(|_| any_entry(random, n)).collect();
+        let moves = random.pick(&[0, 0, 30, 60, 100]);
+        let any = |random: &mut Random| if random.percent(moves) { any_move(random, n) } else { any_edit(random, n) };
+        let entries: Vec<u32> = (0..random.within(2, 5)).map(|_| any(random)).collect();
         let around = match random.below(10) {
             0..=5 => random.below(8),
-            6 | 7 => random.within(LOG - TAIL - 8, LOG),
+            6 => LOG - TAIL,
+            7 => random.within(LOG - TAIL - 8, LOG),
             8 => LOG,
             _ => random.below(LOG + 1),
         };
@@ -120,13 +148,13 @@ impl Family {
         for ballot in &mut record.ballots[..self.n] {
             *ballot = self.ballot(random, settled);
         }
-        Sample { record, log }
+        Sample { record, log }.derived()
     }
 
     /// A log of 1,024 words or more, none of them settled.
     fn lent_log(&self, random: &mut Random) -> Vec<u32> {
         let length = if random.percent(70) { LOG } else { random.within(LOG + 1, LOG + 80) };
-        let filler = random.pick(&[0, u32::MAX, 0xDEAD_BEEF, self.entries[0], LINES << 16]);
+        let filler = random.pick(&[0, u32::MAX, 0xDEAD_BEEF, self.entries[0], LINES << 16, LINES << 16 | 1]);
         vec![filler; length]
     }
 
@@ -135,6 +163,7 @@ impl Family {
         let most = TAIL.min(LOG - settled);
         let length = match random.below(20) {
             0..=5 => 0,
+            6..=10 if settled + TAIL >= LOG => most,
             6..=15 => random.within(1, 5),
             16 | 17 => random.below(TAIL + 1),
             18 => TAIL - 1,
@@ -158,7 +187,7 @@ impl Family {
 }
 
 /// The clauses of soundness that can be broken apart.
-pub const CLAUSES: [&str; 18] = [
+pub const CLAUSES: [&str; 26] = [
     "log below 1024 words",
     "n is 0",
     "n above 8",
@@ -169,14 +198,22 @@ pub const CLAUSES: [&str; 18] = [
     "settled entry's office",
     "settled entry's line",
     "settled entry's code",
+    "settled move to no office",
+    "settled move of 0",
     "tail longer than 32",
     "ballot entry's office",
     "ballot entry's line",
     "ballot entry's code",
+    "ballot's move to no office",
+    "ballot's move of 0",
     "an unused cell",
     "a ballot from office n on",
     "a used cell from office n on",
     "settled length and tail above 1024",
+    "a present weight",
+    "present weights, their total kept",
+    "a present weight from place n on",
+    "a settled move that the present weights do not show",
 ];
 
 /// Breaks one clause of soundness of a record that is sound, or was before other clauses were broken.
@@ -185,37 +222,73 @@ pub fn break_clause(random: &mut Random, clause: usize, sample: &mut Sample) {
     let n = record.n.clamp(1, OFFICES);
     let office = random.below(n);
     let past = if n < OFFICES { random.within(n, OFFICES - 1) } else { OFFICES - 1 };
-    let wrong = [
-        (random.pick(&[n as u32, 8, 255]).max(n as u32)) << 24,
-        random.pick(&[LINES, 127, 255]) << 16,
-        random.pick(&[CODES, 65535]),
-    ];
     match clause {
         0 => log.truncate(random.pick(&[0, 1, 31, 1023, 1023])),
         1 => record.n = 0,
         2 => record.n = huge(random),
         3 => record.own = random.pick(&[n, n, 8]).max(if random.percent(30) { huge(random) } else { n }),
-        4 | 15 | 16 if n == OFFICES => record.n = past_office(record, n),
+        4 | 19 | 20 if n == OFFICES => record.n = past_office(record, n),
         4 => record.weights[past] = random.pick(&[1, u16::MAX]),
         5 => record.weights = [0; OFFICES],
         6 => record.settled = (log.len() + 1).max(LOG + 1).max(if random.percent(50) { huge(random) } else { 0 }),
-        7..=9 => break_word(random, record, log, wrong[clause - 7]),
-        10 => record.ballots[office].len = if random.percent(60) { TAIL + 1 } else { huge(random).max(TAIL + 1) },
-        11..=13 => {
+        7..=11 => {
+            let wrong = wrong_word(random, n, clause - 7);
+            break_word(random, record, log, wrong);
+        }
+        12 => record.ballots[office].len = if random.percent(60) { TAIL + 1 } else { huge(random).max(TAIL + 1) },
+        13..=17 => {
             let ballot = &mut record.ballots[office];
             ballot.len = ballot.len.clamp(1, TAIL);
-            ballot.cells[place(random, 0, ballot.len)] = wrong[clause - 11];
+            ballot.cells[place(random, 0, ballot.len)] = wrong_word(random, n, clause - 13);
             record.settled = record.settled.min(LOG - TAIL);
         }
-        14 => {
+        18 => {
             let ballot = &mut record.ballots[office];
             ballot.len = ballot.len.min(TAIL - 1);
             let bits = random.pick(&[1, 1 << 31, 0x0005_0078]);
             ballot.cells[place(random, ballot.len, TAIL)] = bits;
         }
-        15 => record.ballots[past].len = random.pick(&[1, 1, TAIL]),
-        16 => record.ballots[past].cells[random.pick(&[0, TAIL - 1])] = random.pick(&[1, 1 << 31]),
-        _ => too_long_a_path(record, log, office),
+        19 => record.ballots[past].len = random.pick(&[1, 1, TAIL]),
+        20 => record.ballots[past].cells[random.pick(&[0, TAIL - 1])] = random.pick(&[1, 1 << 31]),
+        21 => too_long_a_path(record, log, office),
+        _ => return break_present(random, clause, sample),
+    }
+    if record.settled <= log.len() {
+        *sample = sample.clone().derived(); // so that no other clause is broken
+    }
+}
+
+/// Breaks the present weights; where the clause cannot be broken so, one of them by itself.
+fn break_present(random: &mut Random, clause: usize, sample: &mut Sample) {
+    let before = sample.clone();
+    let present = &mut sample.record.present;
+    let n = sample.record.n.clamp(1, OFFICES);
+    let (office, other) = (random.below(n), random.below(n));
+    match clause {
+        23 if present[office] > 0 && present[other] < u16::MAX => {
+            present[office] -= 1;
+            present[other] += 1;
+        }
+        24 if n < OFFICES => present[random.within(n, OFFICES - 1)] = random.pick(&[1, u16::MAX]),
+        25 if random.percent(30) => *present = sample.record.weights,
+        25 => hide_move(sample, entry(office, LINES + other as u32, 1)),
+        _ => {}
+    }
+    if *sample == before {
+        let weight = &mut sample.record.present[office];
+        *weight = weight.wrapping_add(random.pick(&[1, 1, 256, u16::MAX]));
+    }
+}
+
+/// Makes the last settled word, or a first one, a move, if the present weights then do not show it.
+fn hide_move(sample: &mut Sample, word: u32) {
+    let mut hidden = sample.clone();
+    let last = hidden.record.settled.saturating_sub(1);
+    let Some(place) = hidden.log.get_mut(last) else { return };
+    *place = word;
+    hidden.record.settled = last + 1;
+    if hidden.clone().derived() != hidden {
+        *sample = hidden;
     }
 }
 
@@ -258,7 +331,7 @@ pub fn any_sample(random: &mut Random) -> Sample {
         _ => any_entry(random, OFFICES),
     };
     let mut record = Record { n: number(random, OFFICES), own: number(random, OFFICES), ..Record::ZERO };
-    for weight in &mut record.weights {
+    for weight in record.weights.iter_mut().chain(&mut record.present) {
         *weight = random.pick(&[0, 1, u16::MAX]);
     }
     record.settled = number(random, LOG);
@@ -271,14 +344,4 @@ pub fn any_sample(random: &mut Random) -> Sample {
     let length = if random.percent(80) { LOG } else { number(random, LOG).min(2000) };
     let log = (0..length).map(|_| word(random)).collect();
     Sample { record, log }
-}
-
-impl Sample {
-    /// The message that a sound record sends.
-    pub fn message(&self) -> Vec<u8> {
-        let mut output = vec![0; second::message::LONGEST];
-        let (_, length) = second::message::send(&self.record, &self.log, &mut output);
-        output.truncate(length);
-        output
-    }
 }

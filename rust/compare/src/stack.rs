@@ -10,10 +10,11 @@ use joukerpan_sys::{Elected, Founded, Framed, Issued, Part, Sent, Taken, Weights
 use second::message::LONGEST;
 use second::random::Random;
 use second::record::{LOG, OFFICES};
+use second::samples::Sample;
 
-use crate::benchmark::{state, Ballots};
+use crate::benchmark::{state, Ballots, Entries, State};
 use crate::engine::to_engine;
-use crate::samples::{any_sample, Family, Sample};
+use crate::samples::{any_sample, Family};
 
 /// Words of the painted stack.
 const WORDS: usize = 1 << 14;
@@ -186,9 +187,12 @@ fn inputs() -> Vec<Input> {
     let mut random = Random::new(1);
     let mut inputs = vec![];
     for (settled, ballots) in [(992, Ballots::FULL), (992, Ballots::Apart), (0, Ballots::FULL), (LOG, Ballots::EMPTY)] {
-        let message = state(settled, ballots, 1).message();
-        inputs.push(Input { sample: state(settled, ballots, 0), message: message.clone(), output: vec![0; LONGEST] });
-        inputs.push(Input { sample: state(0, Ballots::EMPTY, 0), message, output: vec![0; 20] });
+        for entries in [Entries::Edits, Entries::Moves] {
+            let of = State { settled, entries, ballots };
+            let message = state(of, 1).message();
+            inputs.push(Input { sample: state(of, 0), message: message.clone(), output: vec![0; LONGEST] });
+            inputs.push(Input { sample: state(State::FOUNDED, 0), message, output: vec![0; 20] });
+        }
     }
     for _ in 0..SAMPLES {
         let family = Family::new(&mut random);

@@ -12,9 +12,9 @@
 pub const OFFICES: usize = 8;
 /// Most entries of a ballot's tail.
 pub const TAIL: usize = 32;
-/// Lines of the frame: 0 to 63.
+/// Lines of the frame: 0 to 63. An entry with line 64 + j moves weight to office j.
 pub const LINES: u32 = 64;
-/// Codes of a line: 0 to 9999.
+/// Codes of a line: 0 to 9999. Weight that a move moves: 1 to 9999.
 pub const CODES: u32 = 10_000;
 /// Most settled entries, and fewest words of a log.
 pub const LOG: usize = 1024;
@@ -31,6 +31,15 @@ pub struct Ballot {
     pub cells: [u32; TAIL],
 }
 
+/// What the settled log has done. A record with any other summary than its founding weights and its settled
+/// log give is unsound.
+#[repr(C)]
+#[derive(Clone, Copy, Debug, PartialEq, Eq)]
+pub struct Summary {
+    /// Present weight of each office, by which elections count: the founding weights after the settled moves.
+    pub present: [u16; OFFICES],
+}
+
 /// What one office knows, apart from its log.
 #[repr(C)]
 #[derive(Clone, Copy, Debug, PartialEq, Eq)]
@@ -39,8 +48,10 @@ pub struct Record {
     pub n: usize,
     /// This office, below n.
     pub own: usize,
-    /// Weight of each office; zero from place n on.
+    /// Weight of each office at the founding, as messages carry it; zero from place n on.
     pub weights: [u16; OFFICES],
+    /// What the settled log has done.
+    pub summary: Summary,
     /// How many words at the front of the log are settled.
     pub settled: usize,
     /// Last known ballot of each office; none from place n on.
@@ -136,7 +147,7 @@ extern "C" {
     /// Whether the record with its log is sound.
     pub fn joukerpan_sound(record: Record, log: *const u32, log_len: usize) -> bool;
 
-    /// The record with the entry appended to its own ballot.
+    /// The record with the entry, an edit or a move of weight, appended to its own ballot.
     pub fn joukerpan_issue(record: Record, log: *const u32, log_len: usize, line: u32, code: u32) -> Issued;
 
     /// How many words at the front of the log are settled.
@@ -169,15 +180,16 @@ const _: () = {
     use core::mem::{align_of, offset_of, size_of};
     assert!(size_of::<usize>() == 8);
     assert!(size_of::<Ballot>() == 136 && offset_of!(Ballot, cells) == 8);
-    assert!(size_of::<Record>() == 1128 && align_of::<Record>() == 8);
-    assert!(offset_of!(Record, own) == 8 && offset_of!(Record, weights) == 16);
-    assert!(offset_of!(Record, settled) == 32 && offset_of!(Record, ballots) == 40);
+    assert!(size_of::<Summary>() == 16);
+    assert!(size_of::<Record>() == 1144 && align_of::<Record>() == 8);
+    assert!(offset_of!(Record, own) == 8 && offset_of!(Record, weights) == 16 && offset_of!(Record, summary) == 32);
+    assert!(offset_of!(Record, settled) == 48 && offset_of!(Record, ballots) == 56);
     assert!(size_of::<Weights>() == 16 && align_of::<Weights>() == 2);
-    assert!(size_of::<Founded>() == 1136 && offset_of!(Founded, number) == 1128);
-    assert!(size_of::<Issued>() == 1136 && offset_of!(Issued, number) == 1128);
+    assert!(size_of::<Founded>() == 1152 && offset_of!(Founded, number) == 1144);
+    assert!(size_of::<Issued>() == 1152 && offset_of!(Issued, number) == 1144);
     assert!(size_of::<Part>() == 16 && offset_of!(Part, length) == 8);
     assert!(size_of::<Framed>() == 8 && offset_of!(Framed, code) == 4);
-    assert!(size_of::<Elected>() == 1144 && offset_of!(Elected, number) == 1128 && offset_of!(Elected, count) == 1136);
+    assert!(size_of::<Elected>() == 1160 && offset_of!(Elected, number) == 1144 && offset_of!(Elected, count) == 1152);
     assert!(size_of::<Sent>() == 16 && offset_of!(Sent, length) == 8);
-    assert!(size_of::<Taken>() == 1136 && offset_of!(Taken, number) == 1128);
+    assert!(size_of::<Taken>() == 1152 && offset_of!(Taken, number) == 1144);
 };

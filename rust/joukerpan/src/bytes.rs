@@ -4,7 +4,7 @@
 //! number and ends with the check sum of all bytes before it; what stands between is the version's.
 //! A record that widens gets a new name in `VERSIONS` and its fields in `to_bytes` and `from_bytes`.
 
-use joukerpan_sys::{Ballot, Record, LOG, OFFICES, TAIL};
+use joukerpan_sys::{Ballot, Record, Summary, LOG, OFFICES, TAIL};
 
 use crate::{Office, Unreadable};
 
@@ -12,7 +12,7 @@ use crate::{Office, Unreadable};
 const MARK: [u8; 4] = *b"JKPN";
 
 /// The versions by name, version 1 first. The last one is written and read, the others are refused.
-pub(crate) const VERSIONS: [&str; 1] = ["fixed weights"];
+pub(crate) const VERSIONS: [&str; 2] = ["fixed weights", "present weights"];
 
 /// The version that is written and read.
 pub(crate) const VERSION: u32 = VERSIONS.len() as u32;
@@ -58,6 +58,15 @@ impl Numbers<'_> {
         Ok([(); N].map(|()| u32::from_be_bytes(four.next().expect("4 × N bytes").try_into().expect("four"))))
     }
 
+    /// The next eight as weights.
+    fn weights(&mut self) -> Result<[u16; OFFICES], Unreadable> {
+        let mut weights = [0; OFFICES];
+        for (weight, number) in weights.iter_mut().zip(self.next::<OFFICES>()?) {
+            *weight = u16::try_from(number).map_err(|_| Unreadable::Unsound)?;
+        }
+        Ok(weights)
+    }
+
     /// The rest as the settled words of a log.
     fn log(mut self, settled: usize) -> Result<Box<[u32; LOG]>, Unreadable> {
         let mut log = Box::new([0; LOG]);
@@ -70,7 +79,7 @@ impl Numbers<'_> {
 
 impl Office {
     /// The office as bytes, to be stored before anything of it is sent or shown: with a version and a
-    /// check sum, 1,112 bytes and 4 for each settled entry.
+    /// check sum, 1,144 bytes and 4 for each settled entry.
     ///
     /// ```
     /// use joukerpan::Office;
@@ -81,9 +90,10 @@ impl Office {
     /// # Ok::<(), Box<dyn std::error::Error>>(())
     /// ```
     pub fn to_bytes(&self) -> Vec<u8> {
-        let Record { n, own, weights, settled, ballots } = self.record();
+        let Record { n, own, weights, summary: Summary { present }, settled, ballots } = self.record();
         let mut numbers = vec![*n as u32, *own as u32, *settled as u32];
         numbers.extend(weights.map(u32::from));
+        numbers.extend(present.map(u32::from));
         for ballot in ballots {
             numbers.push(ballot.len as u32);
             numbers.extend(ballot.cells);
@@ -112,17 +122,15 @@ impl Office {
     pub fn from_bytes(bytes: &[u8]) -> Result<Office, Unreadable> {
         let mut numbers = opened(bytes)?;
         let [n, own, settled] = numbers.next()?.map(|number| number as usize);
-        let mut weights = [0; OFFICES];
-        for (weight, number) in weights.iter_mut().zip(numbers.next::<OFFICES>()?) {
-            *weight = u16::try_from(number).map_err(|_| Unreadable::Unsound)?;
-        }
+        let weights = numbers.weights()?;
+        let summary = Summary { present: numbers.weights()? };
         let mut ballots = [Ballot { len: 0, cells: [0; TAIL] }; OFFICES];
         for ballot in &mut ballots {
             let [len] = numbers.next()?;
             *ballot = Ballot { len: len as usize, cells: numbers.next()? };
         }
         let log = numbers.log(settled)?;
-        let record = Record { n, own, weights, settled, ballots };
+        let record = Record { n, own, weights, summary, settled, ballots };
         Office::from_parts(record, log).map_err(|_| Unreadable::Unsound)
     }
 }
@@ -130,15 +138,25 @@ impl Office {
 #[cfg(test)]
 mod tests {
     use super::{check_sum, sealed, VERSION};
-    use crate::{Office, Unreadable};
+    use crate::{Office, Unreadable, OFFICES, TAIL};
 
-    /// An office with a settled entry and two ballots.
+    /// An office with a settled edit, a settled move and a ballot.
     fn office() -> Office {
         let mut office = Office::found(1, &[40, 60, 0]).unwrap();
         office.issue(5, 130).unwrap();
-        office.elect();
+        office.move_weight(2, 10).unwrap();
+        assert_eq!(office.elect(), 2);
         office.issue(6, 7).unwrap();
         office
+    }
+
+    /// The bytes that version 1 wrote, of an office with a settled edit and a ballot.
+    fn of_version_1() -> Vec<u8> {
+        let mut numbers = vec![3, 1, 1, 40, 60];
+        numbers.resize(3 + OFFICES + OFFICES * (1 + TAIL), 0);
+        numbers[3 + OFFICES + 1 + TAIL..][..2].copy_from_slice(&[1, 0x0106_0007]);
+        numbers.push(0x0105_0082);
+        sealed(1, &numbers)
     }
 
     /// The numbers of the office's bytes, without mark, version and check sum.
@@ -152,16 +170,32 @@ mod tests {
         assert_eq!(check_sum(b"123456789"), 0xCBF4_3926);
     }
 
+    /// The check sum of the bytes between the version and their own.
+    fn layout(bytes: &[u8]) -> u32 {
+        check_sum(&bytes[8..bytes.len() - 4])
+    }
+
     /// Where this fails the layout has changed, and the version has to, too.
     #[test]
     fn a_version_is_one_layout() {
-        let bytes = office().to_bytes();
-        assert_eq!((VERSION, check_sum(&bytes[8..bytes.len() - 4])), (1, 0xCA83_B039));
+        assert_eq!((VERSION, layout(&office().to_bytes())), (2, 0xA8BB_308B));
+    }
+
+    #[test]
+    fn bytes_of_version_1_are_refused_by_its_name() {
+        let bytes = of_version_1();
+        assert_eq!(layout(&bytes), 0xCA83_B039);
+        let refused = Office::from_bytes(&bytes).unwrap_err();
+        assert_eq!(refused, Unreadable::OtherVersion(1));
+        assert_eq!(
+            refused.to_string(),
+            "no office read: the bytes are of version 1 (fixed weights); read is version 2 (present weights)"
+        );
     }
 
     #[test]
     fn other_versions_are_refused() {
-        for version in [0, VERSION + 1, u32::MAX] {
+        for version in [0, 1, VERSION + 1, u32::MAX] {
             let bytes = sealed(version, &numbers(&office()));
             assert_eq!(Office::from_bytes(&bytes), Err(Unreadable::OtherVersion(version)));
         }
@@ -170,9 +204,15 @@ mod tests {
 
     #[test]
     fn whole_bytes_of_no_sound_office_are_refused() {
-        for (place, number) in
-            [(0, 9), (1, 3), (2, 1025), (2, u32::MAX), (3, 65_536), (11, 33), (12, 1), (275, 1 << 27)]
-        {
+        let (weights, present, ballots) = (3, 3 + OFFICES, 3 + 2 * OFFICES);
+        let log = ballots + OFFICES * (1 + TAIL);
+        let changes = [
+            [(0, 9), (1, 3), (2, 1025), (2, u32::MAX)],
+            [(weights, 65_536), (weights, 41), (present, 65_536), (present, 41)],
+            [(present + 1, 60), (present + 2, 0), (present + 3, 1), (present + 7, u32::MAX)],
+            [(ballots, 33), (ballots + 1, 1), (log, 1 << 27), (log + 1, 0x0142_000B)],
+        ];
+        for (place, number) in changes.concat() {
             let mut numbers = numbers(&office());
             numbers[place] = number;
             assert_eq!(Office::from_bytes(&sealed(VERSION, &numbers)), Err(Unreadable::Unsound), "{place}");

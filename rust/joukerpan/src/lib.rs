@@ -2,8 +2,9 @@
 //!
 //! The frame has 64 lines; each says which class an answer is counted under. Offices edit it when
 //! they like, connected or not, and exchange messages. An edit shows in its office's *tentative*
-//! frame when it is made. Offices vote on edits with fixed weights; the *settled* frame holds only
-//! those that have won, and no office will ever contradict it.
+//! frame when it is made. Offices vote on edits by their weights; the *settled* frame holds only
+//! those that have won, and no office will ever contradict it. An office that closes hands its
+//! weight on ([`Office::move_weight`]), and the others vote on that too.
 //!
 //! An [`Office`] is one office's state. It opens no file and no socket: messages are bytes that the
 //! service carries, late, twice or never. A call that is refused says why ([`Refused`]) and changes
@@ -40,8 +41,8 @@ mod office;
 mod refused;
 mod unreadable;
 
-pub use entry::Entry;
-pub use joukerpan_sys::{Ballot, Record, CODES, LINES, LOG, MESSAGE_MAX, OFFICES, TAIL};
+pub use entry::{Entry, EntryKind};
+pub use joukerpan_sys::{Ballot, Record, Summary, CODES, LINES, LOG, MESSAGE_MAX, OFFICES, TAIL};
 pub use office::{sound, Office};
 pub use refused::Refused;
 pub use unreadable::Unreadable;

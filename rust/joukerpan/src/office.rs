@@ -3,7 +3,7 @@
 use std::fmt;
 
 use joukerpan_sys as engine;
-use joukerpan_sys::{Record, Weights, LOG, MESSAGE_MAX, OFFICES};
+use joukerpan_sys::{Record, Weights, LINES, LOG, MESSAGE_MAX, OFFICES};
 
 use crate::{Entry, Refused};
 
@@ -33,7 +33,8 @@ pub struct Office {
     log: Box<[u32; LOG]>,
 }
 
-/// Whether the record with its log is sound: the log has 1,024 words or more, and every limit is kept.
+/// Whether the record with its log is sound: the log has 1,024 words or more, every limit is kept, and the
+/// present weights are those that follow from the founding weights and the settled log.
 ///
 /// Every record, log and number has its answer; [`Office::from_parts`] asks this one.
 pub fn sound(record: &Record, log: &[u32]) -> bool {
@@ -102,7 +103,7 @@ impl Office {
         (self.record, self.log)
     }
 
-    /// The record: offices, weights, settled length and the ballots that are known.
+    /// The record: offices, founding and present weights, settled length and the ballots that are known.
     pub fn record(&self) -> &Record {
         &self.record
     }
@@ -117,19 +118,27 @@ impl Office {
         self.record.n
     }
 
-    /// The weight of each office, as it was founded.
+    /// The founding weight of each office. It never changes; messages carry it, and are taken by offices
+    /// founded with the same ones alone.
     pub fn weights(&self) -> &[u16] {
         &self.record.weights[..self.record.n]
     }
 
-    /// The office's own edits that are not settled yet, the oldest first.
+    /// The present weight of each office, by which elections here count: its founding weight after the
+    /// moves of the settled log. The total never changes. Offices with equal settled logs have equal
+    /// present weights; one that has settled less may have others still.
+    pub fn present(&self) -> &[u16] {
+        &self.record.summary.present[..self.record.n]
+    }
+
+    /// The office's own entries that are not settled yet, the oldest first: edits, and moves of weight.
     ///
     /// An edit leaves this list in a take or an election, settled or **lost**: a place of the settled
     /// log takes one entry, of whatever line, and when another office's wins the place of an edit or
     /// an earlier one, the edit and those behind it are gone, with no refusal. A service that tells its
     /// supervisors compares this list and the settled log before and after each take and elect
     /// (docs/EMBEDDING.md of the repository). Entries that this office has adopted from others are
-    /// not its own edits and are not in the list.
+    /// not its own and are not in the list.
     ///
     /// ```
     /// use joukerpan::{Entry, Office, Refused};
@@ -158,6 +167,9 @@ impl Office {
     /// Edits the frame: appends the entry to the office's own ballot. It can lose: see
     /// [`Office::pending`].
     ///
+    /// Lines 0 to 63 have codes 0 to 9999. Line 64 + j is a move of weight to office j, with the weight
+    /// as its code: see [`Office::move_weight`].
+    ///
     /// # Errors
     ///
     /// [`Refused::NoEntry`], [`Refused::TailFull`] or [`Refused::LogFull`].
@@ -166,6 +178,41 @@ impl Office {
         let issued = unsafe { engine::joukerpan_issue(self.record, self.log.as_ptr(), LOG, line, code) };
         self.record = issued.record;
         Refused::check(issued.number)
+    }
+
+    /// Hands weight on: issues a move of this much from this office to another, line 64 + `to`. It is an
+    /// entry like an edit: it is voted on, and it can lose.
+    ///
+    /// It takes effect where it is settled, and only if this office then has that much and the other one
+    /// stays at or below 65535. If not, or if both are one office, it is settled and changes nothing; so
+    /// [`Office::present`] says whether it did. More than 9999 takes several moves. A move changes no
+    /// frame, and the founding weights stay as they are. An office that has no weight left makes all its
+    /// calls as before; what it edits wins by the votes of others.
+    ///
+    /// # Errors
+    ///
+    /// [`Refused::NoEntry`] unless `to` is an office and the weight 1 to 9999; [`Refused::TailFull`] or
+    /// [`Refused::LogFull`].
+    ///
+    /// ```
+    /// use joukerpan::{Office, Refused};
+    ///
+    /// let mut here = Office::found(0, &[40, 35, 25])?;
+    /// let mut closing = Office::found(2, &[40, 35, 25])?;
+    /// closing.move_weight(0, 25)?;
+    ///
+    /// here.take(&closing.message())?;                // office 0 joins: 65 of 100
+    /// assert_eq!(here.elect(), 1);
+    /// assert_eq!(here.present(), [65, 35, 0]);
+    /// assert_eq!(here.weights(), [40, 35, 25]);
+    ///
+    /// here.issue(5, 120)?;
+    /// assert_eq!(here.elect(), 1);                   // 65 is above the unheard 35
+    /// # Ok::<(), Refused>(())
+    /// ```
+    pub fn move_weight(&mut self, to: usize, weight: u16) -> Result<(), Refused> {
+        let to = u32::try_from(to).unwrap_or(u32::MAX); // which is no office
+        self.issue(LINES.saturating_add(to), weight.into())
     }
 
     /// The settled log, an entry to each word ([`Entry`] reads them): those that no office will contradict.
@@ -211,7 +258,8 @@ impl Office {
         Ok(framed.code)
     }
 
-    /// Settles the entries that have won, and answers how many: 0 where none has.
+    /// Settles the entries that have won, and answers how many: 0 where none has. Each is counted by the
+    /// present weights that those before it have left.
     pub fn elect(&mut self) -> usize {
         // SAFETY: the log names its words, which nothing else does, for as long as the call lasts.
         let elected = unsafe { engine::joukerpan_elect(self.record, self.log.as_mut_ptr(), LOG) };
@@ -253,8 +301,8 @@ impl Office {
         output
     }
 
-    /// Works in another office's message: the settled entries that are missing here, then every ballot
-    /// that is more than what is known. The same message again changes nothing.
+    /// Works in another office's message: the settled entries that are missing here, with the weights that
+    /// they move, then every ballot that is more than what is known. The same message again changes nothing.
     ///
     /// # Errors
     ///

@@ -11,10 +11,10 @@ use std::fmt;
 /// use joukerpan::{Office, Refused};
 ///
 /// let mut office = Office::found(0, &[1])?;
-/// let refused = office.issue(64, 120).unwrap_err();
+/// let refused = office.issue(5, 10_000).unwrap_err();
 /// assert_eq!(refused, Refused::NoEntry);
 /// assert_eq!(refused.number(), 3);
-/// assert_eq!(refused.to_string(), "refused (3): the line is above 63, or the code is above 9999");
+/// assert!(refused.to_string().starts_with("refused (3): the line or the code is outside the limits"));
 /// # Ok::<(), Refused>(())
 /// ```
 #[derive(Clone, Copy, Debug, PartialEq, Eq, Hash)]
@@ -25,7 +25,8 @@ pub enum Refused {
     Unsound = 1,
     /// Founding: the offices, the own office or the weights are outside the limits.
     Founding = 2,
-    /// The line is above 63, or the code is above 9999.
+    /// The line or the code is outside the limits: lines 0 to 63 with codes 0 to 9999, and to issue a move
+    /// of weight, 64 + an office's number with 1 to 9999. Frames have lines 0 to 63 alone.
     NoEntry = 3,
     /// The own ballot has 32 entries that are not settled yet.
     TailFull = 4,
@@ -35,7 +36,7 @@ pub enum Refused {
     OutputShort = 6,
     /// The bytes are not a message, or a number in it is outside the limits.
     NoMessage = 7,
-    /// The message is from other offices, or from offices with other weights.
+    /// The message is from other offices, or from offices with other founding weights.
     OtherOffices = 8,
     /// The message is the office's own.
     OwnMessage = 9,
@@ -94,12 +95,14 @@ impl Refused {
         match self {
             Refused::Unsound => "the record with its log is not sound",
             Refused::Founding => "the offices, the own office or the weights are outside the limits",
-            Refused::NoEntry => "the line is above 63, or the code is above 9999",
+            Refused::NoEntry => {
+                "the line or the code is outside the limits (0 to 63 and 0 to 9999; of a move 64 + an office and 1 to 9999)"
+            }
             Refused::TailFull => "the own ballot has 32 entries that are not settled yet",
             Refused::LogFull => "the settled log and the own ballot make 1024 entries",
             Refused::OutputShort => "the output is shorter than the message",
             Refused::NoMessage => "the bytes are not a message, or a number in it is outside the limits",
-            Refused::OtherOffices => "the message is from other offices, or from offices with other weights",
+            Refused::OtherOffices => "the message is from other offices, or from offices with other founding weights",
             Refused::OwnMessage => "the message is the office's own",
             Refused::OtherLog => "neither settled log is a beginning of the other",
         }

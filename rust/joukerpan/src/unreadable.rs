@@ -23,13 +23,12 @@ pub enum Unreadable {
     Unsound,
 }
 
-/// Says which version the bytes are of and which one is read, the last of these names.
-fn other_version(version: u32, names: &[&str]) -> String {
-    let named = |version: u32| match names.get((version as usize).wrapping_sub(1)) {
+/// A version by its number and name.
+fn named(version: u32) -> String {
+    match VERSIONS.get((version as usize).wrapping_sub(1)) {
         Some(name) => format!("version {version} ({name})"),
         None => format!("version {version}, which is not known here"),
-    };
-    format!("the bytes are of {}; read is {}", named(version), named(names.len() as u32))
+    }
 }
 
 impl fmt::Display for Unreadable {
@@ -38,7 +37,9 @@ impl fmt::Display for Unreadable {
         match *self {
             Unreadable::NoOffice => f.write_str("the bytes do not begin as a stored office does"),
             Unreadable::Damaged => f.write_str("the bytes are damaged"),
-            Unreadable::OtherVersion(version) => f.write_str(&other_version(version, &VERSIONS)),
+            Unreadable::OtherVersion(version) => {
+                write!(f, "the bytes are of {}; read is {}", named(version), named(VERSION))
+            }
             Unreadable::Unsound => write!(f, "the bytes are whole, and their record (version {VERSION}) is not sound"),
         }
     }
@@ -48,18 +49,19 @@ impl Error for Unreadable {}
 
 #[cfg(test)]
 mod tests {
-    use super::other_version;
+    use super::{Unreadable, VERSION, VERSIONS};
 
     #[test]
     fn a_version_is_refused_by_name() {
-        let names = ["fixed weights", "present weights"];
-        assert_eq!(
-            other_version(1, &names),
-            "the bytes are of version 1 (fixed weights); read is version 2 (present weights)"
-        );
-        for unknown in [0, 3, u32::MAX] {
-            let wanted = format!("the bytes are of version {unknown}, which is not known here; read is");
-            assert!(other_version(unknown, &names).starts_with(&wanted));
+        for (version, name) in (1..VERSION).zip(VERSIONS) {
+            let wanted =
+                format!("no office read: the bytes are of version {version} ({name}); read is version {VERSION}");
+            assert!(Unreadable::OtherVersion(version).to_string().starts_with(&wanted));
+        }
+        for unknown in [0, VERSION + 1, u32::MAX] {
+            let wanted =
+                format!("no office read: the bytes are of version {unknown}, which is not known here; read is");
+            assert!(Unreadable::OtherVersion(unknown).to_string().starts_with(&wanted));
         }
     }
 }

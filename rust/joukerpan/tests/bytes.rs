@@ -2,13 +2,15 @@
 
 use joukerpan::{Office, Unreadable, LOG};
 
-/// An office with settled entries, an own ballot and another's.
+/// An office with settled entries, a move among them, an own ballot and another's.
 fn office() -> Office {
     let mut one = Office::found(1, &[40, 35, 25]).unwrap();
     let mut zero = Office::found(0, &[40, 35, 25]).unwrap();
     zero.issue(5, 120).unwrap();
+    zero.move_weight(2, 15).unwrap();
     one.take(&zero.message()).unwrap();
-    assert_eq!(one.elect(), 1);
+    assert_eq!(one.elect(), 2);
+    assert_eq!(one.present(), [25, 35, 40]);
     one.issue(63, 9999).unwrap();
     zero.issue(6, 7).unwrap();
     one.take(&zero.message()).unwrap();
@@ -19,7 +21,7 @@ fn office() -> Office {
 fn what_is_stored_is_read_back() {
     for office in [office(), Office::found(0, &[1]).unwrap(), Office::found(7, &[65_535; 8]).unwrap()] {
         let bytes = office.to_bytes();
-        assert_eq!(bytes.len(), 1112 + 4 * office.settled().len());
+        assert_eq!(bytes.len(), 1144 + 4 * office.settled().len());
         assert_eq!(Office::from_bytes(&bytes), Ok(office));
     }
 }

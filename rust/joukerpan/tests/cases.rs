@@ -101,6 +101,7 @@ fn a_ballot_that_merely_has_more_entries_is_not_adopted() {
 fn the_limits_of_an_issue() {
     let mut office = Office::found(1, &WEIGHTS).unwrap();
     assert_eq!(office.issue(64, 0), Err(Refused::NoEntry));
+    assert_eq!(office.issue(67, 1), Err(Refused::NoEntry));
     assert_eq!(office.issue(0, 10_000), Err(Refused::NoEntry));
     assert_eq!(office.issue(u32::MAX, u32::MAX), Err(Refused::NoEntry));
     for _ in 0..TAIL {
@@ -149,10 +150,12 @@ fn messages_that_are_refused() {
 #[test]
 fn parts_that_are_not_sound() {
     let sound = office(1, &WEIGHTS, &[A], &[(1, &[D])]);
-    let breaks: [fn(&mut Record); 6] = [
+    let breaks: [fn(&mut Record); 8] = [
         |record| record.n = 9,
         |record| record.own = 3,
         |record| record.weights = [0; OFFICES],
+        |record| record.summary.present[0] += 1,
+        |record| record.summary.present.swap(0, 2),
         |record| record.settled = 2,
         |record| record.ballots[2].len = 33,
         |record| record.ballots[7].len = 1,

@@ -27,10 +27,12 @@ fn hears(office: &mut Office, from: &Office) -> Vec<Entry> {
 fn an_office_says_what_it_was_founded_as() {
     for own in 0..3 {
         let office = Office::found(own, &WEIGHTS).unwrap();
-        assert_eq!((office.own(), office.offices(), office.weights()), (own, 3, &WEIGHTS[..]));
+        assert_eq!((office.own(), office.offices()), (own, 3));
+        assert_eq!((office.weights(), office.present()), (&WEIGHTS[..], &WEIGHTS[..]));
         assert!(office.pending().is_empty());
     }
     assert_eq!(Office::found(7, &[1; 8]).unwrap().weights(), [1; 8]);
+    assert_eq!(Office::found(7, &[1; 8]).unwrap().present(), [1; 8]);
 }
 
 #[test]
@@ -120,7 +122,10 @@ fn what_is_lost_is_what_left_the_own_path() {
         for _ in 0..120 {
             let office = &mut offices[dice.below(n)];
             if dice.below(3) == 0 && office.pending().len() < 8 {
-                office.issue(dice.below(4) as u32, dice.below(3) as u32).unwrap();
+                match dice.below(4) {
+                    0 => office.move_weight(dice.below(n), 1 + dice.below(3) as u16).unwrap(),
+                    _ => office.issue(dice.below(4) as u32, dice.below(3) as u32).unwrap(),
+                }
                 // equal entries again and again
             }
             let before = office.clone();

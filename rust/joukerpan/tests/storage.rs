@@ -109,6 +109,19 @@ fn after_a_loss_the_others_go_on_and_can_stand_still() {
 }
 
 #[test]
+fn an_office_that_has_handed_its_weight_on_may_fall_silent() {
+    let [mut zero, mut one, mut two] = [0, 1, 2].map(|own| Office::found(own, &WEIGHTS).unwrap());
+    two.move_weight(0, 25).unwrap();
+    assert_eq!(hears(&mut zero, &two.message()), 1);
+    one.take(&zero.message()).unwrap(); // and office 2 makes no call any more
+
+    zero.issue(5, 120).unwrap();
+    one.issue(5, 130).unwrap();
+    assert_eq!(hears(&mut one, &zero.message()), 1); // 65 above 35, and nothing is unheard
+    assert_eq!((one.settled_frame(5), one.present()), (Ok(120), &[65, 35, 0][..]));
+}
+
+#[test]
 fn a_reader_takes_and_neither_elects_nor_sends() {
     let [mut zero, one, mut two] = rivals();
     two.take(&zero.message()).unwrap();
@@ -130,4 +143,19 @@ fn a_new_frame_with_doubled_weights_refuses_the_old_ones_messages() {
 
     let mut same = Office::found(2, &WEIGHTS).unwrap(); // with the same weights nothing tells them apart
     assert_eq!(same.take(&zero.message()), Ok(()));
+}
+
+#[test]
+fn a_new_frame_goes_on_with_the_present_weights() {
+    let mut zero = Office::found(0, &[60, 40]).unwrap();
+    zero.move_weight(1, 20).unwrap();
+    zero.elect();
+    assert_eq!(zero.present(), [40, 60]);
+    zero.move_weight(1, 20).unwrap();
+    assert_eq!(zero.elect(), 0); // now office 1 decides
+    let doubled: Vec<u16> = zero.present().iter().map(|weight| 2 * weight).collect();
+    let mut one = Office::found(1, &doubled).unwrap();
+    assert_eq!(one.take(&zero.message()), Err(Refused::OtherOffices));
+    one.issue(5, 130).unwrap();
+    assert_eq!(one.elect(), 1); // 120 above 80
 }

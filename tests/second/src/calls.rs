@@ -10,7 +10,7 @@ pub fn found(n: usize, own: usize, weights: [u16; OFFICES], log: &[u32]) -> (u32
     if !within_limits(n, own, &weights) {
         return (LIMITS, Record::ZERO);
     }
-    (DONE, Record { n, own, weights, ..Record::ZERO })
+    (DONE, Record { n, own, weights, present: weights, ..Record::ZERO })
 }
 
 /// The record with the entry appended to the office's own ballot.
@@ -18,7 +18,7 @@ pub fn issue(mut record: Record, log: &[u32], line: u32, code: u32) -> (u32, Rec
     if !sound(&record, log) {
         return (UNSOUND, record);
     }
-    if line >= LINES || code >= CODES {
+    if !proper(line, code, record.n) {
         return (NO_ENTRY, record);
     }
     let ballot = &mut record.ballots[record.own];

@@ -19,7 +19,7 @@ impl Tally {
         for (office, ballot) in record.ballots[..record.n].iter().enumerate() {
             tally.first[office] = ballot.tail().first().copied();
         }
-        for (office, &weight) in record.weights[..record.n].iter().enumerate() {
+        for (office, &weight) in record.present[..record.n].iter().enumerate() {
             let Some(voted) = tally.first[office] else {
                 tally.unheard += u32::from(weight);
                 continue;
@@ -59,10 +59,12 @@ impl Tally {
     }
 }
 
-/// Writes the winner to the log of a sound record; ballots that start with it lose it, all others become none.
+/// Writes the winner to the log of a sound record, and moves weight if it is a move; ballots that start with it lose
+/// it, all others become none.
 fn settle(record: &mut Record, log: &mut [u32], winner: u32) {
     log[record.settled] = winner;
     record.settled += 1;
+    move_weight(&mut record.present, winner);
     for ballot in record.ballots.iter_mut().filter(|ballot| ballot.len > 0) {
         if ballot.cells[0] == winner {
             ballot.shorten(1);

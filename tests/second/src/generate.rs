@@ -8,7 +8,7 @@ mod histories;
 mod malformed;
 
 /// The kinds of script there are.
-pub const KINDS: [&str; 6] = ["mixed", "contested", "tails", "long", "malformed", "everything"];
+pub const KINDS: [&str; 7] = ["mixed", "contested", "moves", "tails", "long", "malformed", "everything"];
 
 /// A script that is being written. The offices are played beside it, so that a kind can aim.
 pub(crate) struct Script {
@@ -62,18 +62,24 @@ impl Script {
     pub(crate) fn settled(&self, office: usize) -> usize {
         self.world.offices.get(office).map_or(0, |office| office.record.settled)
     }
+
+    /// Present weights as an office knows them.
+    pub(crate) fn present(&self, office: usize) -> [usize; OFFICES] {
+        self.world.offices.get(office).map_or([0; OFFICES], |office| office.record.present.map(usize::from))
+    }
 }
 
-/// Weights of n offices: level, uneven, with a heavy one, with zeros, as large as can be.
+/// Weights of n offices: level, uneven, with a heavy one, with zeros, as large as can be or nearly so.
 pub(crate) fn weights(random: &mut Random, n: usize) -> Vec<usize> {
     let n = n.clamp(1, OFFICES);
     let level = random.within(1, 60);
     let heavy = random.below(n);
-    let mut weights: Vec<usize> = match random.below(6) {
+    let mut weights: Vec<usize> = match random.below(7) {
         0 | 1 => vec![level; n],
         2 => (0..n).map(|_| random.within(1, 60)).collect(),
         3 => (0..n).map(|office| if office == heavy { 60 * n } else { random.within(0, 60) }).collect(),
         4 => (0..n).map(|_| random.pick(&[0, 0, 1, 2])).collect(),
+        5 => (0..n).map(|_| random.pick(&[65535, 65534, 65000, 9999, 1])).collect(),
         _ => vec![65535; n],
     };
     if weights.iter().all(|&weight| weight == 0) {
@@ -102,6 +108,7 @@ fn write_kind(script: &mut Script, kind: &str) -> Option<()> {
     let round = match kind {
         "mixed" => histories::mixed,
         "contested" => histories::contested,
+        "moves" => histories::moves,
         "tails" => histories::tails,
         "long" => histories::long,
         "malformed" => malformed::malformed,

@@ -1,4 +1,4 @@
-//! The shared coding frame a second time, written from document 01 alone.
+//! The shared coding frame a second time, written from document 01 and the landed requests of document 02 alone.
 //!
 //! The proved engine is compared with this one: its answers are the expected
 //! output of the gate's programs, of the random comparison and of the benchmark.

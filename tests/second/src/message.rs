@@ -19,7 +19,7 @@ pub struct Message<'a> {
     pub sender: usize,
     /// Offices there are.
     pub n: usize,
-    /// Weight of each office, zero from place n on.
+    /// Weight of each office at the founding, zero from place n on.
     pub weights: [u16; OFFICES],
     /// Settled entries as they stand in the message, marks included.
     settled: &'a [u8],

@@ -4,12 +4,15 @@
 pub const OFFICES: usize = 8;
 /// Most entries in a ballot's tail.
 pub const TAIL: usize = 32;
-/// Lines of the frame: 0 to 63.
+/// Lines of the frame: 0 to 63. An entry with line 64 + j moves weight to office j.
 pub const LINES: u32 = 64;
-/// Codes of a line: 0 to 9999.
+/// Codes of a line: 0 to 9999. Weight of a move: 1 to 9999.
 pub const CODES: u32 = 10_000;
 /// Longest settled log, and fewest words of a lent log.
 pub const LOG: usize = 1024;
+
+/// Words that are looked through together.
+const PIECE: usize = 64;
 
 /// The call was done.
 pub const DONE: u32 = 0;
@@ -17,7 +20,7 @@ pub const DONE: u32 = 0;
 pub const UNSOUND: u32 = 1;
 /// Founding: n, own office or weights outside the limits.
 pub const LIMITS: u32 = 2;
-/// Line above 63, or code above 9999.
+/// Line or code outside the limits.
 pub const NO_ENTRY: u32 = 3;
 /// The own tail is 32 long.
 pub const TAIL_FULL: u32 = 4;
@@ -52,8 +55,10 @@ pub struct Record {
     pub n: usize,
     /// This office.
     pub own: usize,
-    /// Weight of each office, zero from place n on.
+    /// Weight of each office at the founding, zero from place n on.
     pub weights: [u16; OFFICES],
+    /// Weight of each office after the moves of the settled log.
+    pub present: [u16; OFFICES],
     /// Settled words of the log.
     pub settled: usize,
     /// Last known ballot of each office, none from place n on.
@@ -86,13 +91,24 @@ impl Ballot {
 
 impl Record {
     /// The record that a refused founding answers.
-    pub const ZERO: Record =
-        Record { n: 0, own: 0, weights: [0; OFFICES], settled: 0, ballots: [Ballot::NONE; OFFICES] };
+    pub const ZERO: Record = Record {
+        n: 0,
+        own: 0,
+        weights: [0; OFFICES],
+        present: [0; OFFICES],
+        settled: 0,
+        ballots: [Ballot::NONE; OFFICES],
+    };
 }
 
 /// The value of an entry whose numbers are within the limits.
 pub fn entry(office: usize, line: u32, code: u32) -> u32 {
     (office as u32) << 24 | line << 16 | code
+}
+
+/// The office that issued an entry.
+pub fn office_of(word: u32) -> usize {
+    (word >> 24) as usize
 }
 
 /// The line of an entry.
@@ -105,9 +121,42 @@ pub fn code_of(word: u32) -> u32 {
     word & 0xffff
 }
 
+/// Whether an entry among n offices, 8 at most, may have this line and code: those of an edit, or of a move.
+pub fn proper(line: u32, code: u32, n: usize) -> bool {
+    (line < LINES + n.min(OFFICES) as u32) & (code < CODES) & ((line < LINES) | (code > 0))
+}
+
 /// Whether the word is the value of an entry among n offices, 8 at most.
 pub fn is_entry(word: u32, n: usize) -> bool {
-    (word >> 24 < n.min(OFFICES) as u32) & (line_of(word) < LINES) & (code_of(word) < CODES)
+    (word >> 24 < n.min(OFFICES) as u32) & proper(line_of(word), code_of(word), n)
+}
+
+/// Whether the entry moves weight.
+pub fn is_move(word: u32) -> bool {
+    line_of(word) >= LINES
+}
+
+/// Moves the weight of an entry that is settled, if it is a move to another office, the issuer has that much and the
+/// other stays at or below 65535.
+pub(crate) fn move_weight(weights: &mut [u16; OFFICES], word: u32) {
+    let (from, code) = (office_of(word), code_of(word) as u16);
+    let Some(to) = line_of(word).checked_sub(LINES).map(|office| office as usize).filter(|&to| to != from) else {
+        return;
+    };
+    if let (Some(less), Some(more)) = (weights[from].checked_sub(code), weights[to].checked_add(code)) {
+        (weights[from], weights[to]) = (less, more);
+    }
+}
+
+/// The weights once these entries are settled. Looks for moves piece by piece, so that it runs on vectors.
+pub(crate) fn weights_after(mut weights: [u16; OFFICES], entries: &[u32]) -> [u16; OFFICES] {
+    for piece in entries.chunks(PIECE) {
+        // A line is 64 or more if a bit from the seventh on is set in it, and so with all lines together.
+        if is_move(piece.iter().fold(0, |bits, &word| bits | word)) {
+            piece.iter().for_each(|&word| move_weight(&mut weights, word));
+        }
+    }
+    weights
 }
 
 /// Whether all words are entries among n offices. Reads them all, so that it runs on vectors.
@@ -136,6 +185,7 @@ pub fn sound(record: &Record, log: &[u32]) -> bool {
         || !within_limits(record.n, record.own, &record.weights)
         || record.settled > LOG
         || !all_entries(&log[..record.settled], record.n)
+        || record.present != weights_after(record.weights, &log[..record.settled])
     {
         return false;
     }

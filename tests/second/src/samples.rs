@@ -3,7 +3,7 @@
 use crate::generate::weights;
 use crate::message::{length, write};
 use crate::random::Random;
-use crate::record::{entry, sound, Ballot, Record, LOG, OFFICES, TAIL};
+use crate::record::{entry, is_entry, move_weight, sound, Ballot, Record, LINES, LOG, OFFICES, TAIL};
 
 /// A record and its log.
 #[derive(Clone, Debug, PartialEq, Eq)]
@@ -27,7 +27,16 @@ impl Sample {
         }
         let mut log = settled.to_vec();
         log.resize(LOG.max(settled.len()), FILLER);
-        Sample { record, log }
+        Sample { record, log }.derived()
+    }
+
+    /// The same with the present weights that follow from the settled log; words that are no entries move nothing.
+    pub fn derived(mut self) -> Sample {
+        self.record.present = self.record.weights;
+        for &word in self.log[..self.record.settled].iter().filter(|&&word| is_entry(word, OFFICES)) {
+            move_weight(&mut self.record.present, word);
+        }
+        self
     }
 
     /// The message that a sound record sends; of no bytes for one that isn't sound.
@@ -69,6 +78,13 @@ pub fn any_entry(random: &mut Random, n: usize) -> u32 {
     entry(random.below(n), line, code)
 }
 
+/// Any move among n offices; most weights are small, and so are most moves.
+pub fn any_move(random: &mut Random, n: usize) -> u32 {
+    let to = random.below(n) as u32;
+    let code = random.pick(&[1, 1, 2, 15, 30, 60, 535, 9998, 9999]);
+    entry(random.below(n), LINES + to, code)
+}
+
 impl Family {
     /// A family with a settled log of few entries, or now and then of almost as many as can be.
     pub fn new(random: &mut Random) -> Family {
@@ -77,7 +93,9 @@ impl Family {
         for (place, weight) in all.iter_mut().zip(weights(random, n)) {
             *place = weight as u16;
         }
-        let entries: Vec<u32> = (0..random.within(2, 4)).map(|_| any_entry(random, n)).collect();
+        let moves = random.pick(&[0, 0, 30, 60]);
+        let any = |random: &mut Random| if random.percent(moves) { any_move(random, n) } else { any_entry(random, n) };
+        let entries: Vec<u32> = (0..random.within(2, 4)).map(|_| any(random)).collect();
         let around = if random.percent(85) { random.below(6) } else { random.within(LOG - TAIL - 8, LOG - 2) };
         let mut path = vec![entries[0]; LOG];
         for (at, word) in path.iter_mut().enumerate() {
@@ -118,7 +136,7 @@ impl Family {
         for ballot in &mut record.ballots[..self.n] {
             *ballot = self.ballot(random, settled);
         }
-        Sample { record, log }
+        Sample { record, log }.derived()
     }
 
     /// A log of 1024 words or some more, none of which is settled.
@@ -154,12 +172,15 @@ pub fn break_one(random: &mut Random, sample: &mut Sample) {
     let huge = random.pick(&[33, 255, 256, 1025, 65536, 1 << 32, usize::MAX - 1, usize::MAX]);
     let n = record.n.min(OFFICES);
     let (office, past) = (random.below(n), random.within(n.min(OFFICES - 1), OFFICES - 1));
-    let wrong = random.pick(&[(n as u32) << 24, 64 << 16, 10_000, u32::MAX, 0x00FF_0000]);
-    match random.below(10) {
+    let wrong = random.pick(&[(n as u32) << 24, 64 << 16, (64 + n as u32) << 16 | 1, 10_000, u32::MAX, 0x00FF_0000]);
+    match random.below(12) {
         0 => record.n = random.pick(&[0, 9, n.saturating_sub(1), huge]),
         1 => record.own = random.pick(&[record.n, huge]),
-        2 => record.weights[past] = random.pick(&[1, 256, 65535]),
-        3 => record.weights = [0; OFFICES],
+        2 => {
+            let weight = random.pick(&[1, 256, 65535]);
+            (record.weights[past], record.present[past]) = (weight, weight);
+        }
+        3 => (record.weights, record.present) = ([0; OFFICES], [0; OFFICES]),
         4 => record.settled = random.pick(&[LOG + 1, log.len().saturating_add(1), huge.max(LOG + 1)]),
         5 if record.settled > 0 => {
             let at = random.below(record.settled);
@@ -167,7 +188,22 @@ pub fn break_one(random: &mut Random, sample: &mut Sample) {
         }
         5 | 6 => log.truncate(random.pick(&[0, 1, LOG - 1])),
         7 => break_ballot(random, &mut record.ballots[past], wrong, 0),
+        8 | 9 => break_present(random, sample, office, past),
         _ => break_ballot(random, &mut record.ballots[office], wrong, huge),
+    }
+}
+
+/// Breaks the present weights, the total kept or not, or has a word of the log move weight that they don't show.
+fn break_present(random: &mut Random, Sample { record, log }: &mut Sample, office: usize, past: usize) {
+    let to = (office + 1) % record.n.clamp(1, OFFICES);
+    match random.below(4) {
+        0 => record.present[office] = record.present[office].wrapping_add(random.pick(&[1, 256, u16::MAX])),
+        1 => record.present[past] = random.pick(&[1, 256, 65535]),
+        2 => record.present.swap(office, to),
+        _ => {
+            let at = random.below(record.settled);
+            log.iter_mut().skip(at).take(1).for_each(|word| *word = entry(office, LINES + to as u32, 1));
+        }
     }
 }
 

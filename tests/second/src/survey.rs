@@ -6,7 +6,7 @@ use std::io::{Read, Result, Write};
 use crate::elect::{step, Tally};
 use crate::lines::each_line;
 use crate::message::read;
-use crate::record::{Ballot, Record, DONE, OFFICES};
+use crate::record::{is_move, Ballot, Record, DONE, OFFICES};
 use crate::rehearsal::{Command, Office, World, SLOTS};
 use crate::take::{adopt_all, grow, refusal};
 
@@ -102,6 +102,7 @@ impl Survey {
             let reset = pairs().filter(|(_, new)| none(new)).count();
             let kept = pairs().count() - reset;
             self.add("log grown by a take", 1);
+            self.add("weight moved by a take", usize::from(grown.present != before.present));
             self.add("ballot reset by a grown log", reset);
             self.add("ballot kept by a grown log", kept);
         }
@@ -139,26 +140,16 @@ impl Survey {
             return;
         };
         let Office { mut record, mut log } = *office;
-        let mut count = 0;
-        loop {
-            let tally = Tally::of(&record);
-            let voted = |record: &Record| record.ballots.iter().filter(|ballot| ballot.len > 0).count();
-            let Some(winner) = tally.winner() else {
-                break;
-            };
-            let others = record.ballots.iter().filter(|ballot| ballot.len > 0 && ballot.cells[0] != winner).count();
-            if tally.by_value(winner) {
-                self.add("tie won by value", 1);
-            }
-            if others > 0 {
-                self.add("contested win", 1);
-                self.add("ballot reset by an election", others);
-            }
-            if voted(&record) < record.n {
-                self.add("win with offices unheard", 1);
-            }
+        let (mut count, first) = (0, record.present);
+        while let Some(winner) = Tally::of(&record).winner() {
+            self.count_win(&record, winner, first);
+            let before = record.present;
             step(&mut record, &mut log);
             count += 1;
+            if is_move(winner) {
+                self.add("move settled by an election", 1);
+                self.add("move without effect", usize::from(record.present == before));
+            }
         }
         self.add("entry settled by an election", count);
         self.most("longest log", record.settled);
@@ -166,6 +157,33 @@ impl Survey {
             self.add("election of two or more entries", 1);
         }
     }
+
+    /// Counts what a step shows that this entry wins; `first` are the weights before the first step.
+    fn count_win(&mut self, record: &Record, winner: u32, first: [u16; OFFICES]) {
+        let voted = || record.ballots.iter().filter(|ballot| ballot.len > 0);
+        let others = voted().filter(|ballot| ballot.cells[0] != winner).count();
+        if Tally::of(record).by_value(winner) {
+            self.add("tie won by value", 1);
+        }
+        if others > 0 {
+            self.add("contested win", 1);
+            self.add("ballot reset by an election", others);
+        }
+        if voted().count() < record.n {
+            self.add("win with offices unheard", 1);
+        }
+        if winner_under(record, record.weights) != Some(winner) {
+            self.add("win that the founding weights do not give", 1);
+        }
+        if winner_under(record, first) != Some(winner) {
+            self.add("win by weight moved in the same election", 1);
+        }
+    }
+}
+
+/// The entry that would win with these weights.
+fn winner_under(record: &Record, present: [u16; OFFICES]) -> Option<u32> {
+    Tally::of(&Record { present, ..*record }).winner()
 }
 
 /// Counts what the script on the input shows, a line of output for each sight.

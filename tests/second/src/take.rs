@@ -34,7 +34,7 @@ pub(crate) fn refusal(record: &Record, log: &[u32], message: &Message) -> u32 {
     DONE
 }
 
-/// Writes the entries that the message's log has beyond the settled log.
+/// Writes the entries that the message's log has beyond the settled log, and moves the weight that they move.
 /// Every ballot whose path extends the new log keeps its path; any other becomes none.
 pub(crate) fn grow(record: &mut Record, log: &mut [u32], message: &Message) {
     let (old, new) = (record.settled, message.settled());
@@ -46,6 +46,7 @@ pub(crate) fn grow(record: &mut Record, log: &mut [u32], message: &Message) {
         *place = value;
     }
     record.settled = new;
+    record.present = weights_after(record.present, missing);
     for ballot in record.ballots.iter_mut().filter(|ballot| ballot.len > 0) {
         if ballot.len > missing.len() && ballot.cells.starts_with(missing) {
             ballot.shorten(missing.len());

@@ -105,6 +105,7 @@ impl State {
         match (letter, values.len()) {
             (b'd', 0) => *self = State::default(),
             (b'r', 11) => self.set_record(values)?,
+            (b'p', 8) => self.record.present = weights(values)?,
             (b'b', 2) => {
                 let ballot = self.record.ballots.get_mut(length(values, 0, OFFICES - 1)?)?;
                 *ballot = Ballot { len: values[1] as usize, cells: [0; TAIL] };
@@ -129,11 +130,11 @@ impl State {
         Some(())
     }
 
-    /// Sets all of the record but its ballots.
+    /// Sets all of the record but its ballots; the present weights are those of the founding.
     fn set_record(&mut self, values: &[u64]) -> Option<()> {
         let weights = weights(&values[2..10])?;
         let (n, own, settled) = (values[0] as usize, values[1] as usize, values[10] as usize);
-        self.record = Record { n, own, weights, settled, ..self.record };
+        self.record = Record { n, own, weights, present: weights, settled, ..self.record };
         Some(())
     }
 
@@ -199,11 +200,11 @@ impl State {
 
     /// The digest of the record, the log and the output.
     pub fn digest(&self) -> u64 {
-        let Record { n, own, weights, settled, ballots } = &self.record;
+        let Record { n, own, weights, present, settled, ballots } = &self.record;
         let mut digest = Digest::default();
         digest.add(*n as u64);
         digest.add(*own as u64);
-        for &weight in weights {
+        for &weight in weights.iter().chain(present) {
             digest.add(weight.into());
         }
         digest.add(*settled as u64);

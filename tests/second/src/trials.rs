@@ -8,6 +8,7 @@ mod boundaries;
 mod cases;
 mod damaged;
 mod layout;
+mod moves;
 mod product;
 mod random;
 
@@ -50,10 +51,14 @@ impl Trials {
     /// Makes the record what is given, by the lines that this needs.
     pub(crate) fn record(&mut self, record: &Record) {
         let held = self.state.record;
-        if (Record { ballots: held.ballots, ..*record }) != held {
+        let head = |record: &Record| (record.n, record.own, record.weights, record.settled);
+        if head(&held) != head(record) {
             let weights = record.weights.iter().map(|&weight| u64::from(weight));
             let head = [record.n as u64, record.own as u64].into_iter().chain(weights);
             self.set('r', head.chain([record.settled as u64]));
+        }
+        if self.state.record.present != record.present {
+            self.set('p', record.present.iter().map(|&weight| weight.into()));
         }
         for (office, ballot) in record.ballots.iter().enumerate() {
             if held.ballots[office] == *ballot {
@@ -177,6 +182,7 @@ pub fn script(kind: &str, seed: u64, count: usize) -> Option<Vec<u8>> {
             boundaries::write(&mut trials);
             cases::write(&mut trials);
             layout::write(&mut trials);
+            moves::write(&mut trials);
         }
         "elections" => product::elections(&mut trials),
         "takes" => product::takes(&mut trials),

@@ -2,6 +2,8 @@
 
 mod common;
 
+use std::mem::offset_of;
+
 use common::*;
 use second::calls::*;
 use second::elect::{elect, elect_step};
@@ -11,7 +13,8 @@ use second::take::take;
 
 #[test]
 fn layout() {
-    assert_eq!((size_of::<Ballot>(), size_of::<Record>()), (136, 1128));
+    assert_eq!((size_of::<Ballot>(), size_of::<Record>()), (136, 1144));
+    assert_eq!((offset_of!(Record, weights), offset_of!(Record, present), offset_of!(Record, settled)), (16, 32, 48));
 }
 
 #[test]
@@ -46,9 +49,12 @@ fn unsound() -> Vec<Record> {
     broken(&|r| r.n = 1);
     broken(&|r| r.own = 3);
     broken(&|r| r.own = usize::MAX);
-    broken(&|r| r.weights[3] = 1);
-    broken(&|r| r.weights[7] = 65535);
-    broken(&|r| r.weights = [0; 8]);
+    broken(&|r| (r.weights[3], r.present[3]) = (1, 1));
+    broken(&|r| (r.weights[7], r.present[7]) = (65535, 65535));
+    broken(&|r| (r.weights, r.present) = ([0; 8], [0; 8]));
+    broken(&|r| r.present[0] = 41);
+    broken(&|r| r.present[3] = 1);
+    broken(&|r| r.weights[0] = 41);
     broken(&|r| r.settled = 3);
     broken(&|r| r.settled = 1025);
     broken(&|r| r.settled = usize::MAX);
@@ -61,6 +67,7 @@ fn unsound() -> Vec<Record> {
     broken(&|r| r.ballots[7].len = 1);
     broken(&|r| r.ballots[1].cells[1] = entry(3, 0, 0));
     broken(&|r| r.ballots[1].cells[1] = entry(0, 64, 0));
+    broken(&|r| r.ballots[1].cells[1] = entry(0, 67, 1));
     broken(&|r| r.ballots[1].cells[1] = entry(0, 0, 10_000));
     bad
 }

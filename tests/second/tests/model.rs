@@ -20,7 +20,7 @@ struct Lists {
 }
 
 fn lists(sample: &Sample) -> Lists {
-    let Record { n, own, weights, settled, ballots } = sample.record;
+    let Record { n, own, weights, settled, ballots, .. } = sample.record;
     Lists {
         own,
         weights: weights[..n].iter().map(|&weight| weight.into()).collect(),
@@ -71,15 +71,32 @@ impl Lists {
         0
     }
 
+    /// The present weights: each move of the log in turn, if the issuer then has that much and the other office stays
+    /// at or below 65535.
+    fn present(&self) -> Vec<u64> {
+        let mut present = self.weights.clone();
+        for &e in &self.log {
+            let (issuer, line, code) = ((e / 16777216) as usize, e / 65536 % 256, u64::from(e % 65536));
+            if line >= 64 {
+                let to = line as usize - 64;
+                if to != issuer && present[issuer] >= code && present[to] + code <= 65535 {
+                    present[issuer] -= code;
+                    present[to] += code;
+                }
+            }
+        }
+        present
+    }
+
     /// T(e).
     fn support(&self, e: u32) -> u64 {
         let supports = |tail: &Path| tail.first() == Some(&e);
-        self.tails.iter().zip(&self.weights).filter(|(tail, _)| supports(tail)).map(|(_, weight)| weight).sum()
+        self.tails.iter().zip(self.present()).filter(|(tail, _)| supports(tail)).map(|(_, weight)| weight).sum()
     }
 
     /// U.
     fn unheard(&self) -> u64 {
-        self.tails.iter().zip(&self.weights).filter(|(tail, _)| tail.is_empty()).map(|(_, weight)| weight).sum()
+        self.tails.iter().zip(self.present()).filter(|(tail, _)| tail.is_empty()).map(|(_, weight)| weight).sum()
     }
 
     fn wins(&self, e: u32) -> bool {
@@ -186,17 +203,18 @@ fn issues_and_frames_are_what_the_paper_says() {
         let Sample { record, log } = &before;
         let model = lists(&before);
         let line = random.pick(&[0, 1, 5, 62, 63]);
+        let (edited, code) = random.pick(&[(line, 77), (64, 1), (64 + own as u32, 9999)]);
         let frames = model.frames(line);
         assert_eq!(settled_frame(record, log, line), (0, frames.0));
         assert_eq!(tentative_frame(record, log, line), (0, frames.1));
         assert_eq!(settled(record, log), (0, &model.log[..]));
-        let (number, after) = issue(*record, log, line, 77);
+        let (number, after) = issue(*record, log, edited, code);
         let length = model.tails[own].len();
         let expected = if length == 32 { 4 } else { 5 * u32::from(model.log.len() + length == 1024) };
         assert_eq!(number, expected);
         let mut tail = model.tails[own].clone();
         if number == 0 {
-            tail.push(own as u32 * 16777216 + line * 65536 + 77);
+            tail.push(own as u32 * 16777216 + edited * 65536 + code);
         }
         let mut wanted = *record;
         wanted.ballots[own] = Ballot::of(&tail);
@@ -204,21 +222,32 @@ fn issues_and_frames_are_what_the_paper_says() {
     }
 }
 
+/// Whether the word is an entry among n offices: an edit, or a move to one of them.
+fn proper(e: u32, n: usize) -> bool {
+    let (office, line, code) = (e / 16777216, e / 65536 % 256, e % 65536);
+    let move_of_weight = (64..64 + n as u32).contains(&line) && (1..=9999).contains(&code);
+    office < n as u32 && (line <= 63 && code <= 9999 || move_of_weight)
+}
+
 /// Soundness, sentence by sentence.
 fn sound_by_sentences(sample: &Sample) -> bool {
-    let Record { n, own, weights, settled, ballots } = sample.record;
+    let Record { n, own, weights, present, settled, ballots } = sample.record;
     if !(1..=8).contains(&n) || own >= n || settled > 1024 || sample.log.len() < 1024 {
         return false;
     }
-    let proper = |e: u32| (e / 16777216) < n as u32 && e / 65536 % 256 <= 63 && e % 65536 <= 9999;
     let total: u64 = weights.iter().map(|&weight| u64::from(weight)).sum();
     let mut good = total >= 1 && (n..8).all(|office| weights[office] == 0);
-    good &= (0..settled).all(|at| proper(sample.log[at]));
+    good &= (0..settled).all(|at| proper(sample.log[at], n));
     for (office, ballot) in ballots.iter().enumerate() {
         good &= ballot.len <= 32 && (office < n || ballot.len == 0) && ballot.len.saturating_add(settled) <= 1024;
-        good &= (0..32).all(|at| if at < ballot.len { proper(ballot.cells[at]) } else { ballot.cells[at] == 0 });
+        good &= (0..32).all(|at| if at < ballot.len { proper(ballot.cells[at], n) } else { ballot.cells[at] == 0 });
     }
-    good
+    let follows = || {
+        let mut expected = lists(sample).present();
+        expected.resize(8, 0);
+        expected == present.map(u64::from)
+    };
+    good && follows()
 }
 
 #[test]
@@ -256,7 +285,7 @@ fn believed(bytes: &[u8]) -> Option<Lists> {
         at += 4 + 4 * length;
     }
     let lists = Lists { own: number(2, 1)? as usize, weights, log, tails };
-    let proper = |e: &u32| (e / 16777216) < n as u32 && e / 65536 % 256 <= 63 && e % 65536 <= 9999;
+    let proper = |&e: &u32| proper(e, n);
     let good = (1..=8).contains(&n)
         && lists.own < n
         && settled <= 1024

@@ -64,7 +64,7 @@ fn places_and_slots() {
     let before = "i 0 1 1\ns 0 0\nt 0 0\ne 0\nv 0 0\nf 3\ne 0\n";
     assert_eq!(rehearsed(before.as_bytes()), "?\n?\n?\n?\n?\nf 2\n?\n");
     let input =
-        "f 2 1 1\nt 0 0\nt 0 3\nt 0 4\nt 2 0\ni 2 1 1\ni 1 64 1\ni 1 1 10000\ns 1 3\nt 0 3\nt 1 3\nv 1 64\nv 1 9\n";
+        "f 2 1 1\nt 0 0\nt 0 3\nt 0 4\nt 2 0\ni 2 1 1\ni 1 66 1\ni 1 1 10000\ns 1 3\nt 0 3\nt 1 3\nv 1 64\nv 1 9\n";
     let output = "f 0\nt 7\nt 7\n?\n?\n?\ni 3\ni 3\ns 0 12\nt 0\nt 9\nv 3 0 0\nv 0 0 0\n";
     assert_eq!(rehearsed(input.as_bytes()), output);
     // A refused founding keeps offices and slots; a done one empties the slots.
@@ -92,7 +92,7 @@ impl History {
     fn line(&mut self, line: &[u8]) {
         let Some(command) = Command::parse(line) else { return };
         let view = match command {
-            Command::Issue(k, line, code) if k < self.world.offices.len() && line < 64 && code < 10_000 => {
+            Command::Issue(k, line, code) if k < self.world.offices.len() && line < 72 && code < 10_000 => {
                 Some((own_path(&self.world, k), entry(k, line, code)))
             }
             _ => None,
@@ -181,6 +181,11 @@ fn fixed_seeds_show_all_that_a_rehearsal_can() {
         "election of two or more entries",
         "tie won by value",
         "win with offices unheard",
+        "win that the founding weights do not give",
+        "win by weight moved in the same election",
+        "move settled by an election",
+        "move without effect",
+        "weight moved by a take",
         "ballot reset by an election",
         "ballot reset by a grown log",
         "ballot kept by a grown log",

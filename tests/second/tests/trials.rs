@@ -20,13 +20,16 @@ fn the_documents_example() {
 }
 
 /// Lines outside the language, each for one cause.
-const WRONG: [&str; 48] = [
+const WRONG: [&str; 51] = [
     "",
     "d 1",
     "q",
     "Q",
     "r 1",
     "r 1 0 65536 0 0 0 0 0 0 0 0",
+    "p 1 0 0 0 0 0 0",
+    "p 1 0 0 0 0 0 0 0 0",
+    "p 65536 0 0 0 0 0 0 0",
     "b 8 0",
     "b 0",
     "b 0 18446744073709551616",

@@ -1,4 +1,4 @@
--- The definition's sum: at most 256 offices, so each part fits. It carries where the word is no entry.
+-- The definition's sum: at most 256 offices, so each part fits. It carries where the word is no entry that codes a line.
 use borrow.Author.Needs.{needs}
 use native.Mathlib.Omega.{arith}
 use mathlib.Core.Path.{_≡_, ap, _∙_}
@@ -6,7 +6,8 @@ use Prim.Native.Nat.{ℕ, _+_, _-_, _*_, _/_, _%_}
 use lib.Dec.{leb}
 use Rattle.lists.specs.Tests.{pick}
 use Rattle.entries.specs.Carries.{raised, noCarry}
-use Rattle.entries.proofs.Carries.{at-most-256, no-carry-raised}
+use Rattle.entries.proofs.Carries.{no-carry-raised}
+use Rattle.entries.proofs.Word.{at-most-256}
 use Rattle.entries.proofs.raised.Statement.{statement}
 use Rattle.entries.proofs.raised.Tie as tie
 

@@ -10,10 +10,10 @@ use Rattle.reading.proofs.log_within.Statement.{statement}
 use Rattle.reading.proofs.log_within.Tie as tie
 
 abbrev Inv-loop : tie.InvT-loop
-Inv-loop rest n k at₀ bits₀ i₀ at bits i = (i ≤ k) × (leftAt n k bits at i rest ≡ logWithin rest n k)
+Inv-loop rest n k at₀ good₀ i₀ at good i = (i ≤ k) × (leftAt n k good at i rest ≡ logWithin rest n k)
 
 abbrev μ-loop : tie.MeasureT-loop
-μ-loop rest n k at₀ bits₀ i₀ at bits i = k - i
+μ-loop rest n k at₀ good₀ i₀ at good i = k - i
 
 -- the places of the code: the start, and the turn of the loop
 abbrev start : tie.At-loop Inv-loop μ-loop → tie.Start Inv-loop μ-loop
@@ -30,15 +30,15 @@ returns c =
 loop-again : tie.Need-loop-again Inv-loop μ-loop
 loop-again c =
     let x = c .before .before in
-    (omega arith, log-turn _ _ _ _ _ _ _ (x .before .loop-test .taken) (x .read-log .ensures) (not-false _ (c .before .if1 .left)) (search needs) _ (c .raised .ensures .0) ∙ turn x .loop .inv .1)
+    (omega arith, log-turn _ _ _ _ _ _ _ (x .before .loop-test .taken) (x .read-log .ensures) (not-false _ (c .before .if1 .left)) _ (c .is-entry .ensures) ∙ turn x .loop .inv .1)
 
 returns-2 : tie.Need-returns-2 Inv-loop μ-loop
 returns-2 c =
-    let l = c .before .before .loop in
-    let a = start (c .before .before) .args in
-    c .no-carry .ensures ∙ log-ends _ _ _ (l .at) _ (a .rest .now) (c .before .loop-test .left) ∙ l .inv .1
+    let l = c .before .loop in
+    let a = start (c .before) .args in
+    log-ends _ _ _ (l .at) _ (a .rest .now) (c .loop-test .left) ∙ l .inv .1
 
 pub log-within-spec : {M : Type 1} → statement M
 log-within-spec =
     tie.close (tie.spec Inv-loop μ-loop (λ c. (search needs, log-begins _ _ _)) (λ c κs. search needs) returns (λ c κs. search needs) (λ c. search needs) (λ c. search needs)
-    loop-again (λ c κs. search needs) returns-2)
+    loop-again returns-2)

@@ -2,8 +2,8 @@
 
 use joukerpan::{Entry, Office};
 
-/// The own edits that a take or an election has lost: pending before, neither pending nor settled after.
-/// Edits settle oldest first, and what is behind a lost one is lost with it.
+/// The own edits, and moves of weight, that a take or an election has lost: pending before, neither pending
+/// nor settled after. They settle oldest first, and what is behind a lost one is lost with it.
 pub fn lost(before: &Office, after: &Office) -> Vec<Entry> {
     let news = after.settled().iter().skip(before.settled().len());
     let settled = news.filter(|&&word| usize::from(Entry::from(word).office) == after.own()).count();

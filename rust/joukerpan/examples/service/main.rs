@@ -1,5 +1,6 @@
 //! A service of three offices: a thread each, a bad network between them, and every office killed and started
-//! again from its file, more than once. At the end everybody hears everybody, and all settled frames agree.
+//! again from its file, more than once. At the end everybody hears everybody, and all settled frames agree, and so
+//! do the weights, which the offices have moved between them.
 //!
 //!     cargo run --example service [SEED]
 
@@ -16,7 +17,7 @@ use std::{env, fs, process, thread};
 
 use desk::Desk;
 use dice::Dice;
-use joukerpan::{Entry, Office, Refused};
+use joukerpan::{Office, Refused, LINES};
 use lost::lost;
 use network::Network;
 use storage::{store, stored};
@@ -32,11 +33,14 @@ fn file_of(folder: &Path, own: usize) -> PathBuf {
     folder.join(format!("office-{own}"))
 }
 
-/// Plays supervisors and clocks: one turn in four is an edit.
+/// Plays supervisors and clocks: one turn in four is an edit, or now and then a move of weight.
 fn live(network: &Network, dice: &mut Dice) {
     for _ in 0..TURNS {
         let office = dice.below(WEIGHTS.len());
-        let edit = (dice.below(64) as u32, dice.below(10_000) as u32);
+        let edit = match dice.below(8) {
+            0 => (LINES + dice.below(WEIGHTS.len()) as u32, 1 + dice.below(20) as u32),
+            _ => (dice.below(64) as u32, dice.below(10_000) as u32),
+        };
         network.turn(office, (dice.below(4) == 0).then_some(edit));
     }
     (0..WEIGHTS.len()).for_each(|office| network.stop(office));
@@ -71,9 +75,10 @@ fn hear_all(offices: &mut [Office]) -> Result<usize, Refused> {
     }
 }
 
-/// Whether both offices show the same in all 64 lines of the settled frame.
+/// Whether both offices show the same in all 64 lines of the settled frame, and have the same weights.
 fn alike(a: &Office, b: &Office) -> bool {
-    a.settled() == b.settled() && (0..joukerpan::LINES).all(|line| a.settled_frame(line) == b.settled_frame(line))
+    let frames = (0..LINES).all(|line| a.settled_frame(line) == b.settled_frame(line));
+    frames && a.settled() == b.settled() && a.present() == b.present()
 }
 
 fn main() -> Outcome<()> {
@@ -103,14 +108,19 @@ fn report(desks: &[Desk], network: &Network, offices: &[Office], gone: usize) {
     let edits: usize = desks.iter().map(|desk| desk.edits).sum();
     let lost: usize = gone + desks.iter().map(|desk| desk.lost).sum::<usize>();
     let kills: usize = desks.iter().map(|desk| desk.kills).sum();
-    let settled: Vec<Entry> = offices[0].settled().iter().map(|&word| word.into()).collect();
-    println!("{edits} edits: {} settled, {lost} lost", settled.len());
+    let settled = offices[0].settled();
+    println!(
+        "{edits} edits: {} settled, {lost} lost; weights {WEIGHTS:?}, now {:?}",
+        settled.len(),
+        offices[0].present()
+    );
     let [delivered, missing, repeated] =
         [&network.delivered, &network.lost, &network.repeated].map(|n| n.load(Relaxed));
     println!("{delivered} messages came, {missing} were lost, {repeated} came with an older one; {kills} kills");
     assert!(offices.iter().all(|office| alike(office, &offices[0])), "two offices settled differently");
     assert!(offices.iter().all(|office| office.pending().is_empty()), "an edit is neither settled nor lost");
     assert_eq!(settled.len() + lost, edits, "an edit was lost without a notice");
+    assert_eq!(offices[0].present().iter().sum::<u16>(), WEIGHTS.iter().sum(), "weight is missing");
     assert!(kills > 0 && missing > 0 && repeated > 0 && !settled.is_empty(), "nothing was tried");
     println!("all settled frames agree");
 }

@@ -9,7 +9,7 @@ use crate::dice::Dice;
 pub enum Event {
     /// Another office's message.
     Message(Vec<u8>),
-    /// It is time to send, and the supervisor may have edited a line: its number and code.
+    /// It is time to send, and the supervisor may have issued an entry: its line and code.
     /// What it holds last is dropped when the event is done.
     Turn(Option<(u32, u32)>, Sender<()>),
     /// The run ends.

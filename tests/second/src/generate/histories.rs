@@ -1,7 +1,7 @@
 //! Rounds of calls at freshly founded offices.
 
 use super::{weights, Script};
-use crate::record::{LOG, OFFICES, TAIL};
+use crate::record::{CODES, LINES, LOG, OFFICES, TAIL};
 
 /// How often each call is made, in parts of their sum, and what is issued.
 struct Habit {
@@ -16,11 +16,15 @@ struct Habit {
     codes: usize,
     /// How many in a hundred issues and views are outside the limits.
     outside: usize,
+    /// How many in a hundred issues move weight.
+    moves: usize,
 }
 
-const PLAIN: Habit = Habit { issue: 25, send: 20, take: 35, elect: 12, view: 8, lines: 64, codes: 10_000, outside: 3 };
+const PLAIN: Habit =
+    Habit { issue: 25, send: 20, take: 35, elect: 12, view: 8, lines: 64, codes: 10_000, outside: 3, moves: 0 };
 
-const CONTEST: Habit = Habit { issue: 18, send: 24, take: 40, elect: 14, view: 4, lines: 2, codes: 4, outside: 0 };
+const CONTEST: Habit =
+    Habit { issue: 18, send: 24, take: 40, elect: 14, view: 4, lines: 2, codes: 4, outside: 0, moves: 0 };
 
 /// Makes one call. Slots are few, so that messages are taken late, twice or never.
 fn call(script: &mut Script, habit: &Habit) {
@@ -41,7 +45,7 @@ fn call(script: &mut Script, habit: &Habit) {
     }
 }
 
-/// A line and a code.
+/// A line and a code, some of them outside the limits.
 fn edit(script: &mut Script, habit: &Habit) -> (usize, usize) {
     let random = &mut script.random;
     let (line, code) = (random.below(habit.lines), random.below(habit.codes));
@@ -49,14 +53,30 @@ fn edit(script: &mut Script, habit: &Habit) -> (usize, usize) {
         return (line, code);
     }
     match random.below(4) {
-        0 | 1 => (random.pick(&[64, 65, 255, 256, 320, 65535]), code),
+        0 | 1 => (random.pick(&[64, 65, 71, 72, 255, 256, 320, 65535]), code),
         2 => (line, random.pick(&[10_000, 10_001, 16_384, 65_535])),
         _ => (random.pick(&[63, 64]), random.pick(&[9999, 10_000])),
     }
 }
 
+/// A line and a code that move weight from the office, by its own record around what the move may be; seldom no move.
+fn move_from(script: &mut Script, office: usize) -> (usize, usize) {
+    let (first, second, present) = (script.office(), script.office(), script.present(office));
+    let to = if first == office { second } else { first };
+    let (has, room) = (present[office], usize::from(u16::MAX) - present[to]);
+    let random = &mut script.random;
+    let weight = random.pick(&[1, has / 3, has / 2, has, has + 1, room.min(has), has.min(room + 1)]);
+    let (line, code) = (LINES as usize + to, weight.clamp(1, CODES as usize - 1));
+    match random.below(50) {
+        0 => (line, 0),
+        1 => (LINES as usize + script.n(), code),
+        _ => (line, code),
+    }
+}
+
 fn issue_one(script: &mut Script, office: usize, habit: &Habit) {
-    let (line, code) = edit(script, habit);
+    let moves = script.random.percent(habit.moves);
+    let (line, code) = if moves { move_from(script, office) } else { edit(script, habit) };
     script.call('i', &[office, line, code]);
 }
 
@@ -92,6 +112,7 @@ pub(super) fn mixed(script: &mut Script) {
     }
     let few = script.random.percent(50);
     let habit = if few { Habit { lines: 3, codes: 9, ..PLAIN } } else { PLAIN };
+    let habit = Habit { moves: script.random.pick(&[0, 0, 10, 50]), ..habit };
     for _ in 0..script.random.within(40, 400) {
         call(script, &habit);
     }
@@ -108,19 +129,51 @@ pub(super) fn contested(script: &mut Script) {
     script.found(&given);
     let habit = Habit { lines: script.random.within(1, 2), ..CONTEST };
     for _ in 0..script.random.within(2, 8) {
-        for office in 0..n {
-            if script.random.percent(80) {
+        contest(script, &habit);
+    }
+}
+
+/// Most offices issue before they hear of each other; then most send.
+fn contest(script: &mut Script, habit: &Habit) {
+    for office in 0..script.n() {
+        if script.random.percent(80) {
+            issue_one(script, office, habit);
+        }
+    }
+    for office in 0..script.n() {
+        if script.random.percent(70) {
+            spread(script, office, 70);
+        }
+    }
+    for _ in 0..script.random.within(2, 15) {
+        call(script, habit);
+    }
+}
+
+/// Few offices move weight and edit one line, apart or behind each other's moves. Weights are level, uneven, or as
+/// large as can be or nearly so.
+pub(super) fn moves(script: &mut Script) {
+    let n = script.random.within(2, 4);
+    let level = script.random.pick(&[1, 2, 10, 50, 5000]);
+    let given = match script.random.below(4) {
+        0 | 1 => vec![level; n],
+        2 => (1..n).map(|_| script.random.pick(&[level, 2 * level, 0])).chain([level]).collect(),
+        _ => (0..n).map(|_| 65535 - script.random.below(3) * level).collect(),
+    };
+    script.found(&given);
+    let habit = Habit { lines: 1, moves: script.random.pick(&[40, 70]), ..CONTEST };
+    for _ in 0..script.random.within(2, 6) {
+        contest(script, &habit);
+        for _ in 0..2 {
+            let office = script.office();
+            for _ in 0..script.random.within(1, 3) {
                 issue_one(script, office, &habit);
             }
+            spread(script, office, 80);
         }
-        for office in 0..n {
-            if script.random.percent(70) {
-                spread(script, office, 70);
-            }
-        }
-        for _ in 0..script.random.within(2, 15) {
-            call(script, &habit);
-        }
+        let office = script.office();
+        script.call('e', &[office]);
+        spread(script, office, 80);
     }
 }
 
@@ -150,17 +203,19 @@ pub(super) fn tails(script: &mut Script) {
 }
 
 /// One office outweighs the others: the log grows to its end, others catch up late and in long pieces.
+/// An office alone has only itself to move weight to.
 pub(super) fn long(script: &mut Script) {
     let n = script.random.within(1, 3);
     let mut given = vec![1; n];
     given[0] = 10;
     script.found(&given);
+    let habit = Habit { moves: if n == 1 { 30 } else { 0 }, ..PLAIN };
     let mut rounds = 0;
     while script.left > 0 && script.settled(0) < LOG && rounds < 400 {
         rounds += 1;
         let length = script.random.pick(&[5, 17, 31, TAIL, TAIL, TAIL + 1]);
         for _ in 0..length {
-            issue_one(script, 0, &PLAIN);
+            issue_one(script, 0, &habit);
         }
         if script.random.percent(30) {
             spread(script, 0, 50);

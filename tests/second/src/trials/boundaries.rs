@@ -83,7 +83,7 @@ fn entries(trials: &mut Trials) {
     for line in ["0", "63", "64", "65", "255", "256", "65536", "4294967295"] {
         trials.begin();
         trials.sample(&Sample::new(2, &WEIGHTS, &[A], &[]));
-        for code in ["0", "9999", "10000", "10001", "65535", "65536", "16777216", "4294967295"] {
+        for code in ["0", "1", "9999", "10000", "10001", "65535", "65536", "16777216", "4294967295"] {
             trials.say(&format!("I {line} {code}"));
         }
         trials.say(&format!("V {line}"));
@@ -127,7 +127,7 @@ fn frames(trials: &mut Trials) {
 /// A change that breaks one clause of soundness.
 type Break = fn(&mut Record);
 
-const BREAKS: [Break; 30] = [
+const BREAKS: [Break; 31] = [
     |r| r.n = 0,
     |r| r.n = 1,
     |r| r.n = 2,
@@ -137,9 +137,9 @@ const BREAKS: [Break; 30] = [
     |r| r.own = 3,
     |r| r.own = 257,
     |r| r.own = usize::MAX,
-    |r| r.weights[3] = 1,
-    |r| r.weights[7] = 65535,
-    |r| r.weights = [0; 8],
+    |r| (r.weights[3], r.present[3]) = (1, 1),
+    |r| (r.weights[7], r.present[7]) = (65535, 65535),
+    |r| (r.weights, r.present) = ([0; 8], [0; 8]),
     |r| r.settled = 3,
     |r| r.settled = 1025,
     |r| r.settled = 1 << 32,
@@ -156,6 +156,7 @@ const BREAKS: [Break; 30] = [
     |r| r.ballots[7].len = usize::MAX,
     |r| r.ballots[1].cells[0] = entry(3, 0, 0),
     |r| r.ballots[1].cells[1] = entry(0, 64, 0),
+    |r| r.ballots[1].cells[1] = entry(0, 67, 1),
     |r| r.ballots[2].cells[0] = entry(0, 0, 10_000),
     |r| r.ballots[1].cells[1] = u32::MAX,
 ];
@@ -183,7 +184,7 @@ fn unsound_records(trials: &mut Trials) {
 
 /// A word that is no entry, settled or past the settled ones, and logs around their least length.
 fn unsound_logs(trials: &mut Trials) {
-    for word in [entry(3, 0, 0), entry(0, 64, 0), entry(0, 0, 10_000), u32::MAX] {
+    for word in [entry(3, 0, 0), entry(0, 64, 0), entry(0, 67, 1), entry(0, 0, 10_000), u32::MAX] {
         for at in [0, 1, 2] {
             let mut sample = whole(trials);
             sample.log[at] = word;

@@ -20,7 +20,7 @@ pub(super) fn write(trials: &mut Trials) {
 }
 
 /// Elects, shows what is settled, and elects again.
-fn election(trials: &mut Trials, weights: &[u16], ballots: Ballots) {
+pub(super) fn election(trials: &mut Trials, weights: &[u16], ballots: Ballots) {
     trials.begin();
     trials.sample(&Sample::new(0, weights, &[], ballots));
     for line in ["E", "P", "V 5", "E"] {
@@ -77,7 +77,7 @@ fn full_elections(trials: &mut Trials) {
 }
 
 /// Takes a message of one record at another, twice.
-fn taking(trials: &mut Trials, sender: &Sample, receiver: &Sample) {
+pub(super) fn taking(trials: &mut Trials, sender: &Sample, receiver: &Sample) {
     trials.begin();
     trials.sent(sender);
     trials.output(0);

@@ -6,7 +6,7 @@ use crate::samples::Sample;
 
 /// Bytes of a proper message that make it improper, or proper but refused: place and value.
 /// The message is that of `proper`; marks, sender, n, weights, settled length, entries, ballots, end.
-const CHANGES: [(usize, u8); 44] = [
+const CHANGES: [(usize, u8); 47] = [
     (0, 0x52),
     (1, 0x47),
     (2, 0),
@@ -34,6 +34,8 @@ const CHANGES: [(usize, u8); 44] = [
     (14, 3),
     (15, 63),
     (15, 64),
+    (15, 66),
+    (15, 67),
     (16, 39),
     (16, 40),
     (24, 0x43),
@@ -45,6 +47,7 @@ const CHANGES: [(usize, u8); 44] = [
     (27, 2),
     (28, 3),
     (29, 64),
+    (29, 67),
     (30, 40),
     (34, 0),
     (35, 1),

@@ -68,7 +68,7 @@ fn message(random: &mut Random, family: &Family, receiver: usize) -> Vec<u8> {
 /// Makes the record one whose message is of the layout, its numbers not all within the limits.
 fn forge(random: &mut Random, sender: &mut Sample) {
     let Sample { record, log } = sender;
-    let wrong = random.pick(&[(record.n as u32) << 24, 64 << 16, 10_000, u32::MAX]);
+    let wrong = random.pick(&[(record.n as u32) << 24, 64 << 16, (64 + record.n as u32) << 16 | 1, 10_000, u32::MAX]);
     let ballot = &mut record.ballots[random.below(record.n)];
     match random.below(4) {
         0 => record.own = random.pick(&[record.n, 8, 255]),
@@ -94,7 +94,7 @@ fn damaged(random: &mut Random, mut bytes: Vec<u8>) -> Vec<u8> {
 
 /// One call.
 fn call(trials: &mut Trials, random: &mut Random) {
-    let line = random.pick(&[0, 1, 5, 62, 63, 63, 64, 256, u32::MAX]);
+    let line = random.pick(&[0, 1, 5, 62, 63, 63, 64, 65, 66, 71, 72, 256, u32::MAX]);
     let code = random.pick(&[0, 1, 120, 9999, 9999, 10_000, 65_536, u32::MAX]);
     match random.below(9) {
         0 | 1 => trials.say("T"),

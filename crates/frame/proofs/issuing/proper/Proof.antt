@@ -1,22 +1,31 @@
--- Two tests, as the code joins them.
-use mathlib.Core.Path.{_≡_, ap₂, _∙_}
+-- The tests of the definition: the code, then the line, and on a line of moves the code and the office.
 use native.Mathlib.Omega.{arith}
-use Prim.Native.Nat.{ℕ, suc}
-use lib.Dec.{leb, ltb}
-use borrow.Author.Tests.{leb-true, ltb-true, le-leb, lt-ltb}
-use Rattle.lists.specs.Tests.{both}
+use mathlib.Core.Path.{_≡_, sym, _∙_}
+use Prim.Native.Nat.{_-_}
+use lib.Dec.{ltb}
+use borrow.Author.Needs.{needs}
+use borrow.Author.Tests.{ltb-true, lt-ltb}
 use Rattle.lists.proofs.Tests.{alike}
-use Rattle.lists.proofs.Walk.{and-both}
 use Rattle.protocol.specs.Entry.{proper}
+use Rattle.protocol.proofs.Moves.{proper-true, proper-of, proper-not}
 use Rattle.frame.proofs.issuing.proper.Statement.{statement}
 use Rattle.frame.proofs.issuing.proper.Tie as tie
 
-below : (x k : ℕ) → ltb x (suc k) ≡ leb x k
-below x k = alike (ltb x (suc k)) (leb x k) (λ e. le-leb x k (omega (arith, ltb-true x (suc k) e))) (λ e. lt-ltb x (suc k) (omega (arith, leb-true x k e)))
-
 returns : tie.Need-returns
-unfolding proper
-returns c = and-both _ _ ∙ ap₂ both (below (c .args .line) 63) (below (c .args .code) 9999)
+returns c = proper-not _ _ _ (λ p. omega (arith, p .code-ok))
+
+returns-2 : tie.Need-returns-2
+returns-2 c = sym (proper-of _ _ _ (record { line-ok = omega arith; code-ok = omega arith; some = λ h. absurd (omega arith) }))
+
+returns-3 : tie.Need-returns-3
+returns-3 c = proper-not _ _ _ (λ p. omega (arith, p .some (omega arith)))
+
+returns-4 : tie.Need-returns-4
+returns-4 c =
+    let a = c .before .before .before .args in
+    alike (ltb (a .line - 64) (a .n)) (proper (a .n) (a .line) (a .code))
+    (λ e. let h = ltb-true (a .line - 64) (a .n) e in proper-of _ _ _ (record { line-ok = omega arith; code-ok = omega arith; some = λ _. omega arith }))
+    (λ e. let p = proper-true _ _ _ e .line-ok in lt-ltb (a .line - 64) (a .n) (omega arith))
 
 pub proper-spec : {M : Type 1} → statement M
-proper-spec = tie.close (tie.spec returns)
+proper-spec = tie.close (tie.spec returns returns-2 returns-3 (λ c. search needs) returns-4)

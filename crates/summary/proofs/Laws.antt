@@ -1,0 +1,32 @@
+-- Summaries of logs.
+--     summary-append      a log in two parts: the second goes on from the summary of the first
+--     summary-next        one entry more
+--     same-summary        the test of two summaries, both ways
+-- Assumes nothing.
+use mathlib.Core.Path.{_≡_, refl, _∙_}
+use mathlib.Core.Bool.{true}
+use mathlib.Core.List.{List, [], _∷_, _++_}
+use Prim.Native.Nat.{ℕ}
+use Rattle.lists.proofs.Same.{same-true, same-refl}
+use Rattle.protocol.specs.Moves.{move, weightsAfter}
+use Rattle.protocol.proofs.Moves.{weights-append}
+use Rattle.summary.specs.Summary.{summaryAfter, summaryNext, sameSummary}
+use Rattle.summary.specs.declared.Summary.{Summary}
+
+pub summary-append : (s : Summary) (a b : List ℕ) → summaryAfter s (a ++ b) ≡ summaryAfter (summaryAfter s a) b
+summary-append s a b = λ i. record { present = weights-append (s .present) a b i }
+
+summary-one : (s : Summary) (e : ℕ) → summaryAfter s (e ∷ []) ≡ summaryNext s e
+unfolding weightsAfter
+summary-one s e = refl
+
+pub summary-next : (s : Summary) (log : List ℕ) (e : ℕ) → summaryAfter s (log ++ e ∷ []) ≡ summaryNext (summaryAfter s log) e
+summary-next s log e = summary-append s log (e ∷ []) ∙ summary-one (summaryAfter s log) e
+
+pub same-summary-true : (a b : Summary) → sameSummary a b ≡ true → a ≡ b
+unfolding sameSummary
+same-summary-true a b e = λ i. record { present = same-true (a .present) (b .present) e i }
+
+pub same-summary-refl : (a : Summary) → sameSummary a a ≡ true
+unfolding sameSummary
+same-summary-refl a = same-refl (a .present)

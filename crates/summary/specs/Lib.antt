@@ -1,0 +1,2 @@
+-- The definitions that the contracts of `summary` cite.
+pub mod Summary

@@ -1,0 +1,26 @@
+-- What the entries of a settled log have done: a fold from a start, entry by entry. Assumes nothing.
+use mathlib.Core.Bool.{Bool, not}
+use mathlib.Core.List.{List}
+use Prim.Native.Nat.{ℕ}
+use Rattle.lists.specs.Tests.{same}
+use Rattle.protocol.specs.Moves.{isMove, move, weightsAfter}
+use Rattle.summary.specs.declared.Summary.{Summary}
+
+-- the start of a frame with these founding weights: no entry has done anything
+abbrev pub startWith : List ℕ → Summary
+startWith founding = record { present = founding }
+
+-- after the entries of a log
+abbrev pub summaryAfter : Summary → List ℕ → Summary
+summaryAfter s log = record { present = weightsAfter (s .present) log }
+
+-- after one entry
+abbrev pub summaryNext : Summary → ℕ → Summary
+summaryNext s e = record { present = move (s .present) e }
+
+unfoldable pub sameSummary : Summary → Summary → Bool
+sameSummary a b = same (a .present) (b .present)
+
+-- an entry that moves no weight
+abbrev pub noMove : ℕ → Bool
+noMove e = not (isMove e)

@@ -1,0 +1,136 @@
+// What the entries of a settled log have done, as a record holds it: the weights after its moves.
+ghost use mathlib.Core.Path.{_≡_};
+ghost use Prim.Native.Nat.{_<_};
+ghost use lib.ListN.{length};
+ghost use Rattle.lists.specs.Tests.{allB};
+ghost use Rattle.protocol.specs.Entry.{officeOf, lineOf, codeOf};
+ghost use Rattle.protocol.specs.Moves.{move, weightsAfter};
+ghost use Rattle.summary.specs.Summary.{noMove, startWith, summaryAfter, summaryNext, sameSummary};
+
+// The present weights.
+#[repr(C)]
+pub struct Summary {
+    pub present: [u16; 8],
+}
+
+// The three parts of a word.
+fn office_of(word: u32) -> usize
+    ensures { λ r. ⌜ (r ≡ officeOf word) × (r < 256) ⌝ }
+{
+    (word / 16777216) as usize
+}
+
+fn line_of(word: u32) -> usize
+    ensures { λ r. ⌜ (r ≡ lineOf word) × (r < 256) ⌝ }
+{
+    (word / 65536 % 256) as usize
+}
+
+fn code_of(word: u32) -> u16
+    ensures { λ r. ⌜ (r ≡ codeOf word) × (r < 65536) ⌝ }
+{
+    (word % 65536) as u16
+}
+
+// Whether no word is a move: the upper two bits of every line are zero. Words are joined by `|` first, so that the walk runs on vectors.
+fn no_moves(words: &[u32]) -> bool
+    ensures { λ r. ⌜ r ≡ allB noMove (now (words .entry)) ⌝ }
+{
+    let mut bits: u32 = 0;
+    for i in 0..words.len() {
+        bits = bits | words[i];
+    }
+    bits / 4194304 % 4 == 0
+}
+
+// What the entry does to the weights: a move takes effect only if its office has that much, and the other office can hold it.
+fn settle_move(weights: &mut [u16; 8], word: u32)
+    requires { ⌜ length (now weights) ≡ 8 ⌝ }
+    ensures { λ r. ⌜ now (weights .exit) ≡ move (now (weights .entry)) word ⌝ }
+{
+    let line = line_of(word);
+    let from = office_of(word);
+    let code = code_of(word);
+    if line < 64 {
+        return;
+    }
+    let to = line - 64;
+    if to >= 8 {
+        return;
+    }
+    if from >= 8 {
+        return;
+    }
+    if from == to {
+        return;
+    }
+    let has = weights[from];
+    let gets = weights[to];
+    if has < code {
+        return;
+    }
+    if gets > 65535 - code {
+        return;
+    }
+    weights[from] = has - code;
+    weights[to] = gets + code;
+}
+
+// The weights after one entry.
+fn moved(weights: [u16; 8], word: u32) -> [u16; 8]
+    ensures { λ r. ⌜ r ≡ move weights word ⌝ }
+{
+    let mut next = weights;
+    settle_move(&mut next, word);
+    next
+}
+
+// The weights after the entries of a log. Most logs have no moves.
+fn weights_after(weights: [u16; 8], words: &[u32]) -> [u16; 8]
+    ensures { λ r. ⌜ r ≡ weightsAfter weights (now (words .entry)) ⌝ }
+{
+    let mut present = weights;
+    if no_moves(words) {
+        return present;
+    }
+    for i in 0..words.len() {
+        settle_move(&mut present, words[i]);
+    }
+    present
+}
+
+impl Summary {
+    // Of an empty log: the founding weights.
+    pub fn start(founding: [u16; 8]) -> Summary
+        ensures { λ r. ⌜ r ≡ startWith founding ⌝ }
+    {
+        Summary { present: founding }
+    }
+
+    // After the entries of a log.
+    pub fn after(self, words: &[u32]) -> Summary
+        ensures { λ r. ⌜ r ≡ summaryAfter self (now (words .entry)) ⌝ }
+    {
+        let weights = self.present;
+        let present = weights_after(weights, words);
+        Summary { present }
+    }
+
+    // After one entry more.
+    pub fn next(self, word: u32) -> Summary
+        ensures { λ r. ⌜ r ≡ summaryNext self word ⌝ }
+    {
+        let weights = self.present;
+        let present = moved(weights, word);
+        Summary { present }
+    }
+
+    // Whether two are the same.
+    pub fn same(self, other: Summary) -> bool
+        ensures { λ r. ⌜ r ≡ sameSummary self other ⌝ }
+    {
+        let mine = self.present;
+        let theirs = other.present;
+        lists::same_eight(mine, theirs)
+    }
+}
