@@ -68,6 +68,7 @@ typedef struct {
  */
 typedef struct {
     uint16_t present[JOUKERPAN_OFFICES];  /* present weights, by which elect counts votes; same total */
+    uint32_t codes[JOUKERPAN_LINES];      /* settled code of each line; 0 where it has no entry */
 } joukerpan_summary;
 
 /*
@@ -80,7 +81,7 @@ typedef struct {
     size_t n;                                     /* offices there are */
     size_t own;                                   /* this office, below n */
     uint16_t weights[JOUKERPAN_OFFICES];          /* founding weights, which messages carry; zero from place n on */
-    joukerpan_summary summary;                    /* what the settled log has done: the present weights */
+    joukerpan_summary summary;                    /* what the settled log has done */
     size_t settled;                               /* settled length, at most 1,024 */
     joukerpan_ballot ballots[JOUKERPAN_OFFICES];  /* last known ballot of each office */
 } joukerpan_record;
@@ -112,6 +113,11 @@ typedef struct {
 } joukerpan_framed;
 
 typedef struct {
+    uint32_t number;
+    uint32_t codes[JOUKERPAN_LINES];  /* one a line; 0 where there is no entry for it, and each 0 where refused */
+} joukerpan_lines;
+
+typedef struct {
     joukerpan_record record;
     uint32_t number;
     size_t count;  /* entries settled; 0 where none won, and where refused */
@@ -127,13 +133,17 @@ typedef struct {
     uint32_t number;
 } joukerpan_taken;
 
-/* A fresh record: an empty log, no ballots, present weights as founded. Refused: 1 (log size alone), 2. */
+/*
+ * A fresh record: an empty log, no ballots, present weights as founded, codes 0.
+ * Refused: 1 (log size alone), 2.
+ */
 joukerpan_founded joukerpan_found(size_t n, size_t own, joukerpan_weights weights,
                                   const uint32_t *log, size_t log_len);
 
 /*
- * Whether the record with its log is sound: a log of 1,024 words or more, every limit kept, and the
- * present weights those that follow from the founding weights and the settled log.
+ * Whether the record with its log is sound: a log of 1,024 words or more, every limit kept, the present
+ * weights those that follow from the founding weights and the settled log, and each code that of the last
+ * entry for its line in the settled log, 0 where there is none.
  */
 bool joukerpan_sound(joukerpan_record record, const uint32_t *log, size_t log_len);
 
@@ -149,6 +159,13 @@ joukerpan_issued joukerpan_issue(joukerpan_record record, const uint32_t *log, s
 
 /* How many words at the front of the log are settled: the entries that no office will contradict. Refused: 1. */
 joukerpan_part joukerpan_settled(joukerpan_record record, const uint32_t *log, size_t log_len);
+
+/*
+ * The settled frame whole: for each of the 64 lines the code that joukerpan_settled_frame answers. One call
+ * tests the record and its log once, as every call does, so a screen that shows all lines asks this one.
+ * Refused: 1.
+ */
+joukerpan_lines joukerpan_all_lines(joukerpan_record record, const uint32_t *log, size_t log_len);
 
 /* The code of the last entry for the line in the settled log. Refused: 1, 3. */
 joukerpan_framed joukerpan_settled_frame(joukerpan_record record, const uint32_t *log, size_t log_len,
@@ -174,7 +191,8 @@ joukerpan_sent joukerpan_send(joukerpan_record record, const uint32_t *log, size
 
 /*
  * Works in another office's message, any bytes: first the settled entries that this office misses, with
- * the weights that they move, then every ballot whose path extends the known one. Refused: 1, 7, 8, 9, 10.
+ * the weights that they move and the codes that they set, then every ballot whose path extends the known
+ * one. Refused: 1, 7, 8, 9, 10.
  */
 joukerpan_taken joukerpan_take(joukerpan_record record, uint32_t *log, size_t log_len,
                                const uint8_t *message, size_t message_len);
@@ -190,29 +208,32 @@ joukerpan_taken joukerpan_take(joukerpan_record record, uint32_t *log, size_t lo
 JOUKERPAN_ASSERT(sizeof(size_t) == 8, "joukerpan: a 64-bit target");
 JOUKERPAN_ASSERT(sizeof(joukerpan_ballot) == 136, "joukerpan_ballot: size");
 JOUKERPAN_ASSERT(offsetof(joukerpan_ballot, cells) == 8, "joukerpan_ballot: cells");
-JOUKERPAN_ASSERT(sizeof(joukerpan_summary) == 16, "joukerpan_summary: size");
-JOUKERPAN_ASSERT(sizeof(joukerpan_record) == 1144, "joukerpan_record: size");
+JOUKERPAN_ASSERT(sizeof(joukerpan_summary) == 272, "joukerpan_summary: size");
+JOUKERPAN_ASSERT(offsetof(joukerpan_summary, codes) == 16, "joukerpan_summary: codes");
+JOUKERPAN_ASSERT(sizeof(joukerpan_record) == 1400, "joukerpan_record: size");
 JOUKERPAN_ASSERT(offsetof(joukerpan_record, own) == 8, "joukerpan_record: own");
 JOUKERPAN_ASSERT(offsetof(joukerpan_record, weights) == 16, "joukerpan_record: weights");
 JOUKERPAN_ASSERT(offsetof(joukerpan_record, summary) == 32, "joukerpan_record: summary");
-JOUKERPAN_ASSERT(offsetof(joukerpan_record, settled) == 48, "joukerpan_record: settled");
-JOUKERPAN_ASSERT(offsetof(joukerpan_record, ballots) == 56, "joukerpan_record: ballots");
+JOUKERPAN_ASSERT(offsetof(joukerpan_record, settled) == 304, "joukerpan_record: settled");
+JOUKERPAN_ASSERT(offsetof(joukerpan_record, ballots) == 312, "joukerpan_record: ballots");
 JOUKERPAN_ASSERT(sizeof(joukerpan_weights) == 16, "joukerpan_weights: size");
-JOUKERPAN_ASSERT(sizeof(joukerpan_founded) == 1152, "joukerpan_founded: size");
-JOUKERPAN_ASSERT(offsetof(joukerpan_founded, number) == 1144, "joukerpan_founded: number");
-JOUKERPAN_ASSERT(sizeof(joukerpan_issued) == 1152, "joukerpan_issued: size");
-JOUKERPAN_ASSERT(offsetof(joukerpan_issued, number) == 1144, "joukerpan_issued: number");
+JOUKERPAN_ASSERT(sizeof(joukerpan_founded) == 1408, "joukerpan_founded: size");
+JOUKERPAN_ASSERT(offsetof(joukerpan_founded, number) == 1400, "joukerpan_founded: number");
+JOUKERPAN_ASSERT(sizeof(joukerpan_issued) == 1408, "joukerpan_issued: size");
+JOUKERPAN_ASSERT(offsetof(joukerpan_issued, number) == 1400, "joukerpan_issued: number");
 JOUKERPAN_ASSERT(sizeof(joukerpan_part) == 16, "joukerpan_part: size");
 JOUKERPAN_ASSERT(offsetof(joukerpan_part, length) == 8, "joukerpan_part: length");
 JOUKERPAN_ASSERT(sizeof(joukerpan_framed) == 8, "joukerpan_framed: size");
 JOUKERPAN_ASSERT(offsetof(joukerpan_framed, code) == 4, "joukerpan_framed: code");
-JOUKERPAN_ASSERT(sizeof(joukerpan_elected) == 1160, "joukerpan_elected: size");
-JOUKERPAN_ASSERT(offsetof(joukerpan_elected, number) == 1144, "joukerpan_elected: number");
-JOUKERPAN_ASSERT(offsetof(joukerpan_elected, count) == 1152, "joukerpan_elected: count");
+JOUKERPAN_ASSERT(sizeof(joukerpan_lines) == 260, "joukerpan_lines: size");
+JOUKERPAN_ASSERT(offsetof(joukerpan_lines, codes) == 4, "joukerpan_lines: codes");
+JOUKERPAN_ASSERT(sizeof(joukerpan_elected) == 1416, "joukerpan_elected: size");
+JOUKERPAN_ASSERT(offsetof(joukerpan_elected, number) == 1400, "joukerpan_elected: number");
+JOUKERPAN_ASSERT(offsetof(joukerpan_elected, count) == 1408, "joukerpan_elected: count");
 JOUKERPAN_ASSERT(sizeof(joukerpan_sent) == 16, "joukerpan_sent: size");
 JOUKERPAN_ASSERT(offsetof(joukerpan_sent, length) == 8, "joukerpan_sent: length");
-JOUKERPAN_ASSERT(sizeof(joukerpan_taken) == 1152, "joukerpan_taken: size");
-JOUKERPAN_ASSERT(offsetof(joukerpan_taken, number) == 1144, "joukerpan_taken: number");
+JOUKERPAN_ASSERT(sizeof(joukerpan_taken) == 1408, "joukerpan_taken: size");
+JOUKERPAN_ASSERT(offsetof(joukerpan_taken, number) == 1400, "joukerpan_taken: number");
 
 #undef JOUKERPAN_ASSERT
 

@@ -1,4 +1,7 @@
-/* The engine through its C calls: the paper's rehearsal, some lettered cases, moves of weight, each refusal once. */
+/*
+ * The engine through its C calls: the paper's rehearsal, some lettered cases, moves of weight, the frame whole, each
+ * refusal once.
+ */
 #include <stdio.h>
 #include <stdlib.h>
 #include <string.h>
@@ -46,8 +49,10 @@ static void put(office *of, size_t place, uint32_t e) {
     ballot->cells[ballot->len++] = e;
 }
 
+/* Settles an edit, its code with it. */
 static void settle(office *of, uint32_t e) {
     of->log[of->record.settled++] = e;
+    of->record.summary.codes[e / 65536 % 256] = e % 65536;
 }
 
 static uint32_t issue(office *of, uint32_t line, uint32_t code) {
@@ -194,6 +199,51 @@ static void moves(void) {
     expect("issue", issue(&of[1], 5, 120), JOUKERPAN_UNSOUND);
 }
 
+/* Whether all lines in one call are these codes; each must be what the single call answers. */
+static bool shows(const office *of, const uint32_t codes[JOUKERPAN_LINES]) {
+    joukerpan_lines lines = joukerpan_all_lines(of->record, of->log, WORDS);
+    expect("all lines", lines.number, JOUKERPAN_DONE);
+    for (uint32_t line = 0; line < JOUKERPAN_LINES; line++) {
+        joukerpan_framed framed = joukerpan_settled_frame(of->record, of->log, WORDS, line);
+        expect("a single line", framed.number, JOUKERPAN_DONE);
+        expect("a line of all lines", lines.codes[line], framed.code);
+    }
+    return memcmp(lines.codes, codes, sizeof lines.codes) == 0;
+}
+
+/* The settled frame whole, as edits, a move of weight, an election and a take leave it. */
+static void whole_frame(void) {
+    static office of[2];
+    static const uint32_t none[JOUKERPAN_LINES], settled[JOUKERPAN_LINES] = {[0] = 1, [63] = 7};
+    const joukerpan_weights weights = {{60, 40}};
+    uint8_t message[JOUKERPAN_MESSAGE];
+    founded(&of[0], 0, weights, 2), founded(&of[1], 1, weights, 2);
+    expect("the codes of a founding", shows(&of[0], none), true);
+    expect("an edit", issue(&of[0], 63, 9999), JOUKERPAN_DONE);
+    expect("an edit", issue(&of[0], 0, 1), JOUKERPAN_DONE);
+    expect("line 63 once more", issue(&of[0], 63, 7), JOUKERPAN_DONE);
+    expect("a move to office 1", issue(&of[0], JOUKERPAN_LINES + 1, 10), JOUKERPAN_DONE);
+    expect("not settled, not shown", shows(&of[0], none), true);
+    expect("elect at 0", elect(&of[0]), 4);
+    expect("the last edit of each line, and no move", shows(&of[0], settled), true);
+
+    expect("not heard of at 1", shows(&of[1], none), true);
+    expect("take at 1", take(&of[1], message, send(&of[0], message, sizeof message)), JOUKERPAN_DONE);
+    expect("the codes come with the log", shows(&of[1], settled), true);
+
+    of[1].record.summary.codes[63]++;
+    expect("a code that does not follow from the log", joukerpan_sound(of[1].record, of[1].log, WORDS), false);
+    expect("issue", issue(&of[1], 5, 120), JOUKERPAN_UNSOUND);
+    joukerpan_lines lines = joukerpan_all_lines(of[1].record, of[1].log, WORDS);
+    expect("all lines", lines.number, JOUKERPAN_UNSOUND);
+    expect("each of them 0", memcmp(lines.codes, none, sizeof none), 0);
+    of[1].record.summary.codes[63]--, of[1].record.summary.codes[62] = 1;
+    expect("a code of no entry", joukerpan_sound(of[1].record, of[1].log, WORDS), false);
+    lines = joukerpan_all_lines(of[0].record, of[0].log, JOUKERPAN_LOG - 1);
+    expect("all lines over a short log", lines.number, JOUKERPAN_UNSOUND);
+    expect("each of them 0", memcmp(lines.codes, none, sizeof none), 0);
+}
+
 static void founding_refusals(void) {
     static uint32_t log[JOUKERPAN_LOG];
     static const joukerpan_record zero;
@@ -297,12 +347,18 @@ static void longest_message(void) {
     expect("settled by it", y.record.settled, 992);
     expect("elect", elect(&y), 32);
     expect("a full log", y.record.settled, JOUKERPAN_LOG);
+    uint32_t codes[JOUKERPAN_LINES];
+    for (int line = 0; line < JOUKERPAN_LINES; line++) {
+        codes[line] = line < 32 ? 1 : 9999;
+    }
+    expect("its codes", shows(&y, codes), true);
 }
 
 int main(void) {
     rehearsal();
     cases();
     moves();
+    whole_frame();
     founding_refusals();
     issue_refusals();
     unsound_records();

@@ -27,6 +27,7 @@ use Rattle.agreement.specs.World.{Replica, World, Call, issue, send, tak
 use Rattle.agreement.specs.Demand.{Founded, says}
 use Rattle.agreement.specs.Calls.{Kept}
 use Rattle.agreement.proofs.Places.{set-same}
+use Rattle.summary.specs.Summary.{startWith, summaryAfter}
 use Rattle.summary.specs.declared.Summary.{Summary}
 use Rattle.agreement.proofs.View.{means, sendDone, SoundReplica, SoundWorld}
 use Rattle.agreement.proofs.Held.{replica-fine}
@@ -144,10 +145,13 @@ module _ (n : ℕ) (ws : List ℕ) (w : World) (s : SoundWorld n ws w) where
       go (some d) e (some b) f h = put-same k d (takeReplica d b) e (take-refused n ws k d (s .each k d e) b (s .spelled m b f) h)
   refused (elect k) h = absurd (h (elects k))
 
--- ── the present weights ──
+-- ── what the settled log has done ──
 module _ (n : ℕ) (ws : List ℕ) (k : ℕ) (d : Replica) (m : SoundReplica n ws k d) where
+  done : d .held .summary ≡ summaryAfter (startWith ws) (says d .log)
+  done = m .sound .done ∙ ap (λ (l : List ℕ). summaryAfter (startWith l) (says d .log)) (m .weights)
+
   present : d .held .summary .present ≡ weightsAfter ws (says d .log)
-  present = ap (λ (x : Summary). x .present) (m .sound .done) ∙ ap (λ (l : List ℕ). weightsAfter l (says d .log)) (m .weights)
+  present = ap (λ (x : Summary). x .present) done
 
   present-fine : (allB isWeight (d .held .summary .present) ≡ true) × (allB (eqb 0) (drop n (d .held .summary .present)) ≡ true)
   present-fine =
@@ -168,7 +172,8 @@ kept n ws start f cs =
       present = λ k d e. present n ws k d (s .each k d e);
       total-kept = λ k d e. ap total (present n ws k d (s .each k d e)) ∙ weights-total ws (says d .log);
       weights-fine = λ k d e. present-fine n ws k d (s .each k d e);
-      equal = λ j k d e q r h. present n ws j d (s .each j d q) ∙ ap (weightsAfter ws) h ∙ sym (present n ws k e (s .each k e r));
+      codes = λ k d e. ap (λ (x : Summary). x .codes) (done n ws k d (s .each k d e));
+      equal = λ j k d e q r h. done n ws j d (s .each j d q) ∙ ap (summaryAfter (startWith ws)) h ∙ sym (done n ws k e (s .each k e r));
       never-unsound = never-unsound n ws w s;
       elects = elects n ws w s;
       sends = sends n ws w s;

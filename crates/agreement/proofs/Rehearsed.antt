@@ -9,6 +9,7 @@ use Rattle.protocol.specs.Entry.{value, proper, isEntry}
 use Rattle.protocol.specs.Issue.{refusalAt, refuseIssue, withIssue}
 use Rattle.protocol.specs.Limits.{headFine, isEmpty, isOffice, isWeight, logFine, officeFine, tailFine, tailsFine, total, weightsFine}
 use Rattle.protocol.specs.Longest.{longest}
+use Rattle.protocol.specs.Codes.{codesAfter}
 use Rattle.protocol.specs.Moves.{isMove, canShift, move, weightsAfter}
 use Rattle.summary.specs.Summary.{sameSummary}
 use Rattle.protocol.specs.Take.{catchUp, rebase, refuseTake, withTake}
@@ -38,7 +39,7 @@ rehearsal = issue 0 5 120 ∷ issue 1 5 130 ∷ send 0 (replicate 22 0) ∷ take
 pub rehearsal-order : order threeOffices rehearsal ≡ value 0 5 120 ∷ []
 unfolding order step after begins extends electing settle withElect isEntry proper refusalAt refuseIssue withIssue longest catchUp rebase refuseTake
     withTake allB both pick same supported tally unheard winner wins headFine isEmpty isOffice isWeight logFine officeFine tailFine tailsFine total
-    weightsFine isMove canShift move weightsAfter sameSummary ballotShape longEnough shaped follows soundFields soundB asMessage eightTails validContent be16 be32 bytes16 bytes32 run runAt runOk
+    weightsFine isMove canShift move weightsAfter codesAfter sameSummary ballotShape longEnough shaped follows soundFields soundB asMessage eightTails validContent be16 be32 bytes16 bytes32 run runAt runOk
     afterBallot ballotNext ballotOk ballotsOk contentAt endOk headOk layoutOk reading recordAt recordHere recordsOk restAt settledAt sizeAt tailAt
     tailsAt ballotBytes ballotsBytes endBytes headBytes logRecord spelling contentOf tailsOf electOf electWords foundNumber foundOf issueNumber
     issueOf sendBytes sendNumber sendOf sameOffices takeNumber takeOf takeWords takenOffice

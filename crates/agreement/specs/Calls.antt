@@ -10,6 +10,7 @@ use lib.Dec.{eqb}
 use lib.ListN.{length, drop}
 use Rattle.lists.specs.Tests.{allB}
 use Rattle.protocol.specs.Limits.{isWeight, total}
+use Rattle.protocol.specs.Codes.{noCodes, codesAfter}
 use Rattle.protocol.specs.Moves.{weightsAfter}
 use Rattle.frame.specs.Soundness.{soundB}
 use Rattle.agreement.specs.Demand.{says}
@@ -26,9 +27,11 @@ pub record Kept (n : ℕ) (weights : List ℕ) (start : World) (cs : List Call) 
   pub total-kept : (k : ℕ) (d : Replica) → replicaAt (after start cs) k ≡ some d → total (d .held .summary .present) ≡ total weights
   pub weights-fine : (k : ℕ) (d : Replica) → replicaAt (after start cs) k ≡ some d
       → (allB isWeight (d .held .summary .present) ≡ true) × (allB (eqb 0) (drop n (d .held .summary .present)) ≡ true)
-  -- two offices with equal settled logs have equal present weights
+  -- (ii) its codes are the last codes of its settled log
+  pub codes : (k : ℕ) (d : Replica) → replicaAt (after start cs) k ≡ some d → d .held .summary .codes ≡ codesAfter noCodes (says d .log)
+  -- two offices with equal settled logs have equal present weights and hold equal codes
   pub equal : (j k : ℕ) (d e : Replica) → replicaAt (after start cs) j ≡ some d → replicaAt (after start cs) k ≡ some e
-      → says d .log ≡ says e .log → d .held .summary .present ≡ e .held .summary .present
+      → says d .log ≡ says e .log → d .held .summary ≡ e .held .summary
   -- so no call is refused with 1, and elect is never refused
   pub never-unsound : (c : Call) → number (after start cs) c ≡ 1 → ⊥
   pub elects : (k : ℕ) → number (after start cs) (elect k) ≡ 0

@@ -4,9 +4,9 @@
 --     fitFrom                      the lengths from a place on
 --     fine-tests-all               the test of all as those of the lengths, of the cells and of the unused cells
 --     fit-next, fit-done, fit-few  a walk over the lengths: one more, at its end; lengths that fit are at most 32
---     of-eight                     a test of eight ballots, of four and of four
+--     eight-tests                  a test of eight ballots, of four and of four, as the code joins them
 -- Assumes nothing.
-use mathlib.Core.Path.{_≡_, refl, sym, ap, _∙_}
+use mathlib.Core.Path.{_≡_, refl, sym, ap, ap₂, _∙_}
 use mathlib.Core.Bool.{Bool, true, false, _&&_}
 use mathlib.Core.List.{List, [], _∷_, map}
 use Prim.Native.Nat.{ℕ, zero, suc, _+_, _-_, _<_, _≤_}
@@ -171,10 +171,10 @@ fit-few n settled i (b ∷ bs) e zero h = fits-few n settled i (b .len) (both-0 
 fit-few n settled i (b ∷ bs) e (suc k) h = fit-few n settled (i + 1) bs (both-1 _ _ e) k (le-of-suc-le-suc h)
 
 -- ── eight ballots as four and four ──
-abbrev pub ofEight : (Ballot → Bool) → List Ballot → Bool
+abbrev ofEight : (Ballot → Bool) → List Ballot → Bool
 ofEight t bs = both (ofFour t (getD bs 0 offEnd) (getD bs 1 offEnd) (getD bs 2 offEnd) (getD bs 3 offEnd)) (ofFour t (getD bs 4 offEnd) (getD bs 5 offEnd) (getD bs 6 offEnd) (getD bs 7 offEnd))
 
-pub of-eight : (t : Ballot → Bool) (bs : List Ballot) → length bs ≡ 8 → ofEight t bs ≡ allB t bs
+of-eight : (t : Ballot → Bool) (bs : List Ballot) → length bs ≡ 8 → ofEight t bs ≡ allB t bs
 unfolding ofFour both
 of-eight t bs l =
     let at : ℕ → Bool = λ k. t (getD bs k offEnd) in
@@ -191,3 +191,8 @@ of-eight t bs l =
   where
     in-turn : (a b c d e f g h : Bool) → both (both (both (both a b) c) d) (both (both (both e f) g) h) ≡ (((((((a && b) && c) && d) && e) && f) && g) && h)
     in-turn a b c d e f g h = simp (and-both, both-assoc)
+
+module _ (t : Ballot → Bool) (bs : List Ballot) (l : length bs ≡ 8) (p q : Bool) where
+  pub eight-tests : p ≡ ofFour t (getD bs 0 offEnd) (getD bs 1 offEnd) (getD bs 2 offEnd) (getD bs 3 offEnd)
+      → q ≡ ofFour t (getD bs 4 offEnd) (getD bs 5 offEnd) (getD bs 6 offEnd) (getD bs 7 offEnd) → (p && q) ≡ allB t bs
+  eight-tests e f = and-both p q ∙ ap₂ both e f ∙ of-eight t bs l

@@ -1,7 +1,7 @@
 -- The tests that the walks over four ballots make.
 --     four-tests, four-none    a test of four ballots, written out, and that of four numbers
 --     all-cells                the test of one ballot's cells, of which there are 32
---     coding-four              the cells of four ballots that all code lines are entries
+--     coding-cells             cells that all code lines are entries
 --     mask-length, mask-used, mask-unused     how many masks there are, the mask of a used cell, and that of an unused one
 --     masked-next              a walk that joins unused cells, one cell more
 --     unused-begins, unused-ends, unused-none     its begin, its end, and where there is no such cell
@@ -48,16 +48,9 @@ pub all-cells : (t : ℕ → Bool) (b : Ballot) → length (b .cells) ≡ 32 →
 unfolding allCells both
 all-cells t b h = rw (eq-eqb (length (b .cells)) 32 h)
 
-pub coding-four : (n : ℕ) (a b c d : Ballot) (r : Bool) → r ≡ ofFour (codingCells n) a b c d → r ≡ true → true ≡ ofFour (entryCells n) a b c d
-unfolding ofFour allCells
-coding-four n a b c d r e t =
-    let abcd = sym e ∙ t in
-    let abc = both-0 _ _ abcd in
-    let ab = both-0 _ _ abc in
-    sym (both-true _ _ (both-true _ _ (both-true _ _ (one a (both-0 _ _ ab)) (one b (both-1 _ _ ab))) (one c (both-1 _ _ abc))) (one d (both-1 _ _ abcd)))
-  where
-    one : (x : Ballot) → codingCells n x ≡ true → entryCells n x ≡ true
-    one x p = both-true _ _ (both-0 _ _ p) (all-mono (isCoding n) (isEntry n) (coding-entry n) (x .cells) (both-1 _ _ p))
+pub coding-cells : (n : ℕ) (b : Ballot) → codingCells n b ≡ true → entryCells n b ≡ true
+unfolding allCells
+coding-cells n b e = both-true _ _ (both-0 _ _ e) (all-mono (isCoding n) (isEntry n) (coding-entry n) (b .cells) (both-1 _ _ e))
 
 -- ── masks ──
 pub mask-length : length maskWords ≡ 64

@@ -40,7 +40,7 @@ fn no_ballots(all: [Ballot; 8]) -> bool
     none
 }
 
-// Whether all the cells of a ballot are entries for n offices. Called only where a cell codes no line.
+// Whether all the cells of a ballot are entries for n offices.
 fn entry_cells(b: Ballot, n: usize) -> bool
     ensures { λ r. ⌜ r ≡ entryCells n b ⌝ }
 {
@@ -73,14 +73,16 @@ fn four_coding(a: Ballot, b: Ballot, c: Ballot, d: Ballot, n: usize) -> bool
     entries::no_carry(p) & entries::no_carry(q) & entries::no_carry(r) & entries::no_carry(s)
 }
 
-// Whether all the cells of four ballots are entries for n offices. Most ballots have no move of weight, and then the faster test sees it.
-fn four_entries(a: Ballot, b: Ballot, c: Ballot, d: Ballot, n: usize) -> bool
-    ensures { λ r. ⌜ r ≡ ofFour (entryCells n) a b c d ⌝ }
+// Whether all the cells of eight ballots are entries for n offices. Slower, so only for ballots of which a cell codes no line.
+fn eight_entries(all: [Ballot; 8], n: usize) -> bool
+    ensures { λ r. ⌜ r ≡ allB (entryCells n) all ⌝ }
 {
-    if four_coding(a, b, c, d, n) {
-        return true;
+    let mut good = true;
+    for i in 0..8 {
+        let b = all[i];
+        good = good & entry_cells(b, n);
     }
-    entry_cells(a, n) & entry_cells(b, n) & entry_cells(c, n) & entry_cells(d, n)
+    good
 }
 
 // 32 words without bits and 32 with all: from place 32 - len on they are the masks of the unused cells of a ballot.
@@ -183,7 +185,8 @@ fn fits(len: usize, place: usize, n: usize, settled: usize) -> bool
 }
 
 // Whether eight ballots are within the limits beside a settled log of this length: at once where there are none, else their lengths first,
-// then their cells. It serves a record and a message alike. Public only for the crates above, which prove what it requires.
+// then their cells, by the faster test where no cell is a move of weight. It serves a record and a message alike. Public only for the
+// crates above, which prove what it requires.
 pub fn fine(all: [Ballot; 8], n: usize, settled: usize) -> bool
     requires { ⌜ (1 ≤ n) × (settled ≤ 1024) ⌝ }
     ensures { λ r. ⌜ r ≡ ballotsFine n settled all ⌝ }
@@ -206,8 +209,10 @@ pub fn fine(all: [Ballot; 8], n: usize, settled: usize) -> bool
     let f = all[5];
     let g = all[6];
     let h = all[7];
-    if !(four_entries(a, b, c, d, n) & four_entries(e, f, g, h, n)) {
-        return false;
+    if !(four_coding(a, b, c, d, n) & four_coding(e, f, g, h, n)) {
+        if !eight_entries(all, n) {
+            return false;
+        }
     }
     let masks = masks();
     four_unused(a, b, c, d, &masks) & four_unused(e, f, g, h, &masks)

@@ -4,7 +4,7 @@ ghost use mathlib.Core.Path.{_≡_};
 ghost use Rattle.frame.specs.Soundness.{soundB};
 ghost use Rattle.frame.specs.Founding.{foundOf};
 ghost use Rattle.frame.specs.Issuing.{issueOf};
-ghost use Rattle.frame.specs.Frames.{settledFrameOf, tentativeFrameOf};
+ghost use Rattle.frame.specs.Frames.{settledFrameOf, tentativeFrameOf, allLinesOf};
 ghost use Rattle.frame.specs.Electing.{electOf, electWords};
 ghost use Rattle.frame.specs.Sending.{sendOf, sendBytes};
 ghost use Rattle.frame.specs.Taking.{takeOf, takeWords};
@@ -13,6 +13,7 @@ use frame::Record;
 use frame::electing::Elected;
 use frame::founding::Founded;
 use frame::frames::Framed;
+use frame::frames::Lines;
 use frame::issuing::Issued;
 use frame::sending::Sent;
 use frame::taking::Taken;
@@ -64,6 +65,14 @@ pub extern "C" fn joukerpan_settled(office: Record, log: &[u32]) -> Part
     let part = office.settled(log, &mut number);
     let length = part.len();
     Part { number, length }
+}
+
+// The settled codes of all 64 lines.
+#[no_mangle]
+pub extern "C" fn joukerpan_all_lines(office: Record, log: &[u32]) -> Lines
+    ensures { λ r. ⌜ r ≡ allLinesOf office (now (log .entry)) ⌝ }
+{
+    office.all_lines(log)
 }
 
 // The code of the last entry for the line in the settled log.

@@ -14,6 +14,7 @@ use Rattle.lists.specs.Tests.{pick}
 use Rattle.protocol.specs.Office.{fresh}
 use Rattle.protocol.proofs.Limits as Limits
 use Rattle.protocol.specs.Limits.{headFine, Head}
+use Rattle.protocol.specs.Codes.{codesAfter}
 use Rattle.protocol.specs.Moves.{weightsAfter}
 use Rattle.soundness.specs.Soundness.{longEnough}
 use Rattle.frame.specs.State.{heldBy, freshRecord, zeroRecord}
@@ -39,7 +40,7 @@ found-done n own ws words q = go (leb 1024 (length words)) refl (headFine n own 
 
 module _ (n own : ℕ) (ws words : List ℕ) (q : foundOf n own ws words .number ≡ 0) where
   pub found-sound : Sound (foundOf n own ws words .«record») words
-  unfolding weightsAfter
+  unfolding weightsAfter codesAfter
   found-sound =
       let D = found-done n own ws words q in
       subst (λ (r : Record). Sound r words) (sym (D .made)) (sound-of (freshRecord n own ws) fresh words (D .head) (Limits.fresh-fine n) (D .room))

@@ -36,4 +36,4 @@ zeroRecord = freshRecord 0 0 (replicate 8 0)
 
 -- what an array of records gives past its end
 abbrev pub offEnd : Record
-offEnd = record { n = 0; own = 0; weights = []; summary = startWith []; settled = 0; ballots = [] }
+offEnd = record { n = 0; own = 0; weights = []; summary = record { present = []; codes = [] }; settled = 0; ballots = [] }

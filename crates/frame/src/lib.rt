@@ -13,7 +13,7 @@ pub mod sending;
 mod settling;
 pub mod taking;
 
-// n offices with their founding weights, the own office, what the settled log has done (the present weights), the settled length and each
+// n offices with their founding weights, the own office, what the settled log has done (the present weights, the settled codes), the settled length and each
 // office's ballot. The settled entries are the log's first words.
 #[repr(C)]
 pub struct Record {

@@ -8,6 +8,7 @@ pub mod Vote
 pub mod Office
 pub mod Elect
 pub mod Moves
+pub mod Codes
 pub mod Limits
 -- demand 3: the world, what is asked of the rule, the four invariants, each call, the theorem
 pub mod World

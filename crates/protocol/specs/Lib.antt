@@ -11,4 +11,5 @@ pub mod Issue
 pub mod Take
 pub mod Elect
 pub mod Frames
+pub mod Codes
 pub mod Longest

@@ -9,6 +9,7 @@ use Rattle.ballots.specs.declared.Ballot.{Ballot}
 use Rattle.ballots.specs.Ballots.{ballotOf, noBallot}
 use Rattle.lists.specs.Tests.{both, allB}
 use Rattle.protocol.specs.Entry.{isEntry}
+use Rattle.entries.specs.Carries.{isCoding}
 use Rattle.protocol.specs.Limits.{isOffice}
 use Rattle.numbers.specs.Numbers.{runAt, runOk}
 use Rattle.spelling.specs.Content.{Content, eightTails}
@@ -19,6 +20,10 @@ use Rattle.reading.specs.declared.Reading.{Reading}
 -- the head is of the layout, and its fields are within the limits
 unfoldable pub headWithin : List ℕ → Bool
 headWithin s = both (headOk s) (both (isOffice (countAt s) (senderAt s)) (leb (settledAt s) 1024))
+
+-- k log records stand there, whose values are entries for n offices that code lines
+unfoldable pub logCoding : List ℕ → ℕ → ℕ → Bool
+logCoding s n k = both (runOk 6 recordHere k s) (allB (isCoding n) (runAt 6 recordAt k s))
 
 -- k log records stand there, whose values are entries for n offices
 unfoldable pub logWithin : List ℕ → ℕ → ℕ → Bool

@@ -17,7 +17,7 @@ ghost use lib.Seq.{sets};
 ghost use Rattle.protocol.specs.Beginning.{begins};
 ghost use Rattle.numbers.specs.Numbers.{be16, runAt};
 ghost use Rattle.spelling.specs.Reading.{recordAt, reading};
-ghost use Rattle.reading.specs.Read.{headWithin, logWithin, eightWeights, badReading, readingOf};
+ghost use Rattle.reading.specs.Read.{headWithin, logCoding, logWithin, eightWeights, badReading, readingOf};
 
 // The most settled entries.
 const LOG: u16 = 1024;
@@ -33,10 +33,33 @@ pub struct Reading {
     pub ok: bool,
 }
 
-// Whether k log records stand at the start, whose values are entries for n offices. A missing mark ends the walk; every value is tested.
+// Whether k log records stand at the start, whose values are entries for n offices that code lines: their marks one by one, their values
+// together.
+fn log_coding(rest: &[u8], n: usize, k: usize) -> bool
+    ensures { λ r. ⌜ r ≡ logCoding (now (rest .entry)) n k ⌝ }
+{
+    let mut at: usize = 0;
+    let mut bits: u32 = 0;
+    for i in 0..k {
+        let step = read_log(rest, at);
+        let ok = step.ok;
+        if !ok {
+            return false;
+        }
+        bits = bits | entries::raised(step.value, n);
+        at = step.next;
+    }
+    entries::no_carry(bits)
+}
+
+// Whether k log records stand at the start, whose values are entries for n offices. Most logs have no move of weight, and then the faster
+// test sees it.
 fn log_within(rest: &[u8], n: usize, k: usize) -> bool
     ensures { λ r. ⌜ r ≡ logWithin (now (rest .entry)) n k ⌝ }
 {
+    if log_coding(rest, n, k) {
+        return true;
+    }
     let mut at: usize = 0;
     let mut good = true;
     for i in 0..k {

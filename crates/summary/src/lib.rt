@@ -1,16 +1,18 @@
-// What the entries of a settled log have done, as a record holds it: the weights after its moves.
+// What the entries of a settled log have done, as a record holds it: the weights after its moves, and the code of each line.
 ghost use mathlib.Core.Path.{_≡_};
 ghost use Prim.Native.Nat.{_<_};
 ghost use lib.ListN.{length};
-ghost use Rattle.lists.specs.Tests.{allB};
+ghost use Rattle.lists.specs.Tests.{allB, same};
 ghost use Rattle.protocol.specs.Entry.{officeOf, lineOf, codeOf};
+ghost use Rattle.protocol.specs.Codes.{coded, codesAfter};
 ghost use Rattle.protocol.specs.Moves.{move, weightsAfter};
 ghost use Rattle.summary.specs.Summary.{noMove, startWith, summaryAfter, summaryNext, sameSummary};
 
-// The present weights.
+// The present weights, and the settled codes of the 64 lines.
 #[repr(C)]
 pub struct Summary {
     pub present: [u16; 8],
+    pub codes: [u32; 64],
 }
 
 // The three parts of a word.
@@ -30,6 +32,40 @@ fn code_of(word: u32) -> u16
     ensures { λ r. ⌜ (r ≡ codeOf word) × (r < 65536) ⌝ }
 {
     (word % 65536) as u16
+}
+
+// The code of the entry's line is its code. A move is for no line.
+fn settle_code(codes: &mut [u32; 64], word: u32)
+    requires { ⌜ length (now codes) ≡ 64 ⌝ }
+    ensures { λ r. ⌜ now (codes .exit) ≡ coded (now (codes .entry)) word ⌝ }
+{
+    let line = line_of(word);
+    if line < 64 {
+        codes[line] = word % 65536;
+    }
+}
+
+// The codes after the entries of a log.
+fn codes_after(codes: [u32; 64], words: &[u32]) -> [u32; 64]
+    ensures { λ r. ⌜ r ≡ codesAfter codes (now (words .entry)) ⌝ }
+{
+    let mut settled = codes;
+    for i in 0..words.len() {
+        settle_code(&mut settled, words[i]);
+    }
+    settled
+}
+
+// Whether the codes of the 64 lines are the same.
+fn same_codes(codes: [u32; 64], others: [u32; 64]) -> bool
+    ensures { λ r. ⌜ r ≡ same codes others ⌝ }
+{
+    for i in 0..64 {
+        if codes[i] != others[i] {
+            return false;
+        }
+    }
+    true
 }
 
 // Whether no word is a move: the upper two bits of every line are zero. Words are joined by `|` first, so that the walk runs on vectors.
@@ -100,11 +136,14 @@ fn weights_after(weights: [u16; 8], words: &[u32]) -> [u16; 8]
 }
 
 impl Summary {
-    // Of an empty log: the founding weights.
+    // Of an empty log: the founding weights, and no codes.
     pub fn start(founding: [u16; 8]) -> Summary
         ensures { λ r. ⌜ r ≡ startWith founding ⌝ }
     {
-        Summary { present: founding }
+        Summary {
+            present: founding,
+            codes: [0; 64],
+        }
     }
 
     // After the entries of a log.
@@ -112,8 +151,10 @@ impl Summary {
         ensures { λ r. ⌜ r ≡ summaryAfter self (now (words .entry)) ⌝ }
     {
         let weights = self.present;
+        let before = self.codes;
         let present = weights_after(weights, words);
-        Summary { present }
+        let codes = codes_after(before, words);
+        Summary { present, codes }
     }
 
     // After one entry more.
@@ -122,7 +163,9 @@ impl Summary {
     {
         let weights = self.present;
         let present = moved(weights, word);
-        Summary { present }
+        let mut codes = self.codes;
+        settle_code(&mut codes, word);
+        Summary { present, codes }
     }
 
     // Whether two are the same.
@@ -131,6 +174,11 @@ impl Summary {
     {
         let mine = self.present;
         let theirs = other.present;
-        lists::same_eight(mine, theirs)
+        if !lists::same_eight(mine, theirs) {
+            return false;
+        }
+        let codes = self.codes;
+        let others = other.codes;
+        same_codes(codes, others)
     }
 }

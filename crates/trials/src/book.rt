@@ -4,25 +4,27 @@
 ghost use Prim.Native.Nat.{_+_, _≤_, _<_};
 ghost use lib.ListN.{length};
 
-pub type Book = [u64; 15612];
+pub type Book = [u64; 15676];
 
-// Where the weights begin, the present weights, the settled length and the ballots, each a length field and 32 cells.
+// Where the weights begin, the present weights, the settled length, the codes and the ballots, each a length field and 32 cells.
 pub const WEIGHTS: usize = 2;
 
 pub const PRESENT: usize = 10;
 
 pub const SETTLED: usize = 18;
 
-pub const BALLOTS: usize = 19;
+pub const CODES: usize = 19;
+
+pub const BALLOTS: usize = 83;
 
 pub const BALLOT: usize = 33;
 
 // Where the length of the log, of the output and of the message stands. What is in them stands behind it.
-pub const LOG: usize = 283;
+pub const LOG: usize = 347;
 
-pub const OUTPUT: usize = 1384;
+pub const OUTPUT: usize = 1448;
 
-pub const MESSAGE: usize = 8485;
+pub const MESSAGE: usize = 8549;
 
 // Most words of the log, and most bytes of the output and of the message.
 pub const WORDS: usize = 1100;
@@ -30,13 +32,13 @@ pub const WORDS: usize = 1100;
 pub const BYTES: usize = 7100;
 
 // Where the numbers of the line begin, up to 24. All before is the state.
-pub const SAID: usize = 15586;
+pub const SAID: usize = 15650;
 
 // How many bytes of a line are held.
-pub const HELD: usize = 15610;
+pub const HELD: usize = 15674;
 
 // A place that stays zero.
-pub const ZERO: usize = 15611;
+pub const ZERO: usize = 15675;
 
 // The most that a number may be at this place, other than a length of a buffer.
 pub fn limit(place: usize) -> u64 {
@@ -50,6 +52,9 @@ pub fn limit(place: usize) -> u64 {
         if (place - BALLOTS) % BALLOT == 0 {
             return u64::MAX;
         }
+        return 4294967295;
+    }
+    if place >= CODES {
         return 4294967295;
     }
     if place == SETTLED {
@@ -71,8 +76,8 @@ fn turn(i: usize, each: usize) -> usize
 
 // Writes the `each` numbers from place `from` on, over and over, `total` in all, from place `to` on.
 pub fn write(book: &mut Book, to: usize, total: usize, from: usize, each: usize)
-    requires { ⌜ to + total ≤ 15612 ⌝ }
-    requires { ⌜ from + each ≤ 15612 ⌝ }
+    requires { ⌜ to + total ≤ 15676 ⌝ }
+    requires { ⌜ from + each ≤ 15676 ⌝ }
     requires { ⌜ 0 < each ⌝ }
 {
     for i in 0..total {
@@ -90,7 +95,7 @@ fn of_byte(x: u8) -> u64 {
 
 // The numbers from this place on as words: the low 32 bits of each.
 pub fn to_words(book: &Book, at: usize, to: &mut [u32])
-    requires { ⌜ at + length (now to) ≤ 15612 ⌝ }
+    requires { ⌜ at + length (now to) ≤ 15676 ⌝ }
 {
     for i in 0..to.len() {
         to[i] = (book[at + i] % 4294967296) as u32;
@@ -99,7 +104,7 @@ pub fn to_words(book: &Book, at: usize, to: &mut [u32])
 
 // Writes words as numbers from this place on.
 pub fn from_words(from: &[u32], book: &mut Book, at: usize)
-    requires { ⌜ at + length (now from) ≤ 15612 ⌝ }
+    requires { ⌜ at + length (now from) ≤ 15676 ⌝ }
 {
     for i in 0..from.len() {
         book[at + i] = wide(from[i]);
@@ -108,7 +113,7 @@ pub fn from_words(from: &[u32], book: &mut Book, at: usize)
 
 // The numbers from this place on as bytes: the low 8 bits of each.
 pub fn to_bytes(book: &Book, at: usize, to: &mut [u8])
-    requires { ⌜ at + length (now to) ≤ 15612 ⌝ }
+    requires { ⌜ at + length (now to) ≤ 15676 ⌝ }
 {
     for i in 0..to.len() {
         to[i] = (book[at + i] % 256) as u8;
@@ -117,7 +122,7 @@ pub fn to_bytes(book: &Book, at: usize, to: &mut [u8])
 
 // Writes bytes as numbers from this place on.
 pub fn from_bytes(from: &[u8; 7100], book: &mut Book, at: usize)
-    requires { ⌜ at + 7100 ≤ 15612 ⌝ }
+    requires { ⌜ at + 7100 ≤ 15676 ⌝ }
 {
     for i in 0..7100 {
         book[at + i] = of_byte(from[i]);

@@ -35,12 +35,12 @@ fn issue(book: &mut Book, log: &[u32]) {
     record::keep(next, book);
 }
 
-// The digest of a part of the log, which has at most 1100 words.
+// The digest of words, 1100 at most.
 fn part_digest(part: &[u32]) -> u64 {
     if part.len() > book::WORDS {
         return 0;
     }
-    let mut numbers = [0u64; 15612];
+    let mut numbers = [0u64; 15676];
     book::from_words(part, &mut numbers, 0);
     digest::with_all(0, &numbers, 0, part.len())
 }
@@ -62,6 +62,14 @@ fn frames(book: &Book, log: &[u32]) {
     print(settled.code as u64);
     print(tentative.number as u64);
     print(tentative.code as u64);
+}
+
+// `A`
+fn all_lines(book: &Book, log: &[u32]) {
+    let lines = record::of(book).all_lines(log);
+    let codes = lines.codes;
+    print(lines.number as u64);
+    print(part_digest(&codes));
 }
 
 // `U`
@@ -111,6 +119,7 @@ fn make(book: &mut Book, letter: u8, log: &mut [u32]) {
         b'I' => issue(book, log),
         b'P' => settled(book, log),
         b'V' => frames(book, log),
+        b'A' => all_lines(book, log),
         b'U' => sound(book, log),
         b'E' => elect(book, log),
         b'S' => send(book, log),

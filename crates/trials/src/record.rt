@@ -8,7 +8,7 @@ use summary::Summary;
 
 // Eight numbers from this place on as weights: the low 16 bits of each.
 pub fn weights(book: &Book, at: usize) -> [u16; 8]
-    requires { ⌜ at + 8 ≤ 15612 ⌝ }
+    requires { ⌜ at + 8 ≤ 15676 ⌝ }
 {
     let mut weights = [0u16; 8];
     for i in 0..8 {
@@ -23,7 +23,7 @@ fn wide(x: u16) -> u64 {
 
 // Writes weights as numbers from this place on.
 fn keep_weights(weights: [u16; 8], book: &mut Book, at: usize)
-    requires { ⌜ at + 8 ≤ 15612 ⌝ }
+    requires { ⌜ at + 8 ≤ 15676 ⌝ }
 {
     for i in 0..8 {
         book[at + i] = wide(weights[i]);
@@ -32,7 +32,7 @@ fn keep_weights(weights: [u16; 8], book: &mut Book, at: usize)
 
 // The ballot that stands at this place.
 fn ballot(book: &Book, at: usize) -> Ballot
-    requires { ⌜ at ≤ 283 ⌝ }
+    requires { ⌜ at ≤ 347 ⌝ }
 {
     let mut cells = [0u32; 32];
     book::to_words(book, at + 1, &mut cells);
@@ -44,7 +44,7 @@ fn ballot(book: &Book, at: usize) -> Ballot
 
 // Writes a ballot to this place.
 fn keep_ballot(ballot: Ballot, book: &mut Book, at: usize)
-    requires { ⌜ at ≤ 283 ⌝ }
+    requires { ⌜ at ≤ 347 ⌝ }
 {
     let cells = ballot.cells;
     book[at] = ballot.len as u64;
@@ -70,16 +70,31 @@ fn keep_ballots(ballots: [Ballot; 8], book: &mut Book) {
     }
 }
 
+// The codes of the book.
+fn codes(book: &Book) -> [u32; 64] {
+    let mut codes = [0u32; 64];
+    book::to_words(book, book::CODES, &mut codes);
+    codes
+}
+
+// Writes the codes into the book.
+fn keep_codes(codes: [u32; 64], book: &mut Book) {
+    for i in 0..64 {
+        book[book::CODES + i] = book::wide(codes[i]);
+    }
+}
+
 // The record of the book.
 pub fn of(book: &Book) -> Record {
     let founding = weights(book, book::WEIGHTS);
     let present = weights(book, book::PRESENT);
+    let codes = codes(book);
     let ballots = ballots(book);
     Record {
         n: book[0] as usize,
         own: book[1] as usize,
         weights: founding,
-        summary: Summary { present },
+        summary: Summary { present, codes },
         settled: book[book::SETTLED] as usize,
         ballots,
     }
@@ -90,11 +105,13 @@ pub fn keep(record: Record, book: &mut Book) {
     let weights = record.weights;
     let summary = record.summary;
     let present = summary.present;
+    let codes = summary.codes;
     let ballots = record.ballots;
     book[0] = record.n as u64;
     book[1] = record.own as u64;
     keep_weights(weights, book, book::WEIGHTS);
     keep_weights(present, book, book::PRESENT);
+    keep_codes(codes, book);
     book[book::SETTLED] = record.settled as u64;
     keep_ballots(ballots, book);
 }

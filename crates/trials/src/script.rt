@@ -39,13 +39,13 @@ pub fn counted(letter: u8, count: usize) -> bool {
         return false;
     }
     match letter {
-        b'd' | b'P' | b'U' | b'E' | b'S' | b'T' => count == 0,
+        b'd' | b'P' | b'A' | b'U' | b'E' | b'S' | b'T' => count == 0,
         b'c' | b'g' | b'V' => count == 1,
         b'b' | b'l' | b'o' | b'x' | b'I' => count == 2,
         b'F' => count == 10,
         b'r' => count == 11,
         b'p' => count == 8,
-        b'w' | b'm' => count > 1,
+        b'w' | b'm' | b'k' => count > 1,
         b'a' => count > 2,
         _ => false,
     }

@@ -12,7 +12,7 @@ use lists::within;
 
 // Whether each number of the line from the one at `from` on, and before `end`, is within the limit of its place: the first at `place`, the others behind it.
 pub fn fit(book: &Book, place: usize, from: usize, end: usize) -> bool
-    requires { ⌜ place ≤ 15586 ⌝ }
+    requires { ⌜ place ≤ 15650 ⌝ }
     requires { ⌜ end ≤ 24 ⌝ }
 {
     for i in from..end {
@@ -36,7 +36,7 @@ fn product(times: usize, each: usize) -> usize
 
 // Writes the numbers of the line from the one at `from` on, and before `end`, `times` times over, from place `first` on, where there is room for them, 7100 at most.
 fn spread(book: &mut Book, first: usize, room: usize, from: usize, end: usize, times: usize) -> bool
-    requires { ⌜ first + room ≤ 15586 ⌝ }
+    requires { ⌜ first + room ≤ 15650 ⌝ }
     requires { ⌜ from < end ⌝ }
     requires { ⌜ end ≤ 24 ⌝ }
 {
@@ -60,6 +60,15 @@ fn set_fields(book: &mut Book) -> bool {
     spread(book, book::PRESENT, 8, 2, 10, 1)
 }
 
+// `k`: the codes from a place on.
+fn set_codes(book: &mut Book, count: usize) -> bool
+    requires { ⌜ 1 < count ⌝ }
+    requires { ⌜ count ≤ 24 ⌝ }
+{
+    let at = within(book[SAID] as usize, 64);
+    spread(book, book::CODES + at, 64 - at, 1, count, 1)
+}
+
 // `b` and `a`; `b` alone has two numbers.
 fn set_ballot(book: &mut Book, count: usize) -> bool
     requires { ⌜ 1 < count ⌝ }
@@ -80,7 +89,7 @@ fn set_ballot(book: &mut Book, count: usize) -> bool
 
 // `l`, `o` and `m`: the numbers are written from place `at` of the buffer on, and end it.
 fn fill(book: &mut Book, buffer: usize, most: usize, at: usize, count: usize) -> bool
-    requires { ⌜ buffer + 1 + most ≤ 15586 ⌝ }
+    requires { ⌜ buffer + 1 + most ≤ 15650 ⌝ }
     requires { ⌜ at ≤ most ⌝ }
     requires { ⌜ 1 < count ⌝ }
     requires { ⌜ count ≤ 24 ⌝ }
@@ -95,7 +104,7 @@ fn fill(book: &mut Book, buffer: usize, most: usize, at: usize, count: usize) ->
 
 // `w` and `x`: the numbers are written over others of the buffer.
 fn replace(book: &mut Book, buffer: usize, most: usize, count: usize) -> bool
-    requires { ⌜ buffer + 1 + most ≤ 15586 ⌝ }
+    requires { ⌜ buffer + 1 + most ≤ 15650 ⌝ }
     requires { ⌜ 1 < count ⌝ }
     requires { ⌜ count ≤ 24 ⌝ }
 {
@@ -106,7 +115,7 @@ fn replace(book: &mut Book, buffer: usize, most: usize, count: usize) -> bool
 
 // `c` and `g`: the message is the first bytes of the message, or of the output.
 fn cut(book: &mut Book, buffer: usize) -> bool
-    requires { ⌜ buffer + 7101 ≤ 15586 ⌝ }
+    requires { ⌜ buffer + 7101 ≤ 15650 ⌝ }
 {
     if book[SAID] > book[buffer] {
         return false;
@@ -143,6 +152,7 @@ pub fn set(book: &mut Book, letter: u8, count: usize) -> bool
         b'x' => replace(book, MESSAGE, book::BYTES, count),
         b'r' => set_fields(book),
         b'p' => spread(book, book::PRESENT, 8, 0, count, 1),
+        b'k' => set_codes(book, count),
         _ => set_ballot(book, count),
     }
 }

@@ -19,6 +19,9 @@ const ROUNDS: usize = 61;
 /// Nanoseconds that a batch takes, about.
 const BATCH: f64 = 300_000.0;
 const WEIGHTS: [u16; OFFICES] = [40, 35, 25, 20, 15, 10, 5, 1];
+/// The calls that answer the whole settled frame.
+const ALL_LINES: &str = "all lines";
+const LINE_BY_LINE: &str = "all lines, by 64 settled frames";
 
 /// What the entries of a state are, in its log and in its ballots.
 #[derive(Clone, Copy, PartialEq)]
@@ -77,7 +80,7 @@ impl Ballots {
 }
 
 /// How long the settled log of a state is, and what is in it and in the ballots.
-#[derive(Clone, Copy)]
+#[derive(Clone, Copy, PartialEq)]
 pub struct State {
     pub settled: usize,
     pub entries: Entries,
@@ -119,7 +122,9 @@ pub fn state(State { settled, entries, ballots }: State, own: usize) -> Sample {
             ballot.cells[0] = entry(office, 5, 120);
         }
     }
-    Sample { record, log }.derived()
+    let mut sample = Sample { record, log };
+    sample.derive();
+    sample
 }
 
 /// One call of a case.
@@ -158,9 +163,9 @@ fn median(mut values: Vec<f64>) -> f64 {
 }
 
 impl Case {
-    /// Whether it has a row: moves are told apart from edits in the calls that look at an entry's line.
+    /// Whether it has a row: these calls do with moves what they do with edits, once the record is found sound.
     fn is_shown(&self) -> bool {
-        let of_edits = ["settled", "settled frame, newest entry", "send"];
+        let of_edits = ["settled", "send"];
         self.state.entries == Entries::Edits || !of_edits.contains(&self.call.as_str())
     }
 
@@ -236,16 +241,13 @@ fn reading_cases(of: State, cases: &mut Vec<Case>) {
         call!(plain::settled(black_box(&record), &b)),
         call!(unsafe { by_value::settled(*black_box(&record), c.as_ptr(), LOG) }),
     );
-    let newest = (of.settled as u32).saturating_sub(1) % 63;
-    for (name, line) in [("settled frame, newest entry", newest), ("settled frame, no entry", 63)] {
-        let (a, b, c) = logs();
-        case(
-            name,
-            call!(line => unsafe { engine::joukerpan_settled_frame(*black_box(&proved), a.as_ptr(), LOG, line) }),
-            call!(line => plain::settled_frame(black_box(&record), &b, line)),
-            call!(line => unsafe { by_value::settled_frame(*black_box(&record), c.as_ptr(), LOG, line) }),
-        );
-    }
+    let ((a, b, c), line) = (logs(), 5);
+    case(
+        "settled frame",
+        call!(line => unsafe { engine::joukerpan_settled_frame(*black_box(&proved), a.as_ptr(), LOG, line) }),
+        call!(line => plain::settled_frame(black_box(&record), &b, line)),
+        call!(line => unsafe { by_value::settled_frame(*black_box(&record), c.as_ptr(), LOG, line) }),
+    );
     let ((a, b, c), line) = (logs(), 63);
     case(
         "tentative frame, no entry",
@@ -253,6 +255,41 @@ fn reading_cases(of: State, cases: &mut Vec<Case>) {
         call!(line => plain::tentative_frame(black_box(&record), &b, line)),
         call!(line => unsafe { by_value::tentative_frame(*black_box(&record), c.as_ptr(), LOG, line) }),
     );
+}
+
+/// The settled frame whole: in one call, and by a call for each line.
+fn all_lines_cases(of: State, cases: &mut Vec<Case>) {
+    let Sample { record, log } = state(of, 0);
+    let proved = to_engine(&record);
+    let logs = || (log.clone(), log.clone(), log.clone());
+    let mut case = |call: &str, engine: Call, second: Call, by_value: Call| {
+        cases.push(Case { call: call.into(), state: of, engine, second, by_value });
+    };
+    let (a, b, c) = logs();
+    case(
+        ALL_LINES,
+        call!(unsafe { engine::joukerpan_all_lines(*black_box(&proved), a.as_ptr(), LOG) }),
+        call!(plain::settled_codes(black_box(&record), &b)),
+        call!(unsafe { by_value::all_lines(*black_box(&record), c.as_ptr(), LOG) }),
+    );
+    let (a, b, c) = logs();
+    case(
+        LINE_BY_LINE,
+        each_line(move |line| unsafe {
+            engine::joukerpan_settled_frame(*black_box(&proved), a.as_ptr(), LOG, line).code
+        }),
+        each_line(move |line| plain::settled_frame(black_box(&record), &b, line).1),
+        each_line(move |line| unsafe { by_value::settled_frame(*black_box(&record), c.as_ptr(), LOG, line) }),
+    );
+}
+
+/// A closure that makes the call for each line.
+fn each_line(mut code: impl FnMut(u32) -> u32 + 'static) -> Call {
+    Box::new(move || {
+        for line in 0..LINES {
+            black_box(code(black_box(line)));
+        }
+    })
 }
 
 /// Issue, which changes the record alone, and send.
@@ -327,6 +364,7 @@ fn found_case(cases: &mut Vec<Case>) {
 fn all_cases(of: State, cases: &mut Vec<Case>) {
     sound_case(of, cases);
     reading_cases(of, cases);
+    all_lines_cases(of, cases);
     writing_cases(of, cases);
     elect_case(of, cases);
     take_case("nothing new", of, of, cases);
@@ -357,10 +395,18 @@ fn cases() -> Vec<Case> {
     cases
 }
 
-/// Prints a table of the times and their ratios, and one of how each call grows with the log.
+/// Prints a table of the times and their ratios, one of how each call grows with the log, and one of the settled
+/// frame whole and line by line.
 pub fn print() -> Result<()> {
     let mut output = stdout().lock();
-    let mut rows: Vec<(Case, Time)> = vec![];
+    let rows = print_times(&mut output)?;
+    print_growth(&rows, &mut output)?;
+    print_frames(&rows, &mut output)
+}
+
+/// Times every case and prints it.
+fn print_times(output: &mut impl Write) -> Result<Vec<(Case, Time)>> {
+    let mut rows = vec![];
     writeln!(output, "| Call | Settled | Entries | Ballots | Engine, ns | Second, ns | Ratio | Ratio by value |")?;
     writeln!(output, "|---|---:|---|---|---:|---:|---:|---:|")?;
     for mut case in cases() {
@@ -374,6 +420,11 @@ pub fn print() -> Result<()> {
         )?;
         rows.push((case, time));
     }
+    Ok(rows)
+}
+
+/// How much each call takes for a further settled entry.
+fn print_growth(rows: &[(Case, Time)], output: &mut impl Write) -> Result<()> {
     writeln!(
         output,
         "\n| Call | Entries | Ballots | Engine, ns a settled entry | Second, ns a settled entry | Ratio |"
@@ -386,6 +437,29 @@ pub fn print() -> Result<()> {
             let (call, entries, ballots) = (&long.call, long.state.entries(), long.state.ballots.name());
             let ratio = engine / second;
             writeln!(output, "| {call} | {entries} | {ballots} | {engine:.2} | {second:.2} | {ratio:.2} |")?;
+        }
+    }
+    Ok(())
+}
+
+/// All lines in one call beside a call for each line.
+fn print_frames(rows: &[(Case, Time)], output: &mut impl Write) -> Result<()> {
+    writeln!(
+        output,
+        "\n| Settled | Entries | Ballots | Engine, one call, ns | Engine, 64 calls, ns | Times | Second, one call, ns | Second, 64 calls, ns | Times |"
+    )?;
+    writeln!(output, "|---:|---|---|---:|---:|---:|---:|---:|---:|")?;
+    for (whole, one) in rows.iter().filter(|(case, _)| case.call == ALL_LINES) {
+        let by_line = |(case, _): &&(Case, Time)| case.call == LINE_BY_LINE && case.state == whole.state;
+        if let Some((_, many)) = rows.iter().find(by_line) {
+            let State { settled, ballots, .. } = whole.state;
+            let (entries, ballots) = (whole.state.entries(), ballots.name());
+            let (engine, second) = (many.engine / one.engine, many.second / one.second);
+            writeln!(
+                output,
+                "| {settled} | {entries} | {ballots} | {:.0} | {:.0} | {engine:.0} | {:.0} | {:.0} | {second:.0} |",
+                one.engine, many.engine, one.second, many.second
+            )?;
         }
     }
     Ok(())

@@ -5,7 +5,7 @@ use std::slice::{from_raw_parts, from_raw_parts_mut};
 
 use joukerpan_sys::Weights;
 use second::calls as plain;
-use second::record::Record;
+use second::record::{Codes, Record};
 
 /// An answer that holds a record; the record comes first, as in the engine's.
 #[repr(C)]
@@ -19,6 +19,13 @@ impl Answer {
     fn of((number, record): (u32, Record)) -> Answer {
         Answer { record, number, count: 0 }
     }
+}
+
+/// A number and 64 codes, as the engine answers all lines.
+#[repr(C)]
+pub struct Lines {
+    number: u32,
+    codes: Codes,
 }
 
 // SAFETY of every function below: its pointers name as many elements as the number after them says, for as long as
@@ -37,6 +44,12 @@ pub unsafe extern "C" fn sound(record: Record, log: *const u32, words: usize) ->
 #[inline(never)]
 pub unsafe extern "C" fn settled(record: Record, log: *const u32, words: usize) -> usize {
     plain::settled(&record, from_raw_parts(log, words)).1.len()
+}
+
+#[inline(never)]
+pub unsafe extern "C" fn all_lines(record: Record, log: *const u32, words: usize) -> Lines {
+    let (number, codes) = plain::settled_codes(&record, from_raw_parts(log, words));
+    Lines { number, codes }
 }
 
 #[inline(never)]

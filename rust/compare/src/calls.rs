@@ -14,8 +14,8 @@ use crate::forge::{any_bytes, damaged, forged};
 use crate::samples::{any_sample, break_clause, huge, Family, CLAUSES};
 
 /// The calls, in the order of the tally.
-const CALLS: [&str; 9] =
-    ["found", "sound", "issue", "settled", "settled frame", "tentative frame", "elect", "send", "take"];
+const CALLS: [&str; 10] =
+    ["found", "sound", "issue", "settled", "settled frame", "tentative frame", "elect", "send", "take", "all lines"];
 const NUMBERS: usize = 11;
 /// Elements on both sides of a lent buffer that no call may touch.
 const GUARD: usize = 16;
@@ -31,8 +31,10 @@ struct Tally {
     elected_one: u64,
     elected_more: u64,
     elected_weight: u64,
+    elected_code: u64,
     grown: u64,
     taken_weight: u64,
+    taken_code: u64,
     adopted: u64,
     long_logs: u64,
 }
@@ -163,6 +165,12 @@ impl Trial<'_> {
         same(&format!("tentative frame of {line}"), engine, answer)
     }
 
+    fn all_lines(&mut self) -> Result<(), String> {
+        let answer = plain::settled_codes(&self.record, self.log.part());
+        self.count(9, answer.0);
+        same("all lines", engine::all_lines(&self.record, self.log.part()), answer)
+    }
+
     fn elect(&mut self) -> Result<(), String> {
         let mut log = self.log.clone();
         let engine = engine::elect(&self.record, log.part_mut());
@@ -171,6 +179,7 @@ impl Trial<'_> {
         self.tally.elected_one += u64::from(answer.1 == 1);
         self.tally.elected_more += u64::from(answer.1 > 1);
         self.tally.elected_weight += u64::from(answer.2.present != self.record.present);
+        self.tally.elected_code += u64::from(answer.2.codes != self.record.codes);
         same("elect", engine, answer)?;
         same_lent("elect's log", &log, &self.log)?;
         self.record = answer.2;
@@ -202,6 +211,7 @@ impl Trial<'_> {
         self.count(8, answer.0);
         self.tally.grown += u64::from(answer.1.settled > self.record.settled);
         self.tally.taken_weight += u64::from(answer.1.present != self.record.present);
+        self.tally.taken_code += u64::from(answer.1.codes != self.record.codes);
         self.tally.adopted += u64::from(answer.1.ballots != self.record.ballots);
         same(&format!("take of {message:02X?}"), engine, answer)?;
         same_lent("take's log", &log, &self.log)?;
@@ -235,14 +245,15 @@ impl Trial<'_> {
 
     /// One call of any kind.
     fn call(&mut self, family: &Family) -> Result<(), String> {
-        match self.random.below(12) {
+        match self.random.below(13) {
             0 => self.found(),
             1 => self.sound(),
             2 | 3 => self.issue(),
             4 => self.settled(),
             5 => self.frames(),
-            6 | 7 => self.elect(),
-            8 => self.send(),
+            6 => self.all_lines(),
+            7 | 8 => self.elect(),
+            9 => self.send(),
             _ => self.take(family),
         }
     }
@@ -315,6 +326,7 @@ impl Tally {
         writeln!(output, "elections of one entry {}, of more {}", self.elected_one, self.elected_more)?;
         writeln!(output, "takes that grew the log {}, that changed a ballot {}", self.grown, self.adopted)?;
         writeln!(output, "elections that moved weight {}, takes {}", self.elected_weight, self.taken_weight)?;
+        writeln!(output, "elections that changed a code {}, takes {}", self.elected_code, self.taken_code)?;
         writeln!(output, "logs above {LOG} words {}", self.long_logs)?;
         writeln!(output, "records refused with {UNSOUND} for one broken clause:")?;
         for (clause, count) in CLAUSES.iter().zip(&self.clauses) {

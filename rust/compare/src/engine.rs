@@ -4,12 +4,13 @@ use std::mem::{offset_of, size_of, transmute};
 
 use joukerpan_sys as engine;
 use joukerpan_sys::Weights;
-use second::record::{Record, OFFICES};
+use second::record::{Codes, Record, OFFICES};
 
 const _: () = {
     assert!(size_of::<Record>() == size_of::<engine::Record>());
     assert!(offset_of!(Record, weights) == offset_of!(engine::Record, weights));
     assert!(offset_of!(Record, present) == offset_of!(engine::Record, summary.present));
+    assert!(offset_of!(Record, codes) == offset_of!(engine::Record, summary.codes));
     assert!(offset_of!(Record, settled) == offset_of!(engine::Record, settled));
     assert!(offset_of!(Record, ballots) == offset_of!(engine::Record, ballots));
 };
@@ -46,6 +47,11 @@ pub fn issue(record: &Record, log: &[u32], line: u32, code: u32) -> (u32, Record
 pub fn settled(record: &Record, log: &[u32]) -> (u32, usize) {
     let answer = unsafe { engine::joukerpan_settled(to_engine(record), log.as_ptr(), log.len()) };
     (answer.number, answer.length)
+}
+
+pub fn all_lines(record: &Record, log: &[u32]) -> (u32, Codes) {
+    let answer = unsafe { engine::joukerpan_all_lines(to_engine(record), log.as_ptr(), log.len()) };
+    (answer.number, answer.codes)
 }
 
 pub fn settled_frame(record: &Record, log: &[u32], line: u32) -> (u32, u32) {

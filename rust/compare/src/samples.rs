@@ -2,7 +2,7 @@
 //! soundness broken or several, and records of any numbers at all.
 
 use second::random::Random;
-use second::record::{entry, Ballot, Record, CODES, LINES, LOG, OFFICES, TAIL};
+use second::record::{code_of, entry, is_move, line_of, Ballot, Record, CODES, LINES, LOG, OFFICES, TAIL};
 use second::samples::Sample;
 
 /// What related samples have in common: offices, weights, few entries, and one path that they all stray from.
@@ -17,7 +17,8 @@ pub struct Family {
 
 /// Any edit among n offices, at the limits more often than not.
 fn any_edit(random: &mut Random, n: usize) -> u32 {
-    let line = random.pick(&[0, 1, 5, 5, 62, 63]);
+    let any = random.below(LINES as usize) as u32;
+    let line = random.pick(&[0, 1, 5, 5, 62, 63, any]);
     let code = random.pick(&[0, 1, 120, 255, 256, 9998, 9999]);
     entry(random.below(n), line, code)
 }
@@ -148,7 +149,9 @@ impl Family {
         for ballot in &mut record.ballots[..self.n] {
             *ballot = self.ballot(random, settled);
         }
-        Sample { record, log }.derived()
+        let mut sample = Sample { record, log };
+        sample.derive();
+        sample
     }
 
     /// A log of 1,024 words or more, none of them settled.
@@ -187,7 +190,7 @@ impl Family {
 }
 
 /// The clauses of soundness that can be broken apart.
-pub const CLAUSES: [&str; 26] = [
+pub const CLAUSES: [&str; 30] = [
     "log below 1024 words",
     "n is 0",
     "n above 8",
@@ -214,6 +217,10 @@ pub const CLAUSES: [&str; 26] = [
     "present weights, their total kept",
     "a present weight from place n on",
     "a settled move that the present weights do not show",
+    "a code",
+    "codes at each other's lines",
+    "a settled edit that the codes do not show",
+    "a settled move that the codes show",
 ];
 
 /// Breaks one clause of soundness of a record that is sound, or was before other clauses were broken.
@@ -251,11 +258,10 @@ pub fn break_clause(random: &mut Random, clause: usize, sample: &mut Sample) {
         19 => record.ballots[past].len = random.pick(&[1, 1, TAIL]),
         20 => record.ballots[past].cells[random.pick(&[0, TAIL - 1])] = random.pick(&[1, 1 << 31]),
         21 => too_long_a_path(record, log, office),
-        _ => return break_present(random, clause, sample),
+        22..=25 => return break_present(random, clause, sample),
+        _ => return break_codes(random, clause, sample),
     }
-    if record.settled <= log.len() {
-        *sample = sample.clone().derived(); // so that no other clause is broken
-    }
+    sample.derive(); // so that no other clause is broken
 }
 
 /// Breaks the present weights; where the clause cannot be broken so, one of them by itself.
@@ -271,25 +277,65 @@ fn break_present(random: &mut Random, clause: usize, sample: &mut Sample) {
         }
         24 if n < OFFICES => present[random.within(n, OFFICES - 1)] = random.pick(&[1, u16::MAX]),
         25 if random.percent(30) => *present = sample.record.weights,
-        25 => hide_move(sample, entry(office, LINES + other as u32, 1)),
+        25 => {
+            let present = *present;
+            *sample = with_last(sample, entry(office, LINES + other as u32, 1));
+            sample.record.present = present;
+        }
         _ => {}
     }
-    if *sample == before {
+    if sample.record.present == derived(sample).record.present {
+        *sample = before;
         let weight = &mut sample.record.present[office];
         *weight = weight.wrapping_add(random.pick(&[1, 1, 256, u16::MAX]));
     }
 }
 
-/// Makes the last settled word, or a first one, a move, if the present weights then do not show it.
-fn hide_move(sample: &mut Sample, word: u32) {
-    let mut hidden = sample.clone();
-    let last = hidden.record.settled.saturating_sub(1);
-    let Some(place) = hidden.log.get_mut(last) else { return };
-    *place = word;
-    hidden.record.settled = last + 1;
-    if hidden.clone().derived() != hidden {
-        *sample = hidden;
+/// Breaks the stored codes; where the clause cannot be broken so, one of them by itself.
+fn break_codes(random: &mut Random, clause: usize, sample: &mut Sample) {
+    let before = sample.clone();
+    let codes = &mut sample.record.codes;
+    let any = random.below(codes.len());
+    let line = random.pick(&[0, 1, 5, 62, 63, any]);
+    match clause {
+        27 => codes.swap(line, any),
+        28 => {
+            let (codes, edit) = (*codes, entry(0, line as u32, random.below(CODES as usize) as u32));
+            *sample = with_last(sample, edit);
+            sample.record.codes = codes;
+        }
+        29 => {
+            let settled = sample.log.iter().take(sample.record.settled);
+            if let Some(&word) = settled.rev().find(|&&word| is_move(word)) {
+                codes[(line_of(word) % LINES) as usize] = code_of(word);
+            }
+        }
+        _ => {}
     }
+    if sample.record.codes == derived(sample).record.codes {
+        *sample = before;
+        let code = &mut sample.record.codes[line];
+        *code = code.wrapping_add(random.pick(&[1, u32::MAX, 1, u32::MAX, 256, 1 << 16, 1 << 31]));
+    }
+}
+
+/// The sample with present weights and codes that follow from its log.
+fn derived(sample: &Sample) -> Sample {
+    let mut derived = sample.clone();
+    derived.derive();
+    derived
+}
+
+/// The sample with this entry as its last settled one, or as a first one, and with what follows from that.
+fn with_last(sample: &Sample, word: u32) -> Sample {
+    let mut other = sample.clone();
+    let last = other.record.settled.saturating_sub(1);
+    if let Some(place) = other.log.get_mut(last) {
+        *place = word;
+        other.record.settled = last + 1;
+        other.derive();
+    }
+    other
 }
 
 /// One office fewer than n, where the last one has a weight or a ballot; the weight is made if there is neither.
@@ -333,6 +379,9 @@ pub fn any_sample(random: &mut Random) -> Sample {
     let mut record = Record { n: number(random, OFFICES), own: number(random, OFFICES), ..Record::ZERO };
     for weight in record.weights.iter_mut().chain(&mut record.present) {
         *weight = random.pick(&[0, 1, u16::MAX]);
+    }
+    for code in &mut record.codes {
+        *code = random.pick(&[0, 0, 120, CODES - 1, CODES, u32::MAX]);
     }
     record.settled = number(random, LOG);
     for ballot in &mut record.ballots {

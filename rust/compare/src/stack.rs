@@ -6,7 +6,7 @@ use std::io::{stdout, Result, Write};
 use std::mem::transmute;
 
 use joukerpan_sys as engine;
-use joukerpan_sys::{Elected, Founded, Framed, Issued, Part, Sent, Taken, Weights};
+use joukerpan_sys::{Elected, Founded, Framed, Issued, Lines, Part, Sent, Taken, Weights};
 use second::message::LONGEST;
 use second::random::Random;
 use second::record::{LOG, OFFICES};
@@ -30,6 +30,7 @@ struct Calls {
     sound: unsafe extern "C" fn(engine::Record, *const u32, usize) -> bool,
     issue: unsafe extern "C" fn(engine::Record, *const u32, usize, u32, u32) -> Issued,
     settled: unsafe extern "C" fn(engine::Record, *const u32, usize) -> Part,
+    all_lines: unsafe extern "C" fn(engine::Record, *const u32, usize) -> Lines,
     settled_frame: unsafe extern "C" fn(engine::Record, *const u32, usize, u32) -> Framed,
     tentative_frame: unsafe extern "C" fn(engine::Record, *const u32, usize, u32) -> Framed,
     elect: unsafe extern "C" fn(engine::Record, *mut u32, usize) -> Elected,
@@ -46,6 +47,7 @@ impl Calls {
             sound: engine::joukerpan_sound,
             issue: engine::joukerpan_issue,
             settled: engine::joukerpan_settled,
+            all_lines: engine::joukerpan_all_lines,
             settled_frame: engine::joukerpan_settled_frame,
             tentative_frame: engine::joukerpan_tentative_frame,
             elect: engine::joukerpan_elect,
@@ -65,6 +67,7 @@ impl Calls {
                 sound: transmute(nothing),
                 issue: transmute(nothing),
                 settled: transmute(nothing),
+                all_lines: transmute(nothing),
                 settled_frame: transmute(nothing),
                 tentative_frame: transmute(nothing),
                 elect: transmute(nothing),
@@ -104,7 +107,7 @@ macro_rules! call {
     }};
 }
 
-const CALLS: [Call; 9] = [
+const CALLS: [Call; 10] = [
     ("found", |calls, input| {
         let (log, length) = input.log();
         call!(calls.found, 3, 0, Weights { of: [1; OFFICES] }, log, length)
@@ -123,6 +126,10 @@ const CALLS: [Call; 9] = [
     ("settled", |calls, input| {
         let (log, length) = input.log();
         call!(calls.settled, to_engine(&input.sample.record), log, length)
+    }),
+    ("all lines", |calls, input| {
+        let (log, length) = input.log();
+        call!(calls.all_lines, to_engine(&input.sample.record), log, length)
     }),
     ("settled frame", |calls, input| {
         let (log, length) = input.log();

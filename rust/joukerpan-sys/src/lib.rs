@@ -38,6 +38,8 @@ pub struct Ballot {
 pub struct Summary {
     /// Present weight of each office, by which elections count: the founding weights after the settled moves.
     pub present: [u16; OFFICES],
+    /// Settled code of each line: that of the last entry for it in the settled log, 0 where there is none.
+    pub codes: [u32; LINES as usize],
 }
 
 /// What one office knows, apart from its log.
@@ -106,6 +108,16 @@ pub struct Framed {
     pub code: u32,
 }
 
+/// The answer of all lines.
+#[repr(C)]
+#[derive(Clone, Copy, Debug, PartialEq, Eq)]
+pub struct Lines {
+    /// 0, or the refusal's number.
+    pub number: u32,
+    /// Each line's code; 0 where it has none, and each 0 where the call is refused.
+    pub codes: [u32; LINES as usize],
+}
+
 /// Elect's answer.
 #[repr(C)]
 #[derive(Clone, Copy, Debug, PartialEq, Eq)]
@@ -153,6 +165,9 @@ extern "C" {
     /// How many words at the front of the log are settled.
     pub fn joukerpan_settled(record: Record, log: *const u32, log_len: usize) -> Part;
 
+    /// The code of the last entry for each line in the settled log.
+    pub fn joukerpan_all_lines(record: Record, log: *const u32, log_len: usize) -> Lines;
+
     /// The code of the last entry for the line in the settled log.
     pub fn joukerpan_settled_frame(record: Record, log: *const u32, log_len: usize, line: u32) -> Framed;
 
@@ -180,16 +195,17 @@ const _: () = {
     use core::mem::{align_of, offset_of, size_of};
     assert!(size_of::<usize>() == 8);
     assert!(size_of::<Ballot>() == 136 && offset_of!(Ballot, cells) == 8);
-    assert!(size_of::<Summary>() == 16);
-    assert!(size_of::<Record>() == 1144 && align_of::<Record>() == 8);
+    assert!(size_of::<Summary>() == 272 && offset_of!(Summary, codes) == 16 && align_of::<Summary>() == 4);
+    assert!(size_of::<Record>() == 1400 && align_of::<Record>() == 8);
     assert!(offset_of!(Record, own) == 8 && offset_of!(Record, weights) == 16 && offset_of!(Record, summary) == 32);
-    assert!(offset_of!(Record, settled) == 48 && offset_of!(Record, ballots) == 56);
+    assert!(offset_of!(Record, settled) == 304 && offset_of!(Record, ballots) == 312);
     assert!(size_of::<Weights>() == 16 && align_of::<Weights>() == 2);
-    assert!(size_of::<Founded>() == 1152 && offset_of!(Founded, number) == 1144);
-    assert!(size_of::<Issued>() == 1152 && offset_of!(Issued, number) == 1144);
+    assert!(size_of::<Founded>() == 1408 && offset_of!(Founded, number) == 1400);
+    assert!(size_of::<Issued>() == 1408 && offset_of!(Issued, number) == 1400);
     assert!(size_of::<Part>() == 16 && offset_of!(Part, length) == 8);
     assert!(size_of::<Framed>() == 8 && offset_of!(Framed, code) == 4);
-    assert!(size_of::<Elected>() == 1160 && offset_of!(Elected, number) == 1144 && offset_of!(Elected, count) == 1152);
+    assert!(size_of::<Lines>() == 260 && offset_of!(Lines, codes) == 4 && align_of::<Lines>() == 4);
+    assert!(size_of::<Elected>() == 1416 && offset_of!(Elected, number) == 1400 && offset_of!(Elected, count) == 1408);
     assert!(size_of::<Sent>() == 16 && offset_of!(Sent, length) == 8);
-    assert!(size_of::<Taken>() == 1152 && offset_of!(Taken, number) == 1144);
+    assert!(size_of::<Taken>() == 1408 && offset_of!(Taken, number) == 1400);
 };

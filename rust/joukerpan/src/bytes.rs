@@ -12,7 +12,7 @@ use crate::{Office, Unreadable};
 const MARK: [u8; 4] = *b"JKPN";
 
 /// The versions by name, version 1 first. The last one is written and read, the others are refused.
-pub(crate) const VERSIONS: [&str; 2] = ["fixed weights", "present weights"];
+pub(crate) const VERSIONS: [&str; 3] = ["fixed weights", "present weights", "settled codes"];
 
 /// The version that is written and read.
 pub(crate) const VERSION: u32 = VERSIONS.len() as u32;
@@ -79,7 +79,7 @@ impl Numbers<'_> {
 
 impl Office {
     /// The office as bytes, to be stored before anything of it is sent or shown: with a version and a
-    /// check sum, 1,144 bytes and 4 for each settled entry.
+    /// check sum, 1,400 bytes and 4 for each settled entry.
     ///
     /// ```
     /// use joukerpan::Office;
@@ -90,10 +90,11 @@ impl Office {
     /// # Ok::<(), Box<dyn std::error::Error>>(())
     /// ```
     pub fn to_bytes(&self) -> Vec<u8> {
-        let Record { n, own, weights, summary: Summary { present }, settled, ballots } = self.record();
+        let Record { n, own, weights, summary: Summary { present, codes }, settled, ballots } = self.record();
         let mut numbers = vec![*n as u32, *own as u32, *settled as u32];
         numbers.extend(weights.map(u32::from));
         numbers.extend(present.map(u32::from));
+        numbers.extend(codes);
         for ballot in ballots {
             numbers.push(ballot.len as u32);
             numbers.extend(ballot.cells);
@@ -123,7 +124,7 @@ impl Office {
         let mut numbers = opened(bytes)?;
         let [n, own, settled] = numbers.next()?.map(|number| number as usize);
         let weights = numbers.weights()?;
-        let summary = Summary { present: numbers.weights()? };
+        let summary = Summary { present: numbers.weights()?, codes: numbers.next()? };
         let mut ballots = [Ballot { len: 0, cells: [0; TAIL] }; OFFICES];
         for ballot in &mut ballots {
             let [len] = numbers.next()?;
@@ -138,7 +139,14 @@ impl Office {
 #[cfg(test)]
 mod tests {
     use super::{check_sum, sealed, VERSION};
-    use crate::{Office, Unreadable, OFFICES, TAIL};
+    use crate::{Office, Unreadable, LINES, OFFICES, TAIL};
+
+    /// Where the parts begin among an office's numbers.
+    const WEIGHTS: usize = 3;
+    const PRESENT: usize = WEIGHTS + OFFICES;
+    const CODES: usize = PRESENT + OFFICES;
+    const BALLOTS: usize = CODES + LINES as usize;
+    const SETTLED: usize = BALLOTS + OFFICES * (1 + TAIL);
 
     /// An office with a settled edit, a settled move and a ballot.
     fn office() -> Office {
@@ -157,6 +165,13 @@ mod tests {
         numbers[3 + OFFICES + 1 + TAIL..][..2].copy_from_slice(&[1, 0x0106_0007]);
         numbers.push(0x0105_0082);
         sealed(1, &numbers)
+    }
+
+    /// The bytes that version 2 wrote of the office: without the codes.
+    fn of_version_2() -> Vec<u8> {
+        let mut numbers = numbers(&office());
+        numbers.drain(CODES..BALLOTS);
+        sealed(2, &numbers)
     }
 
     /// The numbers of the office's bytes, without mark, version and check sum.
@@ -178,24 +193,27 @@ mod tests {
     /// Where this fails the layout has changed, and the version has to, too.
     #[test]
     fn a_version_is_one_layout() {
-        assert_eq!((VERSION, layout(&office().to_bytes())), (2, 0xA8BB_308B));
+        assert_eq!((VERSION, layout(&office().to_bytes())), (3, 0xACAA_5213));
     }
 
     #[test]
-    fn bytes_of_version_1_are_refused_by_its_name() {
-        let bytes = of_version_1();
-        assert_eq!(layout(&bytes), 0xCA83_B039);
-        let refused = Office::from_bytes(&bytes).unwrap_err();
-        assert_eq!(refused, Unreadable::OtherVersion(1));
-        assert_eq!(
-            refused.to_string(),
-            "no office read: the bytes are of version 1 (fixed weights); read is version 2 (present weights)"
-        );
+    fn bytes_of_earlier_versions_are_refused_by_name() {
+        let earlier = [
+            (of_version_1(), 0xCA83_B039, "version 1 (fixed weights)"),
+            (of_version_2(), 0xA8BB_308B, "version 2 (present weights)"),
+        ];
+        for (version, (bytes, wanted, name)) in (1..).zip(earlier) {
+            assert_eq!(layout(&bytes), wanted);
+            let refused = Office::from_bytes(&bytes).unwrap_err();
+            assert_eq!(refused, Unreadable::OtherVersion(version));
+            let sentence = format!("no office read: the bytes are of {name}; read is version 3 (settled codes)");
+            assert_eq!(refused.to_string(), sentence);
+        }
     }
 
     #[test]
     fn other_versions_are_refused() {
-        for version in [0, 1, VERSION + 1, u32::MAX] {
+        for version in [0, 1, 2, VERSION + 1, u32::MAX] {
             let bytes = sealed(version, &numbers(&office()));
             assert_eq!(Office::from_bytes(&bytes), Err(Unreadable::OtherVersion(version)));
         }
@@ -204,18 +222,28 @@ mod tests {
 
     #[test]
     fn whole_bytes_of_no_sound_office_are_refused() {
-        let (weights, present, ballots) = (3, 3 + OFFICES, 3 + 2 * OFFICES);
-        let log = ballots + OFFICES * (1 + TAIL);
         let changes = [
             [(0, 9), (1, 3), (2, 1025), (2, u32::MAX)],
-            [(weights, 65_536), (weights, 41), (present, 65_536), (present, 41)],
-            [(present + 1, 60), (present + 2, 0), (present + 3, 1), (present + 7, u32::MAX)],
-            [(ballots, 33), (ballots + 1, 1), (log, 1 << 27), (log + 1, 0x0142_000B)],
+            [(WEIGHTS, 65_536), (WEIGHTS, 41), (PRESENT, 65_536), (PRESENT, 41)],
+            [(PRESENT + 1, 60), (PRESENT + 2, 0), (PRESENT + 3, 1), (PRESENT + 7, u32::MAX)],
+            [(BALLOTS, 33), (BALLOTS + 1, 1), (SETTLED, 1 << 27), (SETTLED + 1, 0x0142_000B)],
+            [(CODES + 5, 0), (CODES + 5, 65_536 + 130), (CODES + 6, 7), (SETTLED, 0x0105_0083)],
         ];
         for (place, number) in changes.concat() {
             let mut numbers = numbers(&office());
             numbers[place] = number;
             assert_eq!(Office::from_bytes(&sealed(VERSION, &numbers)), Err(Unreadable::Unsound), "{place}");
+        }
+    }
+
+    #[test]
+    fn a_code_that_is_off_by_one_is_refused() {
+        for place in CODES..BALLOTS {
+            for change in [1, u32::MAX] {
+                let mut numbers = numbers(&office());
+                numbers[place] = numbers[place].wrapping_add(change);
+                assert_eq!(Office::from_bytes(&sealed(VERSION, &numbers)), Err(Unreadable::Unsound), "{place}");
+            }
         }
     }
 

@@ -24,6 +24,7 @@
 //! there.take(&here.message())?;                 // office 2 hears of it and joins: 65 of 100
 //! assert_eq!(there.elect(), 1);
 //! assert_eq!(there.settled_frame(5), Ok(120));
+//! assert_eq!(there.frame()[5], 120);            // all 64 lines in one call
 //! # Ok::<(), Refused>(())
 //! ```
 //!

@@ -34,7 +34,7 @@ pub struct Office {
 }
 
 /// Whether the record with its log is sound: the log has 1,024 words or more, every limit is kept, and the
-/// present weights are those that follow from the founding weights and the settled log.
+/// present weights and the settled codes are those that follow from the founding weights and the settled log.
 ///
 /// Every record, log and number has its answer; [`Office::from_parts`] asks this one.
 pub fn sound(record: &Record, log: &[u32]) -> bool {
@@ -103,7 +103,8 @@ impl Office {
         (self.record, self.log)
     }
 
-    /// The record: offices, founding and present weights, settled length and the ballots that are known.
+    /// The record: offices, founding and present weights, settled codes, settled length and the ballots that
+    /// are known.
     pub fn record(&self) -> &Record {
         &self.record
     }
@@ -234,7 +235,34 @@ impl Office {
         &self.log[..part.length]
     }
 
+    /// The settled frame whole, a code for each of the 64 lines: what [`Office::settled_frame`] answers for it.
+    ///
+    /// The record holds these codes, and take and elect keep them true; the engine tests them against the log
+    /// once, for all lines together. So a screen that shows every line asks this, and not 64 times for one.
+    /// Two offices with equal settled logs have equal frames.
+    ///
+    /// ```
+    /// use joukerpan::{Office, Refused};
+    ///
+    /// let mut office = Office::found(0, &[1])?;
+    /// assert_eq!(office.frame(), [0; 64]);
+    /// office.issue(5, 120)?;
+    /// office.issue(63, 7)?;
+    /// office.elect();
+    ///
+    /// let frame = office.frame();
+    /// assert_eq!((frame[5], frame[6], frame[63]), (120, 0, 7));
+    /// # Ok::<(), Refused>(())
+    /// ```
+    pub fn frame(&self) -> [u32; LINES as usize] {
+        // SAFETY: the log names its words for as long as the call lasts; the engine only reads them.
+        let lines = unsafe { engine::joukerpan_all_lines(self.record, self.log.as_ptr(), LOG) };
+        debug_assert_eq!(lines.number, 0, "an office is sound");
+        lines.codes
+    }
+
     /// The line's code in the settled frame, which the tabulator prints from; 0 if it has none.
+    /// [`Office::frame`] gives all lines at once.
     ///
     /// # Errors
     ///
@@ -302,7 +330,8 @@ impl Office {
     }
 
     /// Works in another office's message: the settled entries that are missing here, with the weights that
-    /// they move, then every ballot that is more than what is known. The same message again changes nothing.
+    /// they move and the codes that they set, then every ballot that is more than what is known. The same
+    /// message again changes nothing.
     ///
     /// # Errors
     ///

@@ -21,7 +21,7 @@ fn office() -> Office {
 fn what_is_stored_is_read_back() {
     for office in [office(), Office::found(0, &[1]).unwrap(), Office::found(7, &[65_535; 8]).unwrap()] {
         let bytes = office.to_bytes();
-        assert_eq!(bytes.len(), 1144 + 4 * office.settled().len());
+        assert_eq!(bytes.len(), 1400 + 4 * office.settled().len());
         assert_eq!(Office::from_bytes(&bytes), Ok(office));
     }
 }

@@ -13,11 +13,14 @@ fn words(entries: &[Entry]) -> Vec<u32> {
     entries.iter().map(|entry| entry.value()).collect()
 }
 
-/// An office with this settled log and these ballots.
+/// An office with these edits settled and these ballots.
 fn office(own: usize, weights: &[u16], settled: &[Entry], ballots: &[(usize, &[Entry])]) -> Office {
     let (mut record, mut log) = Office::found(own, weights).unwrap().into_parts();
     record.settled = settled.len();
     log[..settled.len()].copy_from_slice(&words(settled));
+    for edit in settled {
+        record.summary.codes[usize::from(edit.line)] = edit.code.into();
+    }
     for &(place, tail) in ballots {
         let ballot = &mut record.ballots[place];
         ballot.len = tail.len();
@@ -150,12 +153,15 @@ fn messages_that_are_refused() {
 #[test]
 fn parts_that_are_not_sound() {
     let sound = office(1, &WEIGHTS, &[A], &[(1, &[D])]);
-    let breaks: [fn(&mut Record); 8] = [
+    let breaks: [fn(&mut Record); 11] = [
         |record| record.n = 9,
         |record| record.own = 3,
         |record| record.weights = [0; OFFICES],
         |record| record.summary.present[0] += 1,
         |record| record.summary.present.swap(0, 2),
+        |record| record.summary.codes[5] -= 1,
+        |record| record.summary.codes[63] = 1,
+        |record| record.summary.codes.swap(5, 6),
         |record| record.settled = 2,
         |record| record.ballots[2].len = 33,
         |record| record.ballots[7].len = 1,

@@ -41,27 +41,32 @@ pub fn settled<'a>(record: &Record, log: &'a [u32]) -> (u32, &'a [u32]) {
     (DONE, &log[..record.settled])
 }
 
+/// The code of the last entry for each line in the settled log.
+pub fn settled_codes(record: &Record, log: &[u32]) -> (u32, Codes) {
+    if !sound(record, log) {
+        return (UNSOUND, Record::ZERO.codes);
+    }
+    (DONE, record.codes)
+}
+
 /// The code of the last entry for the line in the settled log.
 pub fn settled_frame(record: &Record, log: &[u32], line: u32) -> (u32, u32) {
-    frame(record, log, line, false)
-}
-
-/// The code of the last entry for the line in the own path.
-pub fn tentative_frame(record: &Record, log: &[u32], line: u32) -> (u32, u32) {
-    frame(record, log, line, true)
-}
-
-/// One of the two frames: the settled log's, or with the own tail after it.
-fn frame(record: &Record, log: &[u32], line: u32, tentative: bool) -> (u32, u32) {
     if !sound(record, log) {
         return (UNSOUND, 0);
     }
     if line >= LINES {
         return (NO_ENTRY, 0);
     }
-    let tail = if tentative { record.ballots[record.own].tail() } else { &[] };
-    let code = last_code(tail, line).or_else(|| last_code(&log[..record.settled], line));
-    (DONE, code.unwrap_or(0))
+    (DONE, record.codes[line as usize])
+}
+
+/// The code of the last entry for the line in the own path.
+pub fn tentative_frame(record: &Record, log: &[u32], line: u32) -> (u32, u32) {
+    let (number, settled) = settled_frame(record, log, line);
+    if number != DONE {
+        return (number, 0);
+    }
+    (DONE, last_code(record.ballots[record.own].tail(), line).unwrap_or(settled))
 }
 
 /// The code of the last of the entries for the line, if there is one.

@@ -59,12 +59,13 @@ impl Tally {
     }
 }
 
-/// Writes the winner to the log of a sound record, and moves weight if it is a move; ballots that start with it lose
-/// it, all others become none.
+/// Writes the winner to the log of a sound record, and moves the weight or stores the code that it has; ballots that
+/// start with it lose it, all others become none.
 fn settle(record: &mut Record, log: &mut [u32], winner: u32) {
     log[record.settled] = winner;
     record.settled += 1;
     move_weight(&mut record.present, winner);
+    set_code(&mut record.codes, winner);
     for ballot in record.ballots.iter_mut().filter(|ballot| ballot.len > 0) {
         if ballot.cells[0] == winner {
             ballot.shorten(1);

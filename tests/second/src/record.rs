@@ -47,6 +47,9 @@ pub struct Ballot {
     pub cells: [u32; TAIL],
 }
 
+/// A code for each line of the frame.
+pub type Codes = [u32; LINES as usize];
+
 /// What one office knows, apart from its log.
 #[repr(C)]
 #[derive(Clone, Copy, Debug, PartialEq, Eq)]
@@ -59,6 +62,8 @@ pub struct Record {
     pub weights: [u16; OFFICES],
     /// Weight of each office after the moves of the settled log.
     pub present: [u16; OFFICES],
+    /// Code of the last entry for each line in the settled log, 0 where there is none.
+    pub codes: Codes,
     /// Settled words of the log.
     pub settled: usize,
     /// Last known ballot of each office, none from place n on.
@@ -96,13 +101,14 @@ impl Record {
         own: 0,
         weights: [0; OFFICES],
         present: [0; OFFICES],
+        codes: [0; LINES as usize],
         settled: 0,
         ballots: [Ballot::NONE; OFFICES],
     };
 }
 
 /// The value of an entry whose numbers are within the limits.
-pub fn entry(office: usize, line: u32, code: u32) -> u32 {
+pub const fn entry(office: usize, line: u32, code: u32) -> u32 {
     (office as u32) << 24 | line << 16 | code
 }
 
@@ -159,6 +165,23 @@ pub(crate) fn weights_after(mut weights: [u16; OFFICES], entries: &[u32]) -> [u1
     weights
 }
 
+/// Stores the code of an entry that is settled; a move has none.
+pub(crate) fn set_code(codes: &mut Codes, word: u32) {
+    if let Some(code) = codes.get_mut(line_of(word) as usize) {
+        *code = code_of(word);
+    }
+}
+
+/// The stored codes once these entries are settled. Every line that a word can name has a place, so that none is tested.
+pub(crate) fn codes_after(codes: &Codes, entries: &[u32]) -> Codes {
+    let mut places = [0; 256];
+    places[..codes.len()].copy_from_slice(codes);
+    for &word in entries {
+        places[line_of(word) as usize] = code_of(word);
+    }
+    std::array::from_fn(|line| places[line])
+}
+
 /// Whether all words are entries among n offices. Reads them all, so that it runs on vectors.
 fn all_entries(words: &[u32], n: usize) -> bool {
     words.iter().fold(true, |good, &word| good & is_entry(word, n))
@@ -186,6 +209,7 @@ pub fn sound(record: &Record, log: &[u32]) -> bool {
         || record.settled > LOG
         || !all_entries(&log[..record.settled], record.n)
         || record.present != weights_after(record.weights, &log[..record.settled])
+        || record.codes != codes_after(&Record::ZERO.codes, &log[..record.settled])
     {
         return false;
     }

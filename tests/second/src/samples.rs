@@ -3,7 +3,7 @@
 use crate::generate::weights;
 use crate::message::{length, write};
 use crate::random::Random;
-use crate::record::{entry, is_entry, move_weight, sound, Ballot, Record, LINES, LOG, OFFICES, TAIL};
+use crate::record::{entry, is_entry, move_weight, set_code, sound, Ballot, Record, LINES, LOG, OFFICES, TAIL};
 
 /// A record and its log.
 #[derive(Clone, Debug, PartialEq, Eq)]
@@ -27,16 +27,21 @@ impl Sample {
         }
         let mut log = settled.to_vec();
         log.resize(LOG.max(settled.len()), FILLER);
-        Sample { record, log }.derived()
+        let mut sample = Sample { record, log };
+        sample.derive();
+        sample
     }
 
-    /// The same with the present weights that follow from the settled log; words that are no entries move nothing.
-    pub fn derived(mut self) -> Sample {
-        self.record.present = self.record.weights;
-        for &word in self.log[..self.record.settled].iter().filter(|&&word| is_entry(word, OFFICES)) {
-            move_weight(&mut self.record.present, word);
+    /// Makes the present weights and the codes those of the settled log, as far as its words are entries.
+    pub fn derive(&mut self) {
+        let Sample { record, log } = self;
+        (record.present, record.codes) = (record.weights, Record::ZERO.codes);
+        for &word in log.iter().take(record.settled) {
+            set_code(&mut record.codes, word);
+            if is_entry(word, OFFICES) {
+                move_weight(&mut record.present, word);
+            }
         }
-        self
     }
 
     /// The message that a sound record sends; of no bytes for one that isn't sound.
@@ -136,7 +141,9 @@ impl Family {
         for ballot in &mut record.ballots[..self.n] {
             *ballot = self.ballot(random, settled);
         }
-        Sample { record, log }.derived()
+        let mut sample = Sample { record, log };
+        sample.derive();
+        sample
     }
 
     /// A log of 1024 words or some more, none of which is settled.
@@ -173,7 +180,7 @@ pub fn break_one(random: &mut Random, sample: &mut Sample) {
     let n = record.n.min(OFFICES);
     let (office, past) = (random.below(n), random.within(n.min(OFFICES - 1), OFFICES - 1));
     let wrong = random.pick(&[(n as u32) << 24, 64 << 16, (64 + n as u32) << 16 | 1, 10_000, u32::MAX, 0x00FF_0000]);
-    match random.below(12) {
+    match random.below(14) {
         0 => record.n = random.pick(&[0, 9, n.saturating_sub(1), huge]),
         1 => record.own = random.pick(&[record.n, huge]),
         2 => {
@@ -185,10 +192,12 @@ pub fn break_one(random: &mut Random, sample: &mut Sample) {
         5 if record.settled > 0 => {
             let at = random.below(record.settled);
             log.iter_mut().skip(at).take(1).for_each(|word| *word = wrong);
+            sample.derive();
         }
         5 | 6 => log.truncate(random.pick(&[0, 1, LOG - 1])),
         7 => break_ballot(random, &mut record.ballots[past], wrong, 0),
         8 | 9 => break_present(random, sample, office, past),
+        10 | 11 => break_codes(random, record),
         _ => break_ballot(random, &mut record.ballots[office], wrong, huge),
     }
 }
@@ -204,6 +213,17 @@ fn break_present(random: &mut Random, Sample { record, log }: &mut Sample, offic
             let at = random.below(record.settled);
             log.iter_mut().skip(at).take(1).for_each(|word| *word = entry(office, LINES + to as u32, 1));
         }
+    }
+}
+
+/// Breaks one of the stored codes, or has two stand at each other's lines.
+fn break_codes(random: &mut Random, record: &mut Record) {
+    let lines = record.codes.len();
+    let (line, other) = (random.pick(&[0, 1, 5, 62, 63]), random.below(lines));
+    match random.below(4) {
+        0 => record.codes[line] = random.pick(&[0, 1, 120, 9999, 10_000, u32::MAX]),
+        1 | 2 => record.codes[other] = record.codes[other].wrapping_add(random.pick(&[1, 256, 65_536, u32::MAX])),
+        _ => record.codes.swap(line, other),
     }
 }
 

@@ -34,8 +34,8 @@ pub(crate) fn refusal(record: &Record, log: &[u32], message: &Message) -> u32 {
     DONE
 }
 
-/// Writes the entries that the message's log has beyond the settled log, and moves the weight that they move.
-/// Every ballot whose path extends the new log keeps its path; any other becomes none.
+/// Writes the entries that the message's log has beyond the settled log, moves the weights and stores the codes that
+/// they have. Every ballot whose path extends the new log keeps its path; any other becomes none.
 pub(crate) fn grow(record: &mut Record, log: &mut [u32], message: &Message) {
     let (old, new) = (record.settled, message.settled());
     if new <= old {
@@ -47,6 +47,7 @@ pub(crate) fn grow(record: &mut Record, log: &mut [u32], message: &Message) {
     }
     record.settled = new;
     record.present = weights_after(record.present, missing);
+    record.codes = codes_after(&record.codes, missing);
     for ballot in record.ballots.iter_mut().filter(|ballot| ballot.len > 0) {
         if ballot.len > missing.len() && ballot.cells.starts_with(missing) {
             ballot.shorten(missing.len());

@@ -2,7 +2,7 @@
 
 use std::io::{Read, Result, Write};
 
-use crate::calls::{found, issue, settled, settled_frame, tentative_frame};
+use crate::calls::{found, issue, settled, settled_codes, settled_frame, tentative_frame};
 use crate::elect::elect;
 use crate::lines::{each_line, letter_and_numbers};
 use crate::message::send;
@@ -34,6 +34,12 @@ impl Digest {
         for &word in words {
             self.add(u64::from(word));
         }
+    }
+
+    fn of(words: &[u32]) -> u64 {
+        let mut digest = Digest::default();
+        digest.add_words(words);
+        digest.0
     }
 }
 
@@ -106,6 +112,7 @@ impl State {
             (b'd', 0) => *self = State::default(),
             (b'r', 11) => self.set_record(values)?,
             (b'p', 8) => self.record.present = weights(values)?,
+            (b'k', 2..) => overwrite(&mut self.record.codes, values[0], &words(&values[1..])?)?,
             (b'b', 2) => {
                 let ballot = self.record.ballots.get_mut(length(values, 0, OFFICES - 1)?)?;
                 *ballot = Ballot { len: values[1] as usize, cells: [0; TAIL] };
@@ -130,7 +137,7 @@ impl State {
         Some(())
     }
 
-    /// Sets all of the record but its ballots; the present weights are those of the founding.
+    /// Sets all of the record but its stored codes and ballots; the present weights are those of the founding.
     fn set_record(&mut self, values: &[u64]) -> Option<()> {
         let weights = weights(&values[2..10])?;
         let (n, own, settled) = (values[0] as usize, values[1] as usize, values[10] as usize);
@@ -149,6 +156,10 @@ impl State {
             }
             (b'P', 0) => self.settled(),
             (b'V', 1) => self.view(word(values, 0)?),
+            (b'A', 0) => {
+                let (number, codes) = settled_codes(&self.record, &self.log);
+                vec![number.into(), Digest::of(&codes)]
+            }
             (b'U', 0) => vec![sound(&self.record, &self.log).into()],
             (b'E', 0) => {
                 let (number, count, record) = elect(self.record, &mut self.log);
@@ -193,14 +204,12 @@ impl State {
     /// The settled part's number, length and digest.
     fn settled(&self) -> Vec<u64> {
         let (number, part) = settled(&self.record, &self.log);
-        let mut digest = Digest::default();
-        digest.add_words(part);
-        vec![number.into(), part.len() as u64, digest.0]
+        vec![number.into(), part.len() as u64, Digest::of(part)]
     }
 
     /// The digest of the record, the log and the output.
     pub fn digest(&self) -> u64 {
-        let Record { n, own, weights, present, settled, ballots } = &self.record;
+        let Record { n, own, weights, present, codes, settled, ballots } = &self.record;
         let mut digest = Digest::default();
         digest.add(*n as u64);
         digest.add(*own as u64);
@@ -208,6 +217,7 @@ impl State {
             digest.add(weight.into());
         }
         digest.add(*settled as u64);
+        digest.add_words(codes);
         for ballot in ballots {
             digest.add(ballot.len as u64);
             digest.add_words(&ballot.cells);

@@ -6,6 +6,7 @@ use crate::trial::State;
 
 mod boundaries;
 mod cases;
+mod codes;
 mod damaged;
 mod layout;
 mod moves;
@@ -60,6 +61,7 @@ impl Trials {
         if self.state.record.present != record.present {
             self.set('p', record.present.iter().map(|&weight| weight.into()));
         }
+        self.set_words('k', &held.codes, &record.codes);
         for (office, ballot) in record.ballots.iter().enumerate() {
             if held.ballots[office] == *ballot {
                 continue;
@@ -80,13 +82,18 @@ impl Trials {
         }
         let filler = most_common(log);
         self.set('l', [log.len() as u64, filler.into()]);
+        self.set_words('w', &vec![filler; log.len()], log);
+    }
+
+    /// Writes the words that differ from those held, as many of a run to a line as it has room for.
+    fn set_words(&mut self, letter: char, held: &[u32], words: &[u32]) {
         let mut at = 0;
-        while let Some(skipped) = log[at..].iter().position(|&word| word != filler) {
-            at += skipped;
-            let rest = &log[at..log.len().min(at + WORDS)];
-            let run = rest.iter().position(|&word| word == filler).unwrap_or(rest.len());
-            self.set('w', std::iter::once(at as u64).chain(rest[..run].iter().map(|&word| word.into())));
-            at += run;
+        while at < words.len() {
+            let run = (at..words.len()).take(WORDS).take_while(|&place| held[place] != words[place]).count();
+            if run > 0 {
+                self.set(letter, std::iter::once(at as u64).chain(words[at..at + run].iter().map(|&word| word.into())));
+            }
+            at += run.max(1);
         }
     }
 
@@ -147,7 +154,7 @@ impl Trials {
 
     /// Every call on the state as it is. Those that change nothing come first; take goes before elect.
     pub(crate) fn all_calls(&mut self) {
-        for line in ["U", "P", "V 5", "V 64", "S", "I 64 0", "T", "I 5 9999", "E"] {
+        for line in ["U", "P", "A", "V 5", "V 64", "S", "I 64 0", "T", "I 5 9999", "E"] {
             self.say(line);
         }
     }
@@ -183,6 +190,7 @@ pub fn script(kind: &str, seed: u64, count: usize) -> Option<Vec<u8>> {
             cases::write(&mut trials);
             layout::write(&mut trials);
             moves::write(&mut trials);
+            codes::write(&mut trials);
         }
         "elections" => product::elections(&mut trials),
         "takes" => product::takes(&mut trials),

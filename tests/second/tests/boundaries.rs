@@ -13,15 +13,16 @@ use second::take::take;
 
 #[test]
 fn layout() {
-    assert_eq!((size_of::<Ballot>(), size_of::<Record>()), (136, 1144));
-    assert_eq!((offset_of!(Record, weights), offset_of!(Record, present), offset_of!(Record, settled)), (16, 32, 48));
+    assert_eq!((size_of::<Ballot>(), size_of::<Record>()), (136, 1400));
+    assert_eq!((offset_of!(Record, weights), offset_of!(Record, present), offset_of!(Record, codes)), (16, 32, 48));
+    assert_eq!((offset_of!(Record, settled), offset_of!(Record, ballots)), (304, 312));
 }
 
 #[test]
 fn founding() {
     let log = vec![7; LOG];
     let weights = [40, 35, 25, 0, 0, 0, 0, 0];
-    assert_eq!(found(3, 2, weights, &log), (DONE, record(2, &WEIGHTS, 0, &[])));
+    assert_eq!(found(3, 2, weights, &log), (DONE, record(2, &WEIGHTS, &[], &[])));
     assert_eq!(found(3, 2, weights, &log[1..]), (UNSOUND, Record::ZERO));
     assert_eq!(found(0, 2, weights, &[]), (UNSOUND, Record::ZERO));
     for (n, own) in [(0, 0), (9, 0), (3, 3), (2, 0), (usize::MAX, 0), (3, usize::MAX)] {
@@ -35,7 +36,7 @@ fn founding() {
 
 /// Records with one clause of soundness broken each, the log's entries being a, b.
 fn unsound() -> Vec<Record> {
-    let good = record(1, &WEIGHTS, 2, &[(0, &[A]), (1, &[B, D])]);
+    let good = record(1, &WEIGHTS, &[A, B], &[(0, &[A]), (1, &[B, D])]);
     let mut bad = vec![];
     let mut broken = |change: &dyn Fn(&mut Record)| {
         let mut record = good;
@@ -55,6 +56,11 @@ fn unsound() -> Vec<Record> {
     broken(&|r| r.present[0] = 41);
     broken(&|r| r.present[3] = 1);
     broken(&|r| r.weights[0] = 41);
+    broken(&|r| r.codes[5] = 120);
+    broken(&|r| r.codes[5] = 0);
+    broken(&|r| r.codes[0] = 1);
+    broken(&|r| r.codes[63] = u32::MAX);
+    broken(&|r| r.codes.swap(5, 6));
     broken(&|r| r.settled = 3);
     broken(&|r| r.settled = 1025);
     broken(&|r| r.settled = usize::MAX);
@@ -75,8 +81,8 @@ fn unsound() -> Vec<Record> {
 #[test]
 fn unsound_records_are_refused_by_every_call() {
     let settled_log = log(&[A, B]);
-    let sent = message(&record(0, &WEIGHTS, 2, &[]), &settled_log);
-    let good = record(1, &WEIGHTS, 2, &[(0, &[A]), (1, &[B, D])]);
+    let sent = message(&record(0, &WEIGHTS, &[A, B], &[]), &settled_log);
+    let good = record(1, &WEIGHTS, &[A, B], &[(0, &[A]), (1, &[B, D])]);
     assert!(sound(&good, &settled_log));
     let mut pairs: Vec<_> = unsound().into_iter().map(|record| (record, settled_log.clone())).collect();
     pairs.push((good, settled_log[..1023].to_vec()));
@@ -88,6 +94,7 @@ fn unsound_records_are_refused_by_every_call() {
         assert!(!sound(&bad, &log));
         assert_eq!(issue(bad, &log, 64, 0), (UNSOUND, bad));
         assert_eq!(settled(&bad, &log), (UNSOUND, &[][..]));
+        assert_eq!(settled_codes(&bad, &log), (UNSOUND, [0; 64]));
         assert_eq!(settled_frame(&bad, &log, 64), (UNSOUND, 0));
         assert_eq!(tentative_frame(&bad, &log, 5), (UNSOUND, 0));
         assert_eq!(elect(bad, &mut log), (UNSOUND, 0, bad));
@@ -105,8 +112,8 @@ fn tails_and_lengths() {
     for (settled, tail, sound_here) in
         [(1023, 1, true), (1023, 2, false), (1024, 0, true), (1024, 1, false), (992, 32, true), (993, 32, false)]
     {
-        let office = record(0, &[1], settled, &[(0, &long_tail(tail))]);
-        assert_eq!(sound(&office, &long_log(settled)), sound_here, "{settled} {tail}");
+        let office = record(0, &[1], &long_log(settled), &[(0, &long_tail(tail))]);
+        assert_eq!(sound(&office, &log(&long_log(settled))), sound_here, "{settled} {tail}");
     }
     for (settled, tail, number) in [
         (0, 31, DONE),
@@ -116,8 +123,8 @@ fn tails_and_lengths() {
         (1024, 0, LOG_FULL),
         (1023, 0, DONE),
     ] {
-        let office = record(0, &[1], settled, &[(0, &long_tail(tail))]);
-        let (given, after) = issue(office, &long_log(settled), 63, 9999);
+        let office = record(0, &[1], &long_log(settled), &[(0, &long_tail(tail))]);
+        let (given, after) = issue(office, &log(&long_log(settled)), 63, 9999);
         assert_eq!(given, number, "{settled} {tail}");
         assert_eq!(after.ballots[0].len, tail + usize::from(number == DONE));
     }
@@ -125,7 +132,7 @@ fn tails_and_lengths() {
 
 #[test]
 fn lines_and_codes() {
-    let office = record(2, &WEIGHTS, 0, &[]);
+    let office = record(2, &WEIGHTS, &[], &[]);
     for (line, code, number) in [
         (63, 9999, DONE),
         (64, 0, NO_ENTRY),
@@ -137,7 +144,7 @@ fn lines_and_codes() {
         assert_eq!(issue(office, &log(&[]), line, code).0, number, "{line} {code}");
     }
     // A full tail and a wrong line: the smaller number.
-    let full = record(0, &[1], 0, &[(0, &long_tail(32))]);
+    let full = record(0, &[1], &[], &[(0, &long_tail(32))]);
     assert_eq!(issue(full, &log(&[]), 64, 0), (NO_ENTRY, full));
     assert_eq!(issue(office, &log(&[]), 63, 9999).1.ballots[2], ballot(&[0x023F_270F]));
 }
@@ -145,7 +152,7 @@ fn lines_and_codes() {
 #[test]
 fn frames() {
     let settled_log = log(&[A, B, C]);
-    let office = record(1, &WEIGHTS, 3, &[(0, &[D]), (1, &[entry(1, 6, 1), entry(1, 6, 2), entry(0, 63, 0)])]);
+    let office = record(1, &WEIGHTS, &[A, B, C], &[(0, &[D]), (1, &[entry(1, 6, 1), entry(1, 6, 2), entry(0, 63, 0)])]);
     assert_eq!(settled(&office, &settled_log), (DONE, &[A, B, C][..]));
     for (line, now, soon) in [(5, 140, 140), (6, 0, 2), (63, 0, 0), (0, 0, 0)] {
         assert_eq!(settled_frame(&office, &settled_log, line), (DONE, now));
@@ -159,15 +166,15 @@ fn frames() {
 
 #[test]
 fn electing_up_to_the_end_of_the_log() {
-    let mut log = long_log(992);
-    let (number, count, after) = elect(record(0, &[1], 992, &[(0, &long_tail(32))]), &mut log);
-    assert_eq!((number, count, after), (DONE, 32, record(0, &[1], 1024, &[])));
-    assert_eq!(log[992..], long_tail(32)[..]);
+    let mut kept = log(&long_log(992));
+    let (number, count, after) = elect(record(0, &[1], &long_log(992), &[(0, &long_tail(32))]), &mut kept);
+    let whole = [long_log(992), long_tail(32)].concat();
+    assert_eq!((number, count, after, &kept), (DONE, 32, record(0, &[1], &whole, &[]), &whole));
 }
 
 #[test]
 fn outputs() {
-    let office = record(1, &WEIGHTS, 2, &[(0, &[A]), (1, &[B, D])]);
+    let office = record(1, &WEIGHTS, &[A, B], &[(0, &[A]), (1, &[B, D])]);
     let settled_log = log(&[A, B]);
     let sent = message(&office, &settled_log);
     let by_hand = [
@@ -187,11 +194,11 @@ fn outputs() {
 fn the_longest_message() {
     let tail = long_tail(32);
     let ballots: Vec<(usize, &[u32])> = (0..8).map(|office| (office, &tail[..])).collect();
-    let office = record(3, &[65535; 8], 992, &ballots);
-    let sent = message(&office, &long_log(992));
+    let office = record(3, &[65535; 8], &long_log(992), &ballots);
+    let sent = message(&office, &log(&long_log(992)));
     assert_eq!(sent.len(), 7032);
     let mut kept = log(&[]);
-    let (number, after) = take(record(0, &[65535; 8], 0, &[]), &mut kept, &sent);
+    let (number, after) = take(record(0, &[65535; 8], &[], &[]), &mut kept, &sent);
     assert_eq!((number, after), (DONE, Record { own: 0, ..office }));
-    assert_eq!(kept[..992], long_log(992)[..992]);
+    assert_eq!(kept[..992], long_log(992)[..]);
 }

@@ -8,7 +8,7 @@ use second::take::take;
 
 /// The number that office 1 of the paper's three, with an empty log, gives for the message.
 fn given(bytes: &[u8]) -> u32 {
-    let before = record(1, &WEIGHTS, 0, &[(1, &[B])]);
+    let before = record(1, &WEIGHTS, &[], &[(1, &[B])]);
     let mut kept = log(&[]);
     let (number, after) = take(before, &mut kept, bytes);
     if number != DONE {
@@ -19,7 +19,7 @@ fn given(bytes: &[u8]) -> u32 {
 
 /// A proper message of office 2 with log a, d and the ballots 0:b 2:cd.
 fn proper() -> Vec<u8> {
-    message(&record(2, &WEIGHTS, 2, &[(0, &[B]), (2, &[C, D])]), &log(&[A, D]))
+    message(&record(2, &WEIGHTS, &[A, D], &[(0, &[B]), (2, &[C, D])]), &log(&[A, D]))
 }
 
 /// The message with one byte changed.
@@ -105,8 +105,8 @@ fn other_weights_own_message_and_their_order() {
     assert_eq!(given(&two), OTHER_WEIGHTS);
     let four = [0x53, 0x48, 0, 4, 0, 40, 0, 35, 0, 25, 0, 0, 0, 0, 0x45, 0x4E];
     assert_eq!(given(&four), OTHER_WEIGHTS);
-    let own = message(&record(1, &WEIGHTS, 1, &[]), &log(&[B]));
-    let parted = record(1, &WEIGHTS, 1, &[]);
+    let own = message(&record(1, &WEIGHTS, &[B], &[]), &log(&[B]));
+    let parted = record(1, &WEIGHTS, &[A], &[]);
     assert_eq!(take(parted, &mut log(&[A]), &own), (OWN_MESSAGE, parted));
 }
 

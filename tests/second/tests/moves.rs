@@ -19,14 +19,14 @@ fn eight(given: &[u16]) -> [u16; OFFICES] {
 }
 
 /// A record with these founding and present weights.
-fn moved(own: usize, weights: &[u16], present: &[u16], settled: usize, ballots: &[(usize, &[u32])]) -> Record {
+fn moved(own: usize, weights: &[u16], present: &[u16], settled: &[u32], ballots: &[(usize, &[u32])]) -> Record {
     Record { present: eight(present), ..record(own, weights, settled, ballots) }
 }
 
 /// Elects from an empty log: the settled log, and the record.
 fn elected(weights: &[u16], ballots: &[(usize, &[u32])]) -> (Vec<u32>, Record) {
     let mut log = log(&[]);
-    let (number, count, after) = elect(record(0, weights, 0, ballots), &mut log);
+    let (number, count, after) = elect(record(0, weights, &[], ballots), &mut log);
     assert_eq!(number, DONE);
     assert!(sound(&after, &log) && after.weights == eight(weights));
     (log[..count].to_vec(), after)
@@ -36,7 +36,7 @@ fn elected(weights: &[u16], ballots: &[(usize, &[u32])]) -> (Vec<u32>, Record) {
 fn a_move_is_an_edit_of_a_line_past_the_frame() {
     assert_eq!(move_entry(2, 1, 300), 0x0241_012C);
     for n in 1..=8 {
-        let office = record(n - 1, &vec![1; n], 0, &[]);
+        let office = record(n - 1, &vec![1; n], &[], &[]);
         for line in [63, 64, 63 + n as u32, 64 + n as u32, 71, 72, 255, 256 + 64, u32::MAX] {
             for code in [0, 1, 9999, 10_000, 65_537] {
                 let edit = line <= 63 && code <= 9999;
@@ -53,13 +53,13 @@ fn a_move_is_an_edit_of_a_line_past_the_frame() {
 
 #[test]
 fn a_move_is_made_when_settled_and_only_then() {
-    let office = record(0, &WEIGHTS, 0, &[(1, &[A])]);
+    let office = record(0, &WEIGHTS, &[], &[(1, &[A])]);
     let (number, issued) = issue(office, &log(&[]), 65, 15);
     assert_eq!((number, issued.present), (DONE, eight(&WEIGHTS)));
     assert_eq!(issued.ballots[0], ballot(&[move_entry(0, 1, 15)]));
     let (settled, after) = elected(&WEIGHTS, &[(0, &[move_entry(0, 1, 15)]), (1, &[move_entry(0, 1, 15)])]);
     assert_eq!(settled, [move_entry(0, 1, 15)]);
-    assert_eq!(after, moved(0, &WEIGHTS, &[25, 50, 25], 1, &[]));
+    assert_eq!(after, moved(0, &WEIGHTS, &[25, 50, 25], &settled, &[]));
 }
 
 #[test]
@@ -79,11 +79,11 @@ fn what_a_move_does() {
         ([65535, 65535, 65535], move_entry(0, 1, 1), [65535, 65535, 65535]),
     ] {
         let (settled, after) = elected(&weights, &[(0, &[word]), (1, &[word]), (2, &[word])]);
-        assert_eq!((settled, after), (vec![word], moved(0, &weights, &present, 1, &[])));
-        let sent = message(&moved(0, &weights, &present, 1, &[]), &log(&[word]));
+        assert_eq!((settled, after), (vec![word], moved(0, &weights, &present, &[word], &[])));
+        let sent = message(&moved(0, &weights, &present, &[word], &[]), &log(&[word]));
         let mut kept = log(&[]);
-        let (number, after) = take(record(1, &weights, 0, &[(1, &[word, D])]), &mut kept, &sent);
-        assert_eq!((number, after, kept), (DONE, moved(1, &weights, &present, 1, &[(1, &[D])]), log(&[word])));
+        let (number, after) = take(record(1, &weights, &[], &[(1, &[word, D])]), &mut kept, &sent);
+        assert_eq!((number, after, kept), (DONE, moved(1, &weights, &present, &[word], &[(1, &[D])]), log(&[word])));
     }
 }
 
@@ -97,12 +97,12 @@ fn each_step_uses_the_weights_at_its_log() {
     // 65 settle the move; then office 0 alone has 65 above the unheard 35.
     let handed = move_entry(2, 0, 25);
     let (settled, after) = elected(&WEIGHTS, &[(0, &[handed, A]), (2, &[handed])]);
-    assert_eq!((settled, after), (vec![handed, A], moved(0, &WEIGHTS, &[65, 35, 0], 2, &[])));
+    assert_eq!((settled, after), (vec![handed, A], moved(0, &WEIGHTS, &[65, 35, 0], &[handed, A], &[])));
     // With 65 before and 25 after, the entry behind the move stays.
     let given = move_entry(0, 1, 40);
     let (settled, after) = elected(&WEIGHTS, &[(0, &[given, A]), (2, &[given, A])]);
     assert_eq!(settled, [given]);
-    assert_eq!(after, moved(0, &WEIGHTS, &[0, 75, 25], 1, &[(0, &[A]), (2, &[A])]));
+    assert_eq!(after, moved(0, &WEIGHTS, &[0, 75, 25], &[given], &[(0, &[A]), (2, &[A])]));
 }
 
 #[test]
@@ -128,7 +128,7 @@ fn moved_weight_is_unheard_where_it_is_now() {
 #[test]
 fn present_weights_that_do_not_follow_are_unsound() {
     let settled = log(&[move_entry(0, 1, 15), D]);
-    let good = moved(1, &WEIGHTS, &[25, 50, 25], 2, &[(1, &[B])]);
+    let good = moved(1, &WEIGHTS, &[25, 50, 25], &settled[..2], &[(1, &[B])]);
     assert!(sound(&good, &settled));
     for present in [[40, 35, 25], [26, 50, 25], [24, 50, 25], [25, 51, 24], [24, 50, 26], [0, 0, 0], [25, 50, 24]] {
         let bad = Record { present: eight(&present), ..good };
@@ -140,29 +140,30 @@ fn present_weights_that_do_not_follow_are_unsound() {
         bad.present[office] = 1;
         assert!(!sound(&bad, &settled));
     }
-    assert!(!sound(&Record { settled: 0, ..good }, &settled));
-    assert!(sound(&Record { settled: 1, ..good }, &settled));
+    assert!(sound(&moved(1, &WEIGHTS, &[25, 50, 25], &settled[..1], &[]), &settled));
+    assert!(!sound(&moved(1, &WEIGHTS, &[25, 50, 25], &[], &[]), &settled));
     assert!(!sound(&good, &log(&[move_entry(0, 1, 14), D])));
     assert!(!sound(&good, &log(&[move_entry(0, 3, 15), D])));
-    assert!(!sound(&moved(1, &WEIGHTS, &WEIGHTS, 1, &[]), &log(&[move_entry(0, 1, 0)])));
-    assert!(!sound(&moved(1, &WEIGHTS, &WEIGHTS, 0, &[(1, &[move_entry(1, 0, 0)])]), &log(&[])));
-    assert!(!sound(&moved(1, &WEIGHTS, &WEIGHTS, 0, &[(1, &[move_entry(1, 3, 1)])]), &log(&[])));
-    assert!(sound(&moved(1, &WEIGHTS, &WEIGHTS, 0, &[(1, &[move_entry(1, 2, 9999)])]), &log(&[])));
+    assert!(!sound(&moved(1, &WEIGHTS, &WEIGHTS, &[move_entry(0, 1, 0)], &[]), &log(&[move_entry(0, 1, 0)])));
+    assert!(!sound(&moved(1, &WEIGHTS, &WEIGHTS, &[], &[(1, &[move_entry(1, 0, 0)])]), &log(&[])));
+    assert!(!sound(&moved(1, &WEIGHTS, &WEIGHTS, &[], &[(1, &[move_entry(1, 3, 1)])]), &log(&[])));
+    assert!(sound(&moved(1, &WEIGHTS, &WEIGHTS, &[], &[(1, &[move_entry(1, 2, 9999)])]), &log(&[])));
 }
 
 #[test]
 fn messages_carry_the_founding_weights() {
     let settled = [move_entry(0, 1, 15)];
-    let office = moved(0, &WEIGHTS, &[25, 50, 25], 1, &[]);
+    let office = moved(0, &WEIGHTS, &[25, 50, 25], &settled, &[]);
     let sent = message(&office, &log(&settled));
     let by_hand = [0x53, 0x48, 0, 3, 0, 40, 0, 35, 0, 25, 0, 1, 0x4C, 0x47, 0, 65, 0, 15, 0x45, 0x4E];
     assert_eq!(sent, by_hand);
     // A receiver that has not settled the move has other present weights and accepts it.
-    let (number, after) = take(record(2, &WEIGHTS, 0, &[]), &mut log(&[]), &sent);
+    let (number, after) = take(record(2, &WEIGHTS, &[], &[]), &mut log(&[]), &sent);
     assert_eq!((number, after), (DONE, Record { own: 2, ..office }));
     // So does one that has settled more.
-    let ahead = moved(2, &WEIGHTS, &[25, 0, 75], 2, &[]);
-    assert_eq!(take(ahead, &mut log(&[settled[0], move_entry(1, 2, 50)]), &sent), (DONE, ahead));
+    let more = [settled[0], move_entry(1, 2, 50)];
+    let ahead = moved(2, &WEIGHTS, &[25, 0, 75], &more, &[]);
+    assert_eq!(take(ahead, &mut log(&more), &sent), (DONE, ahead));
     // The present weights in its place are others.
     let present = [0x53, 0x48, 0, 3, 0, 25, 0, 50, 0, 25, 0, 1, 0x4C, 0x47, 0, 65, 0, 15, 0x45, 0x4E];
     let before = Record { own: 2, ..office };
@@ -171,7 +172,7 @@ fn messages_carry_the_founding_weights() {
 
 #[test]
 fn a_message_has_moves_under_its_own_n() {
-    let receiver = record(1, &WEIGHTS, 0, &[]);
+    let receiver = record(1, &WEIGHTS, &[], &[]);
     let given = |n: u8, line: u8, code: u8| {
         let mut sent = vec![0x53, 0x48, 0, n];
         (0..n).for_each(|office| sent.extend([0, [40, 35, 25, 0, 0, 0, 0, 0][usize::from(office)]]));
@@ -188,7 +189,7 @@ fn a_message_has_moves_under_its_own_n() {
 #[test]
 fn moves_change_no_code() {
     let settled = log(&[A, move_entry(0, 0, 7), move_entry(1, 2, 9)]);
-    let office = moved(1, &WEIGHTS, &[40, 26, 34], 3, &[(1, &[move_entry(1, 0, 8)])]);
+    let office = moved(1, &WEIGHTS, &[40, 26, 34], &settled[..3], &[(1, &[move_entry(1, 0, 8)])]);
     for line in 0..64 {
         let code = if line == 5 { 120 } else { 0 };
         assert_eq!(settled_frame(&office, &settled, line), (DONE, code));
@@ -205,10 +206,10 @@ fn a_thousand_moves() {
     // There and back 511 times, and there once more.
     let settled: Vec<u32> =
         (0..1023).map(|at| if at % 2 == 0 { move_entry(0, 1, 40) } else { move_entry(1, 0, 40) }).collect();
-    assert!(sound(&moved(0, &WEIGHTS, &[0, 75, 25], 1023, &[]), &log(&settled)));
-    assert!(sound(&moved(0, &WEIGHTS, &WEIGHTS, 1022, &[]), &log(&settled)));
-    assert!(!sound(&moved(0, &WEIGHTS, &WEIGHTS, 1023, &[]), &log(&settled)));
+    assert!(sound(&moved(0, &WEIGHTS, &[0, 75, 25], &settled, &[]), &log(&settled)));
+    assert!(sound(&moved(0, &WEIGHTS, &WEIGHTS, &settled[..1022], &[]), &log(&settled)));
+    assert!(!sound(&moved(0, &WEIGHTS, &WEIGHTS, &settled, &[]), &log(&settled)));
     let ones = vec![move_entry(0, 2, 1); 1024];
-    assert!(sound(&moved(1, &[1025, 0, 0], &[1, 0, 1024], 1024, &[]), &ones));
-    assert!(sound(&moved(1, &[1000, 0, 0], &[0, 0, 1000], 1024, &[]), &ones));
+    assert!(sound(&moved(1, &[1025, 0, 0], &[1, 0, 1024], &ones, &[]), &ones));
+    assert!(sound(&moved(1, &[1000, 0, 0], &[0, 0, 1000], &ones, &[]), &ones));
 }

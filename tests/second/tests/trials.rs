@@ -20,7 +20,7 @@ fn the_documents_example() {
 }
 
 /// Lines outside the language, each for one cause.
-const WRONG: [&str; 51] = [
+const WRONG: [&str; 57] = [
     "",
     "d 1",
     "q",
@@ -30,6 +30,11 @@ const WRONG: [&str; 51] = [
     "p 1 0 0 0 0 0 0",
     "p 1 0 0 0 0 0 0 0 0",
     "p 65536 0 0 0 0 0 0 0",
+    "k 64 1",
+    "k 63 1 1",
+    "k 18446744073709551615 1",
+    "k 0",
+    "k 0 4294967296",
     "b 8 0",
     "b 0",
     "b 0 18446744073709551616",
@@ -65,6 +70,7 @@ const WRONG: [&str; 51] = [
     "P 0",
     "V",
     "V 4294967296",
+    "A 1",
     "U 1",
     "E 0",
     "S 0",
@@ -121,6 +127,8 @@ fn every_number_is_shown() {
         "V 0 ",
         "V 1 ",
         "V 3 ",
+        "A 0 ",
+        "A 1 ",
         "U 0 ",
         "U 1 ",
         "E 0 0 ",

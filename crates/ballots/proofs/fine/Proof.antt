@@ -1,19 +1,20 @@
 -- At once where there are no ballots; else a walk over the lengths, then the cells of four ballots and of four.
 use Rattle.ballots.proofs.fine.Statement.{statement}
 use Rattle.ballots.proofs.fine.Tie as tie
-use mathlib.Core.Path.{_≡_, refl, sym, ap₂, _∙_}
-use mathlib.Core.Bool.{Bool, true, _&&_}
+use mathlib.Core.Path.{_≡_, refl, sym, _∙_}
+use mathlib.Core.Bool.{Bool, true}
+use mathlib.Core.Logic.{⊎-elim}
 use Prim.Native.Nat.{ℕ, _-_, _<_, _≤_}
 use native.Mathlib.Omega.{arith}
 use lib.ListN.{length, getD, drop}
 use borrow.Author.Tests.{not-true, not-false}
 use borrow.Author.Needs.{needs}
 use Rattle.lists.specs.Tests.{both, allB}
-use Rattle.lists.proofs.Tests.{both-false-0, both-false-1, both-passed}
-use Rattle.lists.proofs.Walk.{and-both}
+use Rattle.lists.proofs.Tests.{all-mono, both-false-0, both-false-1, both-passed}
 use Rattle.ballots.specs.Ballots.{ballotsFine, offEnd}
-use Rattle.ballots.specs.Fours.{entryCells, unusedZero}
-use Rattle.ballots.proofs.Eight.{none-all, fitFrom, fit-next, fit-done, fit-few, fine-tests-all, of-eight}
+use Rattle.ballots.specs.Fours.{codingCells, entryCells, unusedZero}
+use Rattle.ballots.proofs.Eight.{none-all, fitFrom, fit-next, fit-done, fit-few, fine-tests-all, eight-tests}
+use Rattle.ballots.proofs.Fours.{coding-cells}
 
 abbrev Inv-loop : tie.InvT-loop
 Inv-loop n settled all fit₀ i₀ fit i = (i ≤ 8) × (fitFrom n settled 0 all ≡ both fit (fitFrom n settled i (drop i all)))
@@ -67,18 +68,25 @@ few : (c : tie.Else2 Inv-loop μ-loop) (k : ℕ) → k < 8 → getD (walked c .a
 few c k h = let s = walked c in fit-few (s .args .n) (s .args .settled) 0 (s .args .t1) (fitting c) k (omega (arith, eight s))
 
 -- behind the lengths, where the eight ballots are named
-abbrev named : tie.After-four-entries2 Inv-loop μ-loop → tie.Else2 Inv-loop μ-loop
+abbrev named : tie.After-four-coding2 Inv-loop μ-loop → tie.Else2 Inv-loop μ-loop
 named c = c .before .before .before .before .before .before .before .before .before .before
 
-abbrev start : tie.After-four-entries2 Inv-loop μ-loop → tie.Start Inv-loop μ-loop
+abbrev start : tie.After-four-coding2 Inv-loop μ-loop → tie.Start Inv-loop μ-loop
 start c = walked (named c)
 
--- both tests of the cells
-entries-are : (c : tie.After-four-entries2 Inv-loop μ-loop) → (c .before .four-entries .result && c .four-entries2 .result) ≡ allB (entryCells (start c .args .n)) (start c .args .t1)
-entries-are c = and-both _ _ ∙ ap₂ both (c .before .four-entries .ensures) (c .four-entries2 .ensures) ∙ of-eight (entryCells (start c .args .n)) (start c .args .t1) (eight (start c))
-
 returns-3 : tie.Need-returns-3 Inv-loop μ-loop
-returns-3 c = sym (tests (start (c .before)) ∙ both-false-1 _ _ (both-false-0 _ _ (sym (entries-are (c .before)) ∙ not-true _ (c .if3 .taken))))
+returns-3 c = sym (tests (start (c .before .before .before)) ∙ both-false-1 _ _ (both-false-0 _ _ (sym (c .before .eight-entries .ensures) ∙ not-true _ (c .if4 .taken))))
+
+-- by the one test or the other all the cells are entries
+entries-all : (c : tie.Joined3 Inv-loop μ-loop) → let s = start (c .before) in allB (entryCells (s .args .n)) (s .args .t1) ≡ true
+entries-all c =
+    let s = start (c .before) in
+    let n = s .args .n in
+    ⊎-elim
+    (λ w. sym (w .1 .ensures) ∙ not-false _ (w .2 .left))
+    (λ w. all-mono (codingCells n) (entryCells n) (coding-cells n) (s .args .t1)
+    (sym (eight-tests (codingCells n) (s .args .t1) (eight s) _ _ (c .before .before .four-coding .ensures) (c .before .four-coding2 .ensures)) ∙ not-false _ (w .left)))
+    (c .if3 .came)
 
 four-unused-requires : tie.Need-four-unused-requires Inv-loop μ-loop
 four-unused-requires c κs =
@@ -92,15 +100,15 @@ four-unused-requires-2 c κs =
 
 returns-4 : tie.Need-returns-4 Inv-loop μ-loop
 returns-4 c =
-    let e = c .before .before .before .before .before in
-    let s = start (e .before) in
-    and-both _ _ ∙ ap₂ both (c .before .before .four-unused .ensures) (c .four-unused2 .ensures) ∙ of-eight unusedZero (s .args .t1) (eight s)
-    ∙ sym (tests s ∙ both-passed _ _ _ (fitting (named (e .before))) (sym (entries-are (e .before)) ∙ not-false _ (e .if3 .left)))
+    let j = c .before .before .before .before .before in
+    let s = start (j .before) in
+    eight-tests unusedZero (s .args .t1) (eight s) _ _ (c .before .before .four-unused .ensures) (c .four-unused2 .ensures)
+    ∙ sym (tests s ∙ both-passed _ _ _ (fitting (named (j .before))) (entries-all j))
 
 pub fine-spec : {M : Type 1} → statement M
 fine-spec =
     tie.close
     (tie.spec Inv-loop μ-loop (λ c κs. search needs) returns loop-holds (λ c. search needs) (λ c. search needs) (λ c κs. search needs) (λ c. search needs)
     (λ c. search needs) loop-again returns-2 (λ c. search needs) (λ c. search needs) (λ c. search needs) (λ c. search needs) (λ c. search needs)
-    (λ c. search needs) (λ c. search needs) (λ c. search needs) (λ c κs. search needs) (λ c κs. search needs) returns-3 (λ c κs. search needs)
-    (λ c. search needs) four-unused-requires (λ c. search needs) four-unused-requires-2 returns-4)
+    (λ c. search needs) (λ c. search needs) (λ c. search needs) (λ c κs. search needs) (λ c κs. search needs) (λ c κs. search needs)
+    returns-3 (λ c κs. search needs) (λ c. search needs) four-unused-requires (λ c. search needs) four-unused-requires-2 returns-4)

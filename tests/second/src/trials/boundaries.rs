@@ -127,7 +127,7 @@ fn frames(trials: &mut Trials) {
 /// A change that breaks one clause of soundness.
 type Break = fn(&mut Record);
 
-const BREAKS: [Break; 31] = [
+const BREAKS: [Break; 35] = [
     |r| r.n = 0,
     |r| r.n = 1,
     |r| r.n = 2,
@@ -140,6 +140,10 @@ const BREAKS: [Break; 31] = [
     |r| (r.weights[3], r.present[3]) = (1, 1),
     |r| (r.weights[7], r.present[7]) = (65535, 65535),
     |r| (r.weights, r.present) = ([0; 8], [0; 8]),
+    |r| r.codes[5] = 120,
+    |r| r.codes[5] = 0,
+    |r| r.codes[0] = 1,
+    |r| r.codes[63] = u32::MAX,
     |r| r.settled = 3,
     |r| r.settled = 1025,
     |r| r.settled = 1 << 32,
@@ -188,6 +192,7 @@ fn unsound_logs(trials: &mut Trials) {
         for at in [0, 1, 2] {
             let mut sample = whole(trials);
             sample.log[at] = word;
+            sample.derive();
             trials.sample(&sample);
             trials.all_calls();
         }

@@ -96,14 +96,15 @@ fn damaged(random: &mut Random, mut bytes: Vec<u8>) -> Vec<u8> {
 fn call(trials: &mut Trials, random: &mut Random) {
     let line = random.pick(&[0, 1, 5, 62, 63, 63, 64, 65, 66, 71, 72, 256, u32::MAX]);
     let code = random.pick(&[0, 1, 120, 9999, 9999, 10_000, 65_536, u32::MAX]);
-    match random.below(9) {
+    match random.below(10) {
         0 | 1 => trials.say("T"),
         2 => trials.say("E"),
         3 => trials.say("S"),
         4 => trials.say(&format!("V {line}")),
         5 => trials.say("P"),
         6 => trials.say("U"),
-        7 if random.percent(30) => found(trials, random),
+        7 => trials.say("A"),
+        8 if random.percent(30) => found(trials, random),
         _ => trials.say(&format!("I {line} {code}")),
     }
 }

@@ -1,8 +1,8 @@
 //! What the tests share: short ways to say records, logs and messages.
 #![allow(dead_code)]
 
-use second::record::{entry, Ballot, Record, LOG};
-use second::samples::{Sample, FILLER};
+use second::record::{entry, Ballot, Record};
+use second::samples::Sample;
 
 /// Document 01's entries a, b, c, d.
 pub const A: u32 = 5 << 16 | 120;
@@ -18,9 +18,9 @@ pub fn ballot(tail: &[u32]) -> Ballot {
     Ballot::of(tail)
 }
 
-/// A record with these ballots, over a log of this length.
-pub fn record(own: usize, weights: &[u16], settled: usize, ballots: &[(usize, &[u32])]) -> Record {
-    Record { settled, ..Sample::new(own, weights, &[], ballots).record }
+/// A record with these ballots over this settled log; its present weights and codes follow.
+pub fn record(own: usize, weights: &[u16], settled: &[u32], ballots: &[(usize, &[u32])]) -> Record {
+    Sample::new(own, weights, settled, ballots).record
 }
 
 /// A log of 1024 words that begins with these, the rest made up.
@@ -28,13 +28,9 @@ pub fn log(settled: &[u32]) -> Vec<u32> {
     Sample::new(0, &[], settled, &[]).log
 }
 
-/// A log of 1024 words whose first `length` are entries of office 0, all different.
+/// This many entries of office 0, all different.
 pub fn long_log(length: usize) -> Vec<u32> {
-    let mut log = vec![FILLER; LOG];
-    for (at, word) in log[..length].iter_mut().enumerate() {
-        *word = entry(0, at as u32 % 64, at as u32 % 10_000);
-    }
-    log
+    (0..length as u32).map(|at| entry(0, at % 64, at)).collect()
 }
 
 /// A tail of this many entries of office 0, all different from those of `long_log`.

@@ -1,4 +1,4 @@
--- The refusals in the order of their numbers; then the last code in the settled log.
+-- The refusals in the order of their numbers; then the code that the record holds for the line.
 use native.Mathlib.Omega.{arith}
 use mathlib.Core.Bool.{true}
 use mathlib.Core.Path.{_≡_, sym, _∙_}
@@ -6,8 +6,7 @@ use borrow.Author.Tests.{not-true, not-false}
 use borrow.Author.Needs.{needs}
 use Rattle.frame.specs.Soundness.{soundB}
 use Rattle.frame.proofs.Sound.{sound}
-use Rattle.frame.proofs.State.{log-length}
-use Rattle.frame.proofs.Shown.{frame-unsound, frame-shown, shown-past, shown-done}
+use Rattle.frame.proofs.Shown.{frame-unsound, frame-shown, shown-past, shown-done, stored-code}
 use Rattle.frame.proofs.Record.settled_frame.Statement.{statement}
 use Rattle.frame.proofs.Record.settled_frame.Tie as tie
 
@@ -24,9 +23,9 @@ returns-3 : tie.Need-returns-3
 returns-3 c =
     let e = c .before .before .before in
     let line = start e .args .line in
-    shown-done line _ (omega arith) _ (c .last-code .ensures) ∙ frame-shown _ _ line _ (passed e)
+    shown-done line _ (omega arith) _ (stored-code _ _ (sound _ _ (passed e)) line (omega arith)) ∙ frame-shown _ _ line _ (passed e)
 
 pub settled-frame-spec : {M : Type 1} → statement M
 settled-frame-spec =
     tie.close (tie.spec (λ c κs. search needs) (λ c. frame-unsound _ _ _ _ (sym (c .before .sound .ensures) ∙ not-true _ (c .if1 .taken))) returns-2
-    (λ c. sym (log-length _ _ (sound _ _ (passed (c .before .before))))) (λ c κs. search needs) returns-3)
+    (λ c. search needs) (λ c. search needs) returns-3)

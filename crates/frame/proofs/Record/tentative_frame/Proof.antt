@@ -1,4 +1,4 @@
--- The refusals in the order of their numbers; then the last code in the settled log, and in the own tail behind it.
+-- The refusals in the order of their numbers; then the code that the record holds for the line, and the last one in the own tail behind it.
 use native.Mathlib.Omega.{arith}
 use mathlib.Core.Bool.{true}
 use mathlib.Core.Path.{_≡_, sym, ap, _∙_}
@@ -14,8 +14,8 @@ use Rattle.ballots.specs.Ballots.{offEnd, tailOf}
 use Rattle.ballots.proofs.Laws.{Fine}
 use Rattle.frame.specs.Soundness.{Sound, soundB}
 use Rattle.frame.proofs.Sound.{sound}
-use Rattle.frame.proofs.State.{log-length, tail-at, ballot}
-use Rattle.frame.proofs.Shown.{frame-unsound, frame-shown, shown-past, shown-done}
+use Rattle.frame.proofs.State.{tail-at, ballot}
+use Rattle.frame.proofs.Shown.{frame-unsound, frame-shown, shown-past, shown-done, stored-code}
 use Rattle.frame.proofs.Record.tentative_frame.Statement.{statement}
 use Rattle.frame.proofs.Record.tentative_frame.Tie as tie
 
@@ -43,14 +43,13 @@ returns-3 c =
     let x = take (r .settled) (a .log .now) in
     let tail = tailOf (getD (r .ballots) (r .own) offEnd) in
     shown-done (a .line) _ (omega arith) _
-    (c .last-code2 .ensures ∙ ap (λ (v : ℕ). lastCode (a .line) v tail) (settled .last-code .ensures) ∙
+    (c .last-code .ensures ∙ ap (λ (v : ℕ). lastCode (a .line) v tail) (stored-code r (a .log .now) (sounds e) (a .line) (omega arith)) ∙
     sym (last-append (a .line) 0 x tail) ∙ ap (λ (t : List ℕ). lastCode (a .line) 0 (x ++ t)) (sym (tail-at r (a .log .now) (r .own))))
     ∙ frame-shown _ _ (a .line) _ (passed e)
 
 pub tentative-frame-spec : {M : Type 1} → statement M
 tentative-frame-spec =
     tie.close (tie.spec (λ c κs. search needs) (λ c. frame-unsound _ _ _ _ (sym (c .before .sound .ensures) ∙ not-true _ (c .if1 .taken)))
-    returns-2 (λ c. sym (log-length _ _ (sounds (c .before .before))))
-    (λ c κs. search needs) (λ c. let S = sounds (c .before .before .before) in omega arith) (λ c. let S = sounds (c .before .before .before) in omega arith)
+    returns-2 (λ c. search needs) (λ c. search needs) (λ c. let S = sounds (c .before .before .before) in omega arith) (λ c. let S = sounds (c .before .before .before) in omega arith)
     (λ c. let F = own-ballot (c .before .before .before .before .before) in omega arith) (λ c. let F = own-ballot (c .before .before .before .before .before .before) in sym (length-take-le _ _ (omega arith)))
     (λ c κs. search needs) returns-3)
