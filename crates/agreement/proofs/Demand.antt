@@ -13,7 +13,7 @@ use Rattle.protocol.specs.Longest.{longest}
 use Rattle.protocol.proofs.Lawful.{settled-lawful}
 use Rattle.protocol.proofs.World as P
 use Rattle.protocol.proofs.World.{refusal}
-use Rattle.protocol.proofs.OneOrder.{settledLogs}
+use Rattle.protocol.proofs.OneOrder.{settledLogs, settled-alike}
 use Rattle.protocol.proofs.Machine.{Machine, runs, reached, Follows, IssuedBy, OneOrderOf, one-order-machine}
 use Rattle.agreement.specs.World.{Replica, World, Call, issue, send, take, elect, replicaAt, messageAt, onSome, number, step, after}
 use Rattle.agreement.specs.Demand.{Founded, says, logAt, viewAt, order, IssuedIn, OneOrder}
@@ -124,6 +124,16 @@ module _ (n : ℕ) (ws : List ℕ) (start : World) (f : Founded n ws start) wher
         exactly = subst (λ (j : ℕ). viewAt w j ≡ p) office
             (sym (own-path n ws w s k (replica .0) (replica .1)) ∙ subst (λ (x : World). path (P.at (view x) k) k ≡ p) at (i .view));
       }
+
+-- (iii) "every office that decides at that log decides alike": what two offices, at whatever moments of the list, have settled behind equal
+-- logs is the same entry
+pub settles-alike : (n : ℕ) (weights : List ℕ) (start : World) → Founded n weights start → (cs a a' b b' : List Call) → a ++ a' ≡ cs → b ++ b' ≡ cs
+    → (j k : ℕ) (log : List ℕ) (e f : ℕ) → (log ++ (e ∷ [])) ⊑ logAt (after start a) j → (log ++ (f ∷ [])) ⊑ logAt (after start b) k → e ≡ f
+settles-alike n ws start f cs a a' b b' p q j k log d e x y =
+    settled-alike (one n ws start f cs) a a' b b' p q j k log d e (subst (λ (l : List ℕ). (log ++ (d ∷ [])) ⊑ l) (at-is a j) x) (subst (λ (l : List ℕ). (log ++ (e ∷ [])) ⊑ l) (at-is b k) y)
+  where
+    at-is : (c : List Call) (i : ℕ) → logAt (after start c) i ≡ P.at (view (reached (machine start) c)) i .log
+    at-is c i = sym (ap (λ (w : World). P.at (view w) i .log) (after-is n ws start f c) ∙ log-at (after start c) i)
 
 -- Demand 3
 pub one-order : (n : ℕ) (weights : List ℕ) (start : World) → Founded n weights start → (cs : List Call) → OneOrder start cs

@@ -13,11 +13,13 @@ use mathlib.Core.Option.{Option, none, some}
 use Prim.Native.Nat.{ℕ, _+_, _-_, _<_, _≤_}
 use native.Mathlib.Numerals.{add-one}
 use native.Mathlib.Omega.{arith}
-use lib.ListN.{length, take, drop, set, length-append}
-use lib.Seq.{set-split, drop-append-add, drop-drop}
+use lib.ListN.{length, getD, take, drop, set, length-append}
+use lib.Seq.{set-split, drop-append-add, drop-drop, getD-at, take-append-seam}
 use Rattle.lists.specs.Tests.{pick}
 use Rattle.protocol.specs.Entry.{isEntry}
 use Rattle.protocol.specs.Vote.{Rule}
+use Rattle.protocol.specs.Counts.{noCounts, countOf, counted, countsAfter}
+use Rattle.protocol.proofs.Counts.{counts-next, count-most}
 use Rattle.protocol.specs.Office.{Office, votes}
 use Rattle.protocol.specs.Elect.{lose, settle, tailEntries, next, electing, withElect, electCount}
 use Rattle.protocol.proofs.Lawful.{settled-lawful, lawful-voted}
@@ -176,6 +178,20 @@ module _ (r₀ : Record) (words₀ : List ℕ) (r : Record) (words : List ℕ) (
           winning r words (R .sound) (m .0) (m .1) .1,
         )
 
+    -- the counts with the entry that was settled are those of the log as it is then
+    pub run-counts : (out .settled ≡ r .settled → ⊥) → (cs : List ℕ) → cs ≡ countsAfter (noCounts 8) (take (r .settled) words)
+        → (next : List ℕ) → next ≡ counted cs (getD last (r .settled) 0) → next ≡ countsAfter (noCounts 8) (take (out .settled) last)
+    unfolding stepOf stepWords settle
+    run-counts h cs c next n =
+        let m = a-win r words (R .sound) out last (winnerOf r words) p q h in
+        let log = take (r .settled) words in
+        let e = m .0 in
+        let rest = drop (length (log ++ e ∷ [])) words in
+        let long : length log ≡ r .settled = log-length r words (R .sound) in
+        let here : getD last (r .settled) 0 ≡ e = ap (λ (l : List ℕ). getD l (r .settled) 0) (m .3 ∙ append-assoc log (e ∷ []) rest) ∙ getD-at log e rest 0 (r .settled) long in
+        let all : take (out .settled) last ≡ log ++ e ∷ [] = ap₂ take (ap (λ (x : Record). x .settled) (m .2)) (m .3) ∙ take-append-seam (log ++ e ∷ []) rest in
+        n ∙ ap₂ counted c here ∙ sym (counts-next (noCounts 8) log e) ∙ ap (countsAfter (noCounts 8)) (sym all)
+
     pub run-last : out .settled ≡ r .settled → (out ≡ r) × (last ≡ words) × (electedOf r₀ words₀ ≡ heldBy r words)
     unfolding stepOf stepWords
     run-last h =
@@ -199,6 +215,10 @@ module _ (r₀ : Record) (words₀ : List ℕ) (r : Record) (words : List ℕ) (
 
         words-end : last ≡ wordsWith (electedOf r₀ words₀ .log) words₀
         words-end = run-last h .1 ∙ R .kept ∙ ap (λ (x : Office). wordsWith (x .log) words₀) (sym end)
+
+-- the counts of a settled log may grow by one
+pub counts-room : (r : Record) (words : List ℕ) → Sound r words → (cs : List ℕ) → cs ≡ countsAfter (noCounts 8) (take (r .settled) words) → (k : ℕ) → countOf cs k < 18446744073709551615
+counts-room r words S cs c k = let m = count-most 8 (take (r .settled) words) k in rw c (omega (arith, m, log-length r words S, S .most))
 
 -- ── what elect leaves ──
 pub elect-unsound : (r : Record) (words : List ℕ) → soundB r words ≡ false → (_≡_ {A = Elected} (record { «record» = r; number = 1; count = 0 }) (electOf r words)) × (words ≡ electWords r words)

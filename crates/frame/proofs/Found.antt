@@ -8,16 +8,17 @@ use mathlib.Core.List.{List}
 use Prim.Native.Nat.{ℕ, _≤_}
 use native.Mathlib.Omega.{arith}
 use lib.Dec.{leb}
-use lib.ListN.{length}
+use lib.ListN.{length, replicate}
 use borrow.Author.Tests.{leb-true}
 use Rattle.lists.specs.Tests.{pick}
 use Rattle.protocol.specs.Office.{fresh}
 use Rattle.protocol.proofs.Limits as Limits
 use Rattle.protocol.specs.Limits.{headFine, Head}
-use Rattle.protocol.specs.Codes.{codesAfter}
-use Rattle.protocol.specs.Moves.{weightsAfter}
+use Rattle.ballots.specs.Ballots.{noBallot}
+use Rattle.summary.specs.Summary.{startWith}
+use Rattle.summary.proofs.Laws.{summary-nil}
 use Rattle.soundness.specs.Soundness.{longEnough}
-use Rattle.frame.specs.State.{heldBy, freshRecord, zeroRecord}
+use Rattle.frame.specs.State.{heldBy, withHeld, holding, freshRecord, zeroRecord}
 use Rattle.frame.specs.Soundness.{Sound}
 use Rattle.frame.specs.Founding.{foundNumber, foundOf}
 use Rattle.frame.specs.declared.Record.{Record}
@@ -39,15 +40,18 @@ found-done n own ws words q = go (leb 1024 (length words)) refl (headFine n own 
     go false e b f z = absurd (omega arith)
 
 module _ (n own : ℕ) (ws words : List ℕ) (q : foundOf n own ws words .number ≡ 0) where
+  -- the fresh record holds the fresh state
+  fresh-held : freshRecord n own ws ≡ holding (freshRecord n own ws) fresh
+  fresh-held = λ i. withHeld (freshRecord n own ws) (sym (summary-nil (startWith ws)) i) 0 (replicate 8 noBallot)
+
   pub found-sound : Sound (foundOf n own ws words .«record») words
-  unfolding weightsAfter codesAfter
   found-sound =
       let D = found-done n own ws words q in
-      subst (λ (r : Record). Sound r words) (sym (D .made)) (sound-of (freshRecord n own ws) fresh words (D .head) (Limits.fresh-fine n) (D .room))
+      subst (λ (r : Record). Sound r words) (sym (D .made ∙ fresh-held)) (sound-of (freshRecord n own ws) fresh words (D .head) (Limits.fresh-fine n) (D .room))
 
   -- "a fresh record has an empty log and no ballots"
   pub found-fresh : heldBy (foundOf n own ws words .«record») words ≡ fresh
-  found-fresh = let D = found-done n own ws words q in ap (λ (r : Record). heldBy r words) (D .made) ∙ held-by (freshRecord n own ws) fresh words
+  found-fresh = let D = found-done n own ws words q in ap (λ (r : Record). heldBy r words) (D .made ∙ fresh-held) ∙ held-by (freshRecord n own ws) fresh words
 
 pub found-zero : (n own : ℕ) (ws words : List ℕ) → (foundOf n own ws words .number ≡ 0 → ⊥) → foundOf n own ws words .«record» ≡ zeroRecord
 unfolding foundOf foundNumber pick

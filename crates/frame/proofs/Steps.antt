@@ -12,13 +12,14 @@ use mathlib.Core.List.{List, [], _∷_, map}
 use mathlib.Core.Option.{none, some}
 use Prim.Native.Nat.{ℕ, zero, suc, _+_, _-_, _<_}
 use native.Mathlib.Omega.{arith}
-use lib.Dec.{ltb, eqb}
-use lib.ListN.{length, getD, drop, set, replicate, length-map, length-drop, length-replicate}
+use lib.Dec.{eqb}
+use lib.ListN.{length, getD, take, drop, set, replicate, length-map, length-drop, length-replicate}
 use lib.Seq.{set-getD}
 use borrow.Author.Tests.{eqb-true}
 use Rattle.lists.specs.Tests.{allB}
 use Rattle.protocol.specs.Entry.{isEntry}
-use Rattle.protocol.specs.Vote.{Votes, winner}
+use Rattle.protocol.specs.Vote.{winner}
+use Rattle.protocol.specs.Counts.{noCounts, countsAfter, quieterBy}
 use Rattle.protocol.specs.Office.{first, votes}
 use Rattle.protocol.specs.Elect.{lose}
 use Rattle.lists.proofs.Tests.{both-0, both-1, both-true, all-at, all-getD, all-drop, all-mono, drop-map, getD-map}
@@ -31,7 +32,6 @@ use Rattle.tallies.specs.declared.Winner.{Winner}
 use Rattle.tallies.specs.declared.Winner.the-variants.{Entry, Nobody}
 use Rattle.tallies.proofs.Walks.{winner-some, winner-none}
 use Rattle.tallies.proofs.Cells.{vote-none, cast-vote, lost-for, lost-other, lost-none}
-use Rattle.summary.specs.declared.Summary.{Summary}
 use Rattle.frame.specs.State.{heldBy, withHeld}
 use Rattle.frame.specs.Soundness.{Sound}
 use Rattle.frame.specs.Electing.{winnerOf}
@@ -126,9 +126,13 @@ module _ (r : Record) (words : List ℕ) (S : Sound r words) where
           ap first (sym (B.tail-at (r .ballots) k))
 
   -- what the winner that is found by the gathered votes says
-  module _ (vs : List ℕ) (i : ℕ) (inv : Gathered (r .ballots) vs i) (e : i ≡ r .n) (w : Winner) (q : w ≡ winnerIs (winner (r .summary .present) ltb (votesIn vs))) where
+  module _ (cs : List ℕ) (counts : cs ≡ countsAfter (noCounts 8) (take (r .settled) words)) (vs : List ℕ) (i : ℕ) (inv : Gathered (r .ballots) vs i) (e : i ≡ r .n) (w : Winner)
+      (q : w ≡ winnerIs (winner (r .summary .present) (quieterBy cs) (votesIn vs))) where
     winner-of : winnerIs (winnerOf r words) ≡ w
-    winner-of = sym (q ∙ ap₂ (λ (ws : List ℕ) (v : Votes). winnerIs (winner ws ltb v)) (ap (λ (s : Summary). s .present) (S .done)) (ap votesIn (votes-end vs i inv e) ∙ cast-votes))
+    winner-of = sym (q ∙ λ j. winnerIs (winner (S .done j .present) (quieterBy (counts j)) (voted j)))
+      where
+        voted : votesIn vs ≡ votes (heldBy r words)
+        voted = ap votesIn (votes-end vs i inv e) ∙ cast-votes
 
     pub won-by : (f : ℕ) → w ≡ Entry f → winnerOf r words ≡ some f
     won-by f p = winner-some (winnerOf r words) f (winner-of ∙ p)

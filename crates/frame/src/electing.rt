@@ -1,5 +1,7 @@
 // The election step, and elections until no entry wins.
 ghost use mathlib.Core.Path.{_≡_};
+ghost use lib.ListN.{take};
+ghost use Rattle.protocol.specs.Counts.{noCounts, countsAfter};
 ghost use Rattle.frame.specs.Soundness.{Sound};
 ghost use Rattle.frame.specs.Electing.{stepOf, stepWords, electOf, electWords};
 use crate::Record;
@@ -14,10 +16,10 @@ pub struct Elected {
 }
 
 impl Record {
-    // One election step on a sound record, by the present weights: the winner is written to the log, and the next record handed back; the
+    // One election step on a sound record, by the present weights and the counts of entries in its settled log: the winner is written to the log, and the next record handed back; the
     // record itself where no entry wins. The ballots change where they stand and are walked to n, not 8: a walk of known length is unrolled, and copies them.
-    fn step(self, log: &mut [u32]) -> Record
-        requires { ⌜ Sound self (now log) ⌝ }
+    fn step(self, counts: [u64; 8], log: &mut [u32]) -> Record
+        requires { ⌜ Sound self (now log) × (counts ≡ countsAfter (noCounts 8) (take (self .settled) (now log))) ⌝ }
         ensures { λ r. ⌜ (r ≡ stepOf self (now (log .entry))) × (now (log .exit) ≡ stepWords self (now (log .entry))) ⌝ }
     {
         let mut next = self;
@@ -31,7 +33,7 @@ impl Record {
             let b = next.ballots[i];
             votes[i] = tallies::vote(b);
         }
-        let w = tallies::find_winner(votes, weights, n);
+        let w = tallies::find_winner(votes, weights, counts, n);
         match w {
             Winner::Nobody => next,
             Winner::Entry(e) => {
@@ -66,13 +68,16 @@ impl Record {
             };
         }
         let start = self.settled;
+        let mut counts = summary::counts(&log[..start]);
         let mut now = self;
         loop {
             let before = now.settled;
-            now = now.step(log);
+            now = now.step(counts, log);
             if now.settled == before {
                 break;
             }
+            let next = summary::counted(counts, log[before]);
+            counts = next;
         }
         let count = now.settled - start;
         Elected {

@@ -10,6 +10,7 @@ use Rattle.protocol.specs.Entry.{value, proper}
 use Rattle.protocol.specs.Beginning.{begins, extends}
 use Rattle.protocol.specs.Vote.{tally, unheard, supported, wins, winner}
 use Rattle.protocol.specs.Moves.{isMove, move, weightsAfter}
+use Rattle.protocol.specs.Counts.{countsAfter, quieterBy}
 use Rattle.protocol.specs.SettledRule.{bySettled}
 use Rattle.protocol.specs.Office.{Office, Message, votes, fresh}
 use Rattle.lists.specs.Tests.{both, pick}
@@ -121,7 +122,7 @@ pub cases :
     Takes 1 messageJ afterJ afterJ ×
     -- L: 10, and a refused call changes nothing
     ((refusal inL (take 1 0) ≡ 10) × (step (bySettled usual) inL (take 1 0) ≡ inL))
-unfolding begins extends weightsAfter move isMove both pick tally unheard supported wins winner rebase catchUp withTake refuseTake settle electing withElect names refusal done step
+unfolding begins extends countsAfter quieterBy weightsAfter move isMove both pick tally unheard supported wins winner rebase catchUp withTake refuseTake settle electing withElect names refusal done step
 cases = (
   (refl, refl, (refl, refl)),
   (refl, refl, (refl, refl)),
@@ -142,7 +143,7 @@ pub mistakes :
     -- "comparing paths by per-office counts": 1:ab has as many entries of each office as 0:bad, or fewer, and does not become it
     Takes 1 (from 0 (state [] (b ∷ a ∷ d ∷ []) [] [])) (state [] [] (a ∷ b ∷ []) []) (state [] (b ∷ a ∷ d ∷ []) (a ∷ b ∷ []) []) ×
     -- "leaving an office whose ballot was just reset out of U": in H office 2's ballot c was reset, and d stays unsettled
-    (votes (settle a inH) 2 ≡ none) × (winner (three 40 30 30) ltb (votes (settle a inH)) ≡ none) ×
+    (votes (settle a inH) 2 ≡ none) × (bySettled (three 40 30 30) (a ∷ []) (votes (settle a inH)) ≡ none) ×
     -- "breaking a tie before U is added": T(a) = T(b) = 40, U 20
     (Tally (three 40 40 20) inC a 40 × Tally (three 40 40 20) inC b 40 × Unheard (three 40 40 20) inC 20 × Elects (three 40 40 20) inC inC 0) ×
     -- "adopting a ballot that merely has more entries": 1:b does not become 0:ad
@@ -151,10 +152,11 @@ pub mistakes :
     Takes 1 (from 0 (state [] [] (b ∷ d ∷ []) [])) (state [] [] (b ∷ []) []) (state [] [] (b ∷ []) []) ×
     -- resetting all ballots when the log grows, or none: with log a, 0:ad keeps its path, 1:b and 2:a become none
     Takes 1 (from 2 settledA) (state [] (a ∷ d ∷ []) (b ∷ []) (a ∷ [])) (state (a ∷ []) (d ∷ []) [] [])
-unfolding begins extends weightsAfter move isMove both pick tally unheard supported wins winner rebase catchUp withTake refuseTake settle electing withElect
+unfolding begins extends countsAfter quieterBy weightsAfter move isMove both pick tally unheard supported wins winner rebase catchUp withTake refuseTake settle electing withElect
 mistakes = ((refl, refl), refl, refl, (refl, refl, refl, (refl, refl)), (refl, refl), (refl, refl), (refl, refl))
 
--- "Tails of 31 and 32, lengths of 1023 and 1024, line 63 and 64, code 9999 and 10000": the number of an issue at office 0
+-- "Tails of 31 and 32, lengths of 1023 and 1024, line 63 and 64, code 9999 and 10000": the number of an issue at office 0 of three, where line 67
+-- is the first past the lines of moves
 abbrev full : ℕ → ℕ → Office
 full settled own = state (replicate settled a) (replicate own a) [] []
 

@@ -11,10 +11,11 @@ use mathlib.Core.Bool.{Bool, true, false, cond}
 use Prim.Native.Nat.{ℕ, zero, suc, _+_, _≤_, _<_}
 use native.Mathlib.Nat.{le-refl}
 use native.Mathlib.Omega.{arith}
-use lib.Dec.{eqb, ltb}
+use lib.Dec.{eqb}
 use lib.ListN.{length, getD, length-append}
 use Rattle.protocol.specs.Vote.{Rule}
 use Rattle.protocol.specs.Moves.{weightsAfter}
+use Rattle.protocol.specs.Counts.{noCounts, quieter}
 use Rattle.protocol.specs.SettledRule.{bySettled}
 use Rattle.protocol.specs.Winning.{Wins}
 use Rattle.protocol.specs.Office.{Office, first, votes}
@@ -157,9 +158,9 @@ module _ (rule : Rule) (law : NamesVoted rule) where
       let whole : l ≡ length (o .log ++ (e ∷ [])) + length (g .0) = ap length (g .1) ∙ length-append (o .log ++ (e ∷ [])) (g .0) in
       omega (arith, ap (λ (r : Office). length (r .log)) (elect-some o e q), whole, length-append (o .log) (e ∷ []))
 
--- the frame's rule: after elect no entry wins, by the weights of the log as it is then
+-- the frame's rule: after elect no entry wins, by the weights and the tie order of the log as it is then
 pub elect-no-winner : (founding : List ℕ) (o : Office) (e : ℕ)
-    → let r : Office = withElect (bySettled founding) o in Wins (weightsAfter founding (r .log)) ltb (votes r) e → ⊥
+    → let r : Office = withElect (bySettled founding) o in Wins (weightsAfter founding (r .log)) (quieter (noCounts 8) (r .log)) (votes r) e → ⊥
 elect-no-winner founding o e w =
     let r : Office = withElect (bySettled founding) o in
-    winner-none (weightsAfter founding (r .log)) ltb (votes r) .0 (elect-stops (bySettled founding) (byLog-voted (weightsAfter founding) (λ log. ltb)) o) e w
+    winner-none (weightsAfter founding (r .log)) (quieter (noCounts 8) (r .log)) (votes r) .0 (elect-stops (bySettled founding) (byLog-voted (weightsAfter founding) (quieter (noCounts 8))) o) e w

@@ -2,6 +2,7 @@
 -- the lettered cases, and those of the requests
 pub mod Cases
 pub mod MoveCases
+pub mod QuieterCases
 -- beginnings, the winning rule, the calls at one office
 pub mod Beginning
 pub mod Vote
@@ -9,6 +10,8 @@ pub mod Office
 pub mod Elect
 pub mod Moves
 pub mod Codes
+pub mod Counts
+pub mod Quieter
 pub mod Limits
 -- demand 3: the world, what is asked of the rule, the four invariants, each call, the theorem
 pub mod World

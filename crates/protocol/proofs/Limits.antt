@@ -285,7 +285,6 @@ catchUp-fine n new o f most p =
     (λ e. rebase-fine n new o f (⊏-⊑ (o .log) new (extends-true new (o .log) e)) most p)
     (λ _. f)
 
--- the log that is caught up with has the message's as a beginning, where they are comparable
 -- take only lets the settled log grow
 pub take-grows : (k : ℕ) (m : Message) (o : Office) → o .log ⊑ withTake k m o .log
 unfolding withTake catchUp rebase
@@ -293,6 +292,7 @@ take-grows k m o =
     if-cases (λ (r : Office). o .log ⊑ r .log) (extends (m .state .log) (o .log)) (rebase (m .state .log) o) o
     (λ e. ⊏-⊑ (o .log) (m .state .log) (extends-true (m .state .log) (o .log) e)) (λ _. ⊑-refl (o .log))
 
+-- the log that is caught up with has the message's as a beginning, where they are comparable
 pub catchUp-log : (new : List ℕ) (o : Office) → (o .log ⊑ new) ⊎ (new ⊑ o .log) → new ⊑ catchUp new o .log
 unfolding catchUp rebase
 catchUp-log new o c =

@@ -7,6 +7,7 @@ use Rattle.lists.specs.Tests.{both, pick}
 use Rattle.protocol.specs.Entry.{value, proper}
 use Rattle.protocol.specs.Limits.{isWeight}
 use Rattle.protocol.specs.Moves.{isMove, canShift, move, weightsAfter}
+use Rattle.protocol.specs.Counts.{countsAfter, quieterBy}
 use Rattle.protocol.specs.Vote.{tally, unheard, supported, wins, winner}
 use Rattle.protocol.specs.Issue.{refusalAt, refuseIssue}
 use Rattle.protocol.specs.Elect.{settle, electing, withElect}
@@ -49,5 +50,5 @@ pub elections :
     Elects usual (state [] (d ∷ []) [] []) (state [] (d ∷ []) [] []) 0 ×
     -- with 50 and 50 a has the tie; office 0 has handed 1 on, so b has it
     Elects (three 50 50 0) (state [] (moving 0 1 1 ∷ a ∷ []) (moving 0 1 1 ∷ b ∷ []) []) (state (moving 0 1 1 ∷ b ∷ []) [] [] []) 2
-unfolding both pick isWeight isMove canShift move weightsAfter tally unheard supported wins winner settle electing withElect
+unfolding both pick isWeight isMove canShift move weightsAfter countsAfter quieterBy tally unheard supported wins winner settle electing withElect
 elections = ((refl, refl), refl, (refl, refl), (refl, refl), (refl, refl))

@@ -15,7 +15,7 @@ use Rattle.protocol.specs.Office.{Office, fresh, path}
 use Rattle.protocol.specs.Issue.{refuseIssue}
 use Rattle.protocol.specs.Longest.{longest}
 use Rattle.lists.proofs.Tests.{getD-map}
-use Rattle.protocol.proofs.Beginning.{⊑-trans, take-⊑}
+use Rattle.protocol.proofs.Beginning.{⊑-trans, snoc-same, take-⊑}
 use Rattle.protocol.proofs.Longest.{longest-is}
 use Rattle.protocol.proofs.World.{World, Call, issue, at, founded, refusal, run}
 use Rattle.protocol.proofs.Limits.{issue-done}
@@ -71,6 +71,13 @@ pub record OrderBehind (C : Type 0) (after : List C → World) (number : List C 
 -- in the world of n freshly founded offices
 abbrev pub OneOrder : Rule → ℕ → List Call → Type 0
 OneOrder rule n cs = OrderBehind Call (world rule n) (λ earlier c. refusal (world rule n earlier) c) (IssuedIn rule n cs) n cs
+
+-- (iii) "every office that decides at that log decides alike": what two offices, at whatever moments, have settled behind equal logs is the same
+pub settled-alike : {C : Type 0} {after : List C → World} {number : List C → C → ℕ} {Issued : List ℕ → ℕ → Type 0} {n : ℕ} {cs : List C}
+    → OrderBehind C after number Issued n cs → (a a' b b' : List C) → a ++ a' ≡ cs → b ++ b' ≡ cs → (j k : ℕ) (l : List ℕ) (e f : ℕ)
+    → (l ++ (e ∷ [])) ⊑ at (after a) j .log → (l ++ (f ∷ [])) ⊑ at (after b) k .log → e ≡ f
+settled-alike {after = after} o a a' b b' p q j k l e f x y =
+    snoc-same l (o .order) e f (⊑-trans (l ++ (e ∷ [])) (at (after a) j .log) (o .order) x (o .logs a a' p j)) (⊑-trans (l ++ (f ∷ [])) (at (after b) k .log) (o .order) y (o .logs b b' q k))
 
 -- ── the list of calls, oldest first, and the history, newest first ──
 rev-append : (a b h : List Call) → reverseAux (a ++ b) h ≡ reverseAux b (reverseAux a h)

@@ -234,10 +234,6 @@ module _ (ws : List ℕ) (before : ℕ → ℕ → Bool) where
       go p none q = absurd (no-winner v q e p)
       go p (some f) q = q ∙ ap some (wins-unique asym v f e (winner-wins v f q) p)
 
--- the lower value first
-pub ltb-asymmetric : Asymmetric ltb
-ltb-asymmetric e f p q = omega (arith, ltb-true e f p, ltb-true f e q)
-
 -- a rule whose winner has a vote
 abbrev pub NamesVoted : Rule → Type 0
 NamesVoted rule = (l : List ℕ) (v : Votes) (e : ℕ) → rule l v ≡ some e → (k : ℕ) × (v k ≡ some e)

@@ -6,6 +6,7 @@ pub mod Winning
 pub mod Office
 pub mod Limits
 pub mod Moves
+pub mod Counts
 pub mod SettledRule
 pub mod Issue
 pub mod Take

@@ -40,7 +40,7 @@ unfoldable pub supported : List ℕ → Votes → List ℕ
 supported [] v = []
 supported (w ∷ ws) v = and-also (v 0) (supported ws (later v))
 
--- "T(e) > T(f) + U, or T(e) = T(f) + U and the value of e is below that of f"
+-- "T(e) > T(f) + U, or T(e) = T(f) + U and the value of e is below that of f"; since (iii) the tie order is `quieterBy`
 abbrev pub beats : List ℕ → (ℕ → ℕ → Bool) → Votes → ℕ → ℕ → Bool
 beats ws before v e f =
     ltb (tally ws v f + unheard ws v) (tally ws v e) || (eqb (tally ws v e) (tally ws v f + unheard ws v) && before e f)

@@ -1,5 +1,5 @@
 -- "Entry e wins when T(e) > U and, for each other supported entry f, T(e) > T(f) + U, or T(e) = T(f) + U and the value of e is below that of f."
--- The sentence as a claim about every vote table; that `winner` computes it is proved (laws `winner-some`, `winner-none`). Assumes nothing.
+-- The sentence as a claim about every vote table, for any tie order; since (iii) that is `quieterBy`. That `winner` computes it is proved (laws `winner-some`, `winner-none`). Assumes nothing.
 use mathlib.Core.Path.{_≡_}
 use mathlib.Core.List.{List}
 use mathlib.Core.Option.{some}
@@ -13,7 +13,7 @@ use Rattle.protocol.specs.Vote.{Votes, tally, unheard}
 abbrev pub Supported : List ℕ → Votes → ℕ → Type 0
 Supported ws v f = (k : ℕ) × (k < length ws) × (v k ≡ some f)
 
--- "T(e) > T(f) + U, or T(e) = T(f) + U and the value of e is below that of f"
+-- "T(e) > T(f) + U, or T(e) = T(f) + U and" e comes before f
 abbrev pub Beats : List ℕ → (ℕ → ℕ → Bool) → Votes → ℕ → ℕ → Type 0
 Beats ws before v e f = (tally ws v f + unheard ws v < tally ws v e) ⊎ ((tally ws v e ≡ tally ws v f + unheard ws v) × (before e f ≡ true))
 

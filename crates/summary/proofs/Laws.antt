@@ -1,5 +1,6 @@
 -- Summaries of logs.
 --     summary-append      a log in two parts: the second goes on from the summary of the first
+--     summary-nil         an empty log has done nothing
 --     summary-next        one entry more
 --     same-summary        the test of two summaries, both ways
 -- Assumes nothing.
@@ -18,6 +19,10 @@ use Rattle.summary.specs.declared.Summary.{Summary}
 
 pub summary-append : (s : Summary) (a b : List ℕ) → summaryAfter s (a ++ b) ≡ summaryAfter (summaryAfter s a) b
 summary-append s a b = λ i. record { present = weights-append (s .present) a b i; codes = codes-append (s .codes) a b i }
+
+pub summary-nil : (s : Summary) → summaryAfter s [] ≡ s
+unfolding weightsAfter codesAfter
+summary-nil s = refl
 
 summary-one : (s : Summary) (e : ℕ) → summaryAfter s (e ∷ []) ≡ summaryNext s e
 unfolding weightsAfter codesAfter

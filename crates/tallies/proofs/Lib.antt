@@ -1,3 +1,4 @@
 -- Laws that belong to no one function.
 pub mod Cells
 pub mod Walks
+pub mod Quieter

@@ -3,19 +3,21 @@
 use crate::record::*;
 
 /// What the ballots of a sound record say.
-pub(crate) struct Tally {
+pub(crate) struct Tally<'a> {
     /// First tail entry of each office's ballot; nothing for an office with no ballot.
     first: [Option<u32>; OFFICES],
     /// T of that entry.
     support: [u32; OFFICES],
     /// U: weight of the offices with no ballot.
     unheard: u32,
+    /// The settled log, which decides between level entries.
+    settled: &'a [u32],
 }
 
-impl Tally {
-    /// The tally of a sound record.
-    pub(crate) fn of(record: &Record) -> Tally {
-        let mut tally = Tally { first: [None; OFFICES], support: [0; OFFICES], unheard: 0 };
+impl<'a> Tally<'a> {
+    /// The tally of a sound record with this settled log.
+    pub(crate) fn of(record: &Record, settled: &'a [u32]) -> Tally<'a> {
+        let mut tally = Tally { first: [None; OFFICES], support: [0; OFFICES], unheard: 0, settled };
         for (office, ballot) in record.ballots[..record.n].iter().enumerate() {
             tally.first[office] = ballot.tail().first().copied();
         }
@@ -38,12 +40,18 @@ impl Tally {
         self.first.iter().zip(&self.support).filter_map(|(first, &support)| Some(((*first)?, support)))
     }
 
+    /// What decides between level entries, the lower first: the entries of its office in the settled log, then its value.
+    fn rank(&self, e: u32) -> (usize, u32) {
+        let entries = self.settled.iter().filter(|&&word| word >> 24 == e >> 24).count();
+        (entries, e)
+    }
+
     /// Whether an entry e with this T wins.
     fn wins(&self, e: u32, support: u32) -> bool {
         support > self.unheard
             && self.supported().filter(|&(f, _)| f != e).all(|(f, other)| {
                 let bar = other + self.unheard;
-                support > bar || support == bar && e < f
+                support > bar || support == bar && self.rank(e) < self.rank(f)
             })
     }
 
@@ -52,8 +60,8 @@ impl Tally {
         self.supported().find(|&(e, support)| self.wins(e, support)).map(|(e, _)| e)
     }
 
-    /// Whether the winner is level with another entry and wins by its value alone.
-    pub(crate) fn by_value(&self, winner: u32) -> bool {
+    /// Whether the winner is level with another entry.
+    pub(crate) fn tied(&self, winner: u32) -> bool {
         let support = self.supported().find(|&(e, _)| e == winner).map_or(0, |(_, support)| support);
         self.supported().any(|(f, other)| f != winner && support == other + self.unheard)
     }
@@ -77,7 +85,7 @@ fn settle(record: &mut Record, log: &mut [u32], winner: u32) {
 
 /// One step of a sound record: whether an entry won and was settled.
 pub(crate) fn step(record: &mut Record, log: &mut [u32]) -> bool {
-    let Some(winner) = Tally::of(record).winner() else {
+    let Some(winner) = Tally::of(record, &log[..record.settled]).winner() else {
         return false;
     };
     settle(record, log, winner);

@@ -8,7 +8,7 @@ mod histories;
 mod malformed;
 
 /// The kinds of script there are.
-pub const KINDS: [&str; 7] = ["mixed", "contested", "moves", "tails", "long", "malformed", "everything"];
+pub const KINDS: [&str; 8] = ["mixed", "contested", "moves", "ties", "tails", "long", "malformed", "everything"];
 
 /// A script that is being written. The offices are played beside it, so that a kind can aim.
 pub(crate) struct Script {
@@ -109,6 +109,7 @@ fn write_kind(script: &mut Script, kind: &str) -> Option<()> {
         "mixed" => histories::mixed,
         "contested" => histories::contested,
         "moves" => histories::moves,
+        "ties" => histories::ties,
         "tails" => histories::tails,
         "long" => histories::long,
         "malformed" => malformed::malformed,

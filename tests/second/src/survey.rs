@@ -140,9 +140,9 @@ impl Survey {
             return;
         };
         let Office { mut record, mut log } = *office;
-        let (mut count, first) = (0, record.present);
-        while let Some(winner) = Tally::of(&record).winner() {
-            self.count_win(&record, winner, first);
+        let (mut count, first) = (0, record);
+        while let Some(winner) = Tally::of(&record, &log[..record.settled]).winner() {
+            self.count_win(&record, &log, winner, &first);
             let before = record.present;
             step(&mut record, &mut log);
             count += 1;
@@ -158,13 +158,10 @@ impl Survey {
         }
     }
 
-    /// Counts what a step shows that this entry wins; `first` are the weights before the first step.
-    fn count_win(&mut self, record: &Record, winner: u32, first: [u16; OFFICES]) {
+    /// Counts what a step shows that this entry wins; `first` is the record before the first step.
+    fn count_win(&mut self, record: &Record, log: &[u32], winner: u32, first: &Record) {
         let voted = || record.ballots.iter().filter(|ballot| ballot.len > 0);
         let others = voted().filter(|ballot| ballot.cells[0] != winner).count();
-        if Tally::of(record).by_value(winner) {
-            self.add("tie won by value", 1);
-        }
         if others > 0 {
             self.add("contested win", 1);
             self.add("ballot reset by an election", others);
@@ -172,18 +169,19 @@ impl Survey {
         if voted().count() < record.n {
             self.add("win with offices unheard", 1);
         }
-        if winner_under(record, record.weights) != Some(winner) {
-            self.add("win that the founding weights do not give", 1);
-        }
-        if winner_under(record, first) != Some(winner) {
-            self.add("win by weight moved in the same election", 1);
+        let (settled, began) = (&log[..record.settled], &log[..first.settled]);
+        let under = |present| Record { present, ..*record };
+        let otherwise = |record: &Record, settled| Tally::of(record, settled).winner() != Some(winner);
+        for (name, shown) in [
+            ("win that the founding weights do not give", otherwise(&under(record.weights), settled)),
+            ("win by weight moved in the same election", otherwise(&under(first.present), settled)),
+            ("tie won", Tally::of(record, settled).tied(winner)),
+            ("tie won by fewer entries, the value being higher", otherwise(record, &[])),
+            ("tie won by entries settled in the same election", otherwise(record, began)),
+        ] {
+            self.add(name, usize::from(shown));
         }
     }
-}
-
-/// The entry that would win with these weights.
-fn winner_under(record: &Record, present: [u16; OFFICES]) -> Option<u32> {
-    Tally::of(&Record { present, ..*record }).winner()
 }
 
 /// Counts what the script on the input shows, a line of output for each sight.

@@ -12,6 +12,7 @@ mod layout;
 mod moves;
 mod product;
 mod random;
+mod ties;
 
 /// The kinds of trial script there are.
 pub const KINDS: [&str; 5] = ["boundaries", "elections", "takes", "damaged", "random"];
@@ -191,6 +192,7 @@ pub fn script(kind: &str, seed: u64, count: usize) -> Option<Vec<u8>> {
             layout::write(&mut trials);
             moves::write(&mut trials);
             codes::write(&mut trials);
+            ties::write(&mut trials);
         }
         "elections" => product::elections(&mut trials),
         "takes" => product::takes(&mut trials),

@@ -43,7 +43,7 @@ fn d_three_ways() {
 }
 
 #[test]
-fn e_tie_by_value() {
+fn e_tie_from_an_empty_log() {
     let (count, settled, _) = elected(&[50, 50, 0], &[(0, &[A]), (1, &[B])]);
     assert_eq!((count, settled), (1, vec![A]));
 }

@@ -99,9 +99,15 @@ impl Lists {
         self.tails.iter().zip(self.present()).filter(|(tail, _)| tail.is_empty()).map(|(_, weight)| weight).sum()
     }
 
+    /// Whether a tie goes to e: its office has fewer entries in the settled log, or as many and e is lower.
+    fn before(&self, e: u32, f: u32) -> bool {
+        let entries = |g: u32| self.log.iter().filter(|&&h| h / 16777216 == g / 16777216).count();
+        entries(e) < entries(f) || entries(e) == entries(f) && e < f
+    }
+
     fn wins(&self, e: u32) -> bool {
         let (t, u) = (self.support(e), self.unheard());
-        let beats = |f: u32| t > self.support(f) + u || t == self.support(f) + u && e < f;
+        let beats = |f: u32| t > self.support(f) + u || t == self.support(f) + u && self.before(e, f);
         t > u && self.tails.iter().flat_map(|tail| tail.first()).all(|&f| f == e || beats(f))
     }
 

@@ -107,10 +107,14 @@ fn each_step_uses_the_weights_at_its_log() {
 
 #[test]
 fn a_move_that_costs_its_issuer_the_next_tie() {
+    // Office 0 votes for b and office 1 for c; neither's office has an entry, so that b has a tie.
+    let after = |word| elected(&[50, 50, 0], &[(0, &[word, B]), (1, &[word, C]), (2, &[word, C])]).0;
+    assert_eq!(after(move_entry(0, 1, 1)), [move_entry(0, 1, 1), C]);
+    assert_eq!(after(move_entry(0, 0, 1)), [move_entry(0, 0, 1), B]);
+    assert_eq!(after(move_entry(0, 1, 51)), [move_entry(0, 1, 51), B]);
+    // With an entry of its own behind the move it has lost the tie by that entry already.
     let after = |word| elected(&[50, 50], &[(0, &[word, A]), (1, &[word, B])]).0;
-    assert_eq!(after(move_entry(0, 1, 1)), [move_entry(0, 1, 1), B]);
-    assert_eq!(after(move_entry(0, 0, 1)), [move_entry(0, 0, 1), A]);
-    assert_eq!(after(move_entry(0, 1, 51)), [move_entry(0, 1, 51), A]);
+    assert_eq!(after(move_entry(0, 0, 1)), [move_entry(0, 0, 1), B]);
     assert_eq!(after(move_entry(1, 0, 1)), [move_entry(1, 0, 1), A]);
 }
 

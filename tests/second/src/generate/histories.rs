@@ -177,6 +177,30 @@ pub(super) fn moves(script: &mut Script) {
     }
 }
 
+/// Level offices edit apart, or behind an entry that all know, and hear each other out: every election is a tie.
+/// In between one office's entries are settled in a row, so that logs grow long and counts part.
+pub(super) fn ties(script: &mut Script) {
+    let n = script.random.pick(&[2, 2, 3, 4]);
+    let level = script.random.within(1, 50);
+    script.found(&vec![level; n]);
+    for _ in 0..script.random.within(5, 60) {
+        if script.random.percent(50) {
+            let office = script.office();
+            for _ in 0..script.random.pick(&[1, 1, 1, 2, 3, 8, 31]) {
+                issue_one(script, office, &CONTEST);
+            }
+            spread(script, office, 100);
+        }
+        if script.random.percent(75) {
+            (0..n).for_each(|office| issue_one(script, office, &CONTEST));
+            (0..n).for_each(|office| spread(script, office, 100));
+        }
+        let office = script.office();
+        script.call('e', &[office]);
+        spread(script, office, 100);
+    }
+}
+
 /// Offices none of which can win alone fill their tails, and fill what they took from others.
 pub(super) fn tails(script: &mut Script) {
     let n = script.random.within(2, 4);

@@ -149,6 +149,7 @@ fn orders(trials: &mut Trials) {
     // A move that costs its issuer the next tie, one to itself that doesn't, and one that costs a lead.
     for (to, code) in [(1, 1), (0, 1), (1, 50), (1, 51)] {
         let word = move_entry(0, to, code);
+        election(trials, &[50, 50, 0], &[(0, &[word, B]), (1, &[word, C]), (2, &[word, C])]);
         election(trials, &[50, 50], &[(0, &[word, A]), (1, &[word, B])]);
         election(trials, &[51, 50, 0], &[(0, &[word, A]), (1, &[word, B]), (2, &[word, C])]);
     }
