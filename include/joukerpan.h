@@ -41,7 +41,7 @@ enum {
     JOUKERPAN_MESSAGE = 7032   /* bytes of a message, at most */
 };
 
-/* Numbers that a call answers. Where several hold, the smallest is given. */
+/* Numbers that a call answers. Where several hold, the smallest is given; issue alone tests 5 before 4. */
 enum {
     JOUKERPAN_DONE = 0,           /* the call was done */
     JOUKERPAN_UNSOUND = 1,        /* record unsound, or log below 1,024 words */
@@ -152,7 +152,7 @@ bool joukerpan_sound(joukerpan_record record, const uint32_t *log, size_t log_le
  * of weight, with line JOUKERPAN_LINES + j, j below n, and code 1 to 9999, the weight that the own office
  * gives to office j. A move has its effect where it is settled, and only if its office then has that much
  * and office j stays at or below 65535; else, or where j is the own office, it changes no weight. It
- * changes no code, and can lose as an edit can. Refused: 1, 3, 4, 5.
+ * changes no code, and can lose as an edit can. Refused: 1, 3, 5, 4, tested in this order.
  */
 joukerpan_issued joukerpan_issue(joukerpan_record record, const uint32_t *log, size_t log_len,
                                  uint32_t line, uint32_t code);

@@ -1,7 +1,7 @@
 -- The election step on a sound record, and the run of steps.
 --     winning            a winner is an entry, and the log has room for it
 --     step-won, step-nobody      what the step answers and writes
---     Running            what a run of steps keeps; run-start, run-more, run-last, run-end
+--     Running            what a run of steps keeps; run-start, run-more, run-last, run-end; run-counts, counts-room of the counts beside it
 --     elect-sound, elect-state   a done elect leaves a sound record with its words, and the protocol's state
 --     elect-grows, elect-ends    its count is the log's growth, and no entry wins afterwards
 --     elect-keeps        a refused one leaves both

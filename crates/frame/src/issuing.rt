@@ -28,7 +28,7 @@ fn proper(n: usize, line: u32, code: u32) -> bool
     ((line - Record::LINES) as usize) < n
 }
 
-// The number of an issue on a sound record of n offices, by the lengths of its log and of its own tail.
+// The number of an issue on a sound record of n offices, by the lengths of its log and of its own tail. 5 is tested before 4.
 fn refusal(n: usize, line: u32, code: u32, settled: usize, len: usize) -> u32
     requires { ⌜ (settled ≤ 1024) × (len ≤ 32) ⌝ }
     ensures { λ r. ⌜ r ≡ refusalAt n line code settled len ⌝ }
@@ -36,11 +36,11 @@ fn refusal(n: usize, line: u32, code: u32, settled: usize, len: usize) -> u32
     if !proper(n, line, code) {
         return 3;
     }
-    if len == Record::TAIL {
-        return 4;
-    }
     if settled + len == Record::LOG {
         return 5;
+    }
+    if len == Record::TAIL {
+        return 4;
     }
     0
 }

@@ -164,6 +164,6 @@ pub limits :
     (refuseIssue 3 0 63 9999 (full 0 0) ≡ 0) × (refuseIssue 3 0 67 9999 (full 0 0) ≡ 3) × (refuseIssue 3 0 63 10000 (full 0 0) ≡ 3) ×
     (refuseIssue 3 0 63 9999 (full 0 31) ≡ 0) × (refuseIssue 3 0 63 9999 (full 0 32) ≡ 4) × (refuseIssue 3 0 67 9999 (full 0 32) ≡ 3) ×
     (refuseIssue 3 0 63 9999 (full 1023 0) ≡ 0) × (refuseIssue 3 0 63 9999 (full 1024 0) ≡ 5) × (refuseIssue 3 0 63 9999 (full 992 31) ≡ 0) ×
-    (refuseIssue 3 0 63 9999 (full 993 31) ≡ 5) × (refuseIssue 3 0 63 9999 (full 992 32) ≡ 4)
+    (refuseIssue 3 0 63 9999 (full 993 31) ≡ 5) × (refuseIssue 3 0 63 9999 (full 992 32) ≡ 5)
 unfolding refuseIssue refusalAt proper both pick
 limits = (refl, refl, refl, refl, refl, refl, refl, refl, refl, refl, refl)

@@ -13,6 +13,7 @@ pub mod Codes
 pub mod Counts
 pub mod Quieter
 pub mod Limits
+pub mod FiveFirst
 -- demand 3: the world, what is asked of the rule, the four invariants, each call, the theorem
 pub mod World
 pub mod Lawful

@@ -150,31 +150,31 @@ pub record IssueDone (n k line code : ℕ) (o : Office) : Type 0 where
 
 pub issue-done : (n k line code : ℕ) (o : Office) → refuseIssue n k line code o ≡ 0 → IssueDone n k line code o
 unfolding refuseIssue refusalAt pick
-issue-done n k line code o h = go (proper n line code) refl (eqb (length (tail o k)) 32) refl (eqb (length (o .log) + length (tail o k)) 1024) refl h
+issue-done n k line code o h = go (proper n line code) refl (eqb (length (o .log) + length (tail o k)) 1024) refl (eqb (length (tail o k)) 32) refl h
   where
-    go : (a : Bool) → proper n line code ≡ a → (c : Bool) → eqb (length (tail o k)) 32 ≡ c → (d : Bool) → eqb (length (o .log) + length (tail o k)) 1024 ≡ d
-        → _≡_ {A = ℕ} (pick (not a) 3 (pick c 4 (pick d 5 0))) 0 → IssueDone n k line code o
+    go : (a : Bool) → proper n line code ≡ a → (c : Bool) → eqb (length (o .log) + length (tail o k)) 1024 ≡ c → (d : Bool) → eqb (length (tail o k)) 32 ≡ d
+        → _≡_ {A = ℕ} (pick (not a) 3 (pick c 5 (pick d 4 0))) 0 → IssueDone n k line code o
     go false p c r d s x = absurd (omega arith)
     go true p true r d s x = absurd (omega arith)
     go true p false r true s x = absurd (omega arith)
     go true p false r false s x = record {
       limits = p;
-      short = eqb-false (length (tail o k)) 32 r;
-      room = eqb-false (length (o .log) + length (tail o k)) 1024 s;
+      short = eqb-false (length (tail o k)) 32 s;
+      room = eqb-false (length (o .log) + length (tail o k)) 1024 r;
     }
 
--- an issue is done, or refused with 3, 4 or 5: never with 1, which the state of a sound record does not meet, or with 10
+-- an issue is done, or refused with 3, 5 or 4: never with 1, which the state of a sound record does not meet, or with 10
 pub issue-never : (n k line code : ℕ) (o : Office) → (refuseIssue n k line code o ≡ 1 → ⊥) × (refuseIssue n k line code o ≡ 10 → ⊥)
 unfolding refuseIssue refusalAt pick
-issue-never n k line code o = go (not (proper n line code)) (eqb (length (tail o k)) 32) (eqb (length (o .log) + length (tail o k)) 1024)
+issue-never n k line code o = go (not (proper n line code)) (eqb (length (o .log) + length (tail o k)) 1024) (eqb (length (tail o k)) 32)
   where
     other : (x : ℕ) → (x ≡ 1 → ⊥) → (x ≡ 10 → ⊥) → (x ≡ 1 → ⊥) × (x ≡ 10 → ⊥)
     other x p q = (p, q)
 
-    go : (a b c : Bool) → let x : ℕ = pick a 3 (pick b 4 (pick c 5 0)) in (x ≡ 1 → ⊥) × (x ≡ 10 → ⊥)
+    go : (a b c : Bool) → let x : ℕ = pick a 3 (pick b 5 (pick c 4 0)) in (x ≡ 1 → ⊥) × (x ≡ 10 → ⊥)
     go true b c = other 3 (λ e. omega arith) (λ e. omega arith)
-    go false true c = other 4 (λ e. omega arith) (λ e. omega arith)
-    go false false true = other 5 (λ e. omega arith) (λ e. omega arith)
+    go false true c = other 5 (λ e. omega arith) (λ e. omega arith)
+    go false false true = other 4 (λ e. omega arith) (λ e. omega arith)
     go false false false = other 0 (λ e. omega arith) (λ e. omega arith)
 
 pub issue-done-fine : (n k line code : ℕ) (o : Office) → Fine n o → k < n → n ≤ 8 → refuseIssue n k line code o ≡ 0 → Fine n (withIssue k (value k line code) o)

@@ -2,3 +2,4 @@
 pub mod Moves
 pub mod Counting
 pub mod Laws
+pub mod Cells

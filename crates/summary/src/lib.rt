@@ -4,7 +4,8 @@ ghost use mathlib.Core.Path.{_≡_};
 ghost use mathlib.Core.Bool.{cond};
 ghost use Prim.Native.Nat.{_<_, _≤_};
 ghost use lib.Dec.{eqb};
-ghost use lib.ListN.{length};
+ghost use mathlib.Core.List.{_++_};
+ghost use lib.ListN.{length, replicate, take};
 ghost use Rattle.lists.specs.Tests.{allB, same};
 ghost use Rattle.protocol.specs.Entry.{officeOf, lineOf, codeOf};
 ghost use Rattle.protocol.specs.Codes.{coded, codesAfter};
@@ -49,27 +50,51 @@ fn settle_code(codes: &mut [u32; 64], word: u32)
     }
 }
 
-// The codes after the entries of a log.
+// The codes with a cell for every number that a word's line can be, and back.
+fn widened(codes: [u32; 64]) -> [u32; 256]
+    ensures { λ r. ⌜ r ≡ codes ++ replicate 192 0 ⌝ }
+{
+    let mut wide: [u32; 256] = [0; 256];
+    for i in 0..64 {
+        wide[i] = codes[i];
+    }
+    wide
+}
+
+fn narrowed(wide: [u32; 256]) -> [u32; 64]
+    ensures { λ r. ⌜ r ≡ take 64 wide ⌝ }
+{
+    let mut codes: [u32; 64] = [0; 64];
+    for i in 0..64 {
+        codes[i] = wide[i];
+    }
+    codes
+}
+
+// The codes after the entries of a log. A move is stored past the 64 cells, so no word is tested: a test of each would take as long again.
 fn codes_after(codes: [u32; 64], words: &[u32]) -> [u32; 64]
     ensures { λ r. ⌜ r ≡ codesAfter codes (now (words .entry)) ⌝ }
 {
-    let mut settled = codes;
-    for i in 0..words.len() {
-        settle_code(&mut settled, words[i]);
+    if words.len() == 0 {
+        return codes;
     }
-    settled
+    let mut wide = widened(codes);
+    for i in 0..words.len() {
+        let word = words[i];
+        wide[line_of(word)] = word % 65536;
+    }
+    narrowed(wide)
 }
 
-// Whether the codes of the 64 lines are the same.
+// Whether the codes of the 64 lines are the same. Every line is looked at, so that the walk runs on vectors.
 fn same_codes(codes: [u32; 64], others: [u32; 64]) -> bool
     ensures { λ r. ⌜ r ≡ same codes others ⌝ }
 {
+    let mut good = true;
     for i in 0..64 {
-        if codes[i] != others[i] {
-            return false;
-        }
+        good = good & (codes[i] == others[i]);
     }
-    true
+    good
 }
 
 // Whether no word is a move: the upper two bits of every line are zero. Words are joined by `|` first, so that the walk runs on vectors.

@@ -5,7 +5,7 @@ use std::fmt;
 
 /// Why a call was refused. A refused call changes no record, log or output.
 ///
-/// Where several causes hold, the one with the smallest number is given.
+/// Where several causes hold, the one with the smallest number is given; issue alone tests 5 (the log is full) before 4.
 ///
 /// ```
 /// use joukerpan::{Office, Refused};

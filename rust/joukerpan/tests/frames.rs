@@ -126,7 +126,7 @@ fn a_code_that_does_not_follow_from_the_log_is_refused() {
 fn the_frame_is_kept_in_every_history() {
     let mut dice = Dice(17);
     let (mut by_takes, mut by_elections, mut alike) = (0, 0, 0);
-    for _ in 0..60 {
+    for _ in 0..80 {
         let weights: Vec<u16> = (0..2 + dice.below(3)).map(|_| 1 + dice.below(9) as u16).collect();
         let n = weights.len();
         let mut offices: Vec<Office> = (0..n).map(|own| Office::found(own, &weights).unwrap()).collect();

@@ -13,7 +13,8 @@ pub fn found(n: usize, own: usize, weights: [u16; OFFICES], log: &[u32]) -> (u32
     (DONE, Record { n, own, weights, present: weights, ..Record::ZERO })
 }
 
-/// The record with the entry appended to the office's own ballot.
+/// The record with the entry appended to the office's own ballot. A full log is said before a full tail: here alone it
+/// is not the smallest number that is given.
 pub fn issue(mut record: Record, log: &[u32], line: u32, code: u32) -> (u32, Record) {
     if !sound(&record, log) {
         return (UNSOUND, record);
@@ -22,11 +23,11 @@ pub fn issue(mut record: Record, log: &[u32], line: u32, code: u32) -> (u32, Rec
         return (NO_ENTRY, record);
     }
     let ballot = &mut record.ballots[record.own];
-    if ballot.len == TAIL {
-        return (TAIL_FULL, record);
-    }
     if record.settled + ballot.len == LOG {
         return (LOG_FULL, record);
+    }
+    if ballot.len == TAIL {
+        return (TAIL_FULL, record);
     }
     ballot.cells[ballot.len] = entry(record.own, line, code);
     ballot.len += 1;

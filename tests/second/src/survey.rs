@@ -6,7 +6,7 @@ use std::io::{Read, Result, Write};
 use crate::elect::{step, Tally};
 use crate::lines::each_line;
 use crate::message::read;
-use crate::record::{is_move, Ballot, Record, DONE, OFFICES};
+use crate::record::{is_move, Ballot, Record, DONE, LOG_FULL, OFFICES, TAIL};
 use crate::rehearsal::{Command, Office, World, SLOTS};
 use crate::take::{adopt_all, grow, refusal};
 
@@ -51,15 +51,16 @@ impl Survey {
             return;
         };
         self.add(&format!("answer {} {}", char::from(answer.letter), answer.number), 1);
+        if let Some(Command::Issue(k, ..)) = command {
+            let tail = self.world.offices[k].record.ballots[k].len;
+            self.most("longest tail", tail);
+            self.add("issue at a full log with a full tail", usize::from(answer.number == LOG_FULL && tail == TAIL));
+        }
         if answer.number != DONE {
             return;
         }
         match command {
             Some(Command::Found(..)) => self.sent = [None; SLOTS],
-            Some(Command::Issue(k, ..)) => {
-                let record = self.world.offices[k].record;
-                self.most("longest tail", record.ballots[k].len);
-            }
             Some(Command::Send(k, m)) => self.after_send(k, m),
             _ => {}
         }

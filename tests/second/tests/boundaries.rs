@@ -118,8 +118,13 @@ fn tails_and_lengths() {
     for (settled, tail, number) in [
         (0, 31, DONE),
         (0, 32, TAIL_FULL),
-        (992, 32, TAIL_FULL),
+        (991, 31, DONE),
+        (991, 32, TAIL_FULL),
+        (992, 31, DONE),
+        (992, 32, LOG_FULL),
+        (993, 30, DONE),
         (993, 31, LOG_FULL),
+        (993, 32, UNSOUND),
         (1024, 0, LOG_FULL),
         (1023, 0, DONE),
     ] {
@@ -127,6 +132,27 @@ fn tails_and_lengths() {
         let (given, after) = issue(office, &log(&long_log(settled)), 63, 9999);
         assert_eq!(given, number, "{settled} {tail}");
         assert_eq!(after.ballots[0].len, tail + usize::from(number == DONE));
+    }
+}
+
+#[test]
+fn a_full_log_is_said_before_a_full_tail() {
+    // Everywhere but at 992 and 32 the number is that of a test of the tail first.
+    let lent = log(&long_log(LOG));
+    for settled in 0..=1024_usize {
+        let office = record(0, &[1], &lent[..settled], &[]);
+        for tail in 0..=32.min(1024 - settled) {
+            let mut office = office;
+            office.ballots[0] = ballot(&long_tail(tail));
+            let old = if tail == 32 { 4 } else { 5 * u32::from(settled + tail == 1024) };
+            let number = if (settled, tail) == (992, 32) { 5 } else { old };
+            assert_eq!(issue(office, &lent, 64, 1).0, number, "{settled} {tail}");
+        }
+    }
+    // An improper entry is said first.
+    let full = record(0, &[1], &lent[..992], &[(0, &long_tail(32))]);
+    for (line, code) in [(65, 1), (64, 0), (0, 10_000)] {
+        assert_eq!(issue(full, &lent, line, code), (NO_ENTRY, full));
     }
 }
 

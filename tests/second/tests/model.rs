@@ -217,7 +217,7 @@ fn issues_and_frames_are_what_the_paper_says() {
         assert_eq!(settled_codes(record, log), (0, std::array::from_fn(|line| model.frames(line as u32).0)));
         let (number, after) = issue(*record, log, edited, code);
         let length = model.tails[own].len();
-        let expected = if length == 32 { 4 } else { 5 * u32::from(model.log.len() + length == 1024) };
+        let expected = if model.log.len() + length == 1024 { 5 } else { 4 * u32::from(length == 32) };
         assert_eq!(number, expected);
         let mut tail = model.tails[own].clone();
         if number == 0 {

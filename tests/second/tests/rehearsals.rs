@@ -178,6 +178,7 @@ fn fixed_seeds_show_all_that_a_rehearsal_can() {
         "answer e 0",
         "answer v 0",
         "answer v 3",
+        "issue at a full log with a full tail",
         "election of two or more entries",
         "tie won",
         "tie won by fewer entries, the value being higher",

@@ -226,8 +226,8 @@ pub(super) fn tails(script: &mut Script) {
     }
 }
 
-/// One office outweighs the others: the log grows to its end, others catch up late and in long pieces.
-/// An office alone has only itself to move weight to.
+/// One office outweighs the others: the log grows to its end, by way of 992 entries and a tail of 32 behind them;
+/// others catch up late and in long pieces. An office alone has only itself to move weight to.
 pub(super) fn long(script: &mut Script) {
     let n = script.random.within(1, 3);
     let mut given = vec![1; n];
@@ -237,7 +237,11 @@ pub(super) fn long(script: &mut Script) {
     let mut rounds = 0;
     while script.left > 0 && script.settled(0) < LOG && rounds < 400 {
         rounds += 1;
-        let length = script.random.pick(&[5, 17, 31, TAIL, TAIL, TAIL + 1]);
+        let length = match (LOG - TAIL).checked_sub(script.settled(0)) {
+            Some(0) => TAIL + 3,
+            Some(missing @ 1..=TAIL) => missing,
+            _ => script.random.pick(&[5, 17, 31, TAIL, TAIL, TAIL + 1]),
+        };
         for _ in 0..length {
             issue_one(script, 0, &habit);
         }

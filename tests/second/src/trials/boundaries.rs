@@ -99,7 +99,9 @@ fn tails(trials: &mut Trials) {
             }
             trials.begin();
             trials.sample(&lengths(settled, tail));
-            for line in ["U", "I 63 9999", "I 64 9999", "V 63", "I 0 0", "E", "P", "I 1 1"] {
+            for line in
+                ["U", "I 65 9999", "I 63 10000", "I 64 0", "I 63 9999", "V 63", "I 0 0", "I 65 0", "E", "P", "I 1 1"]
+            {
                 trials.say(line);
             }
         }

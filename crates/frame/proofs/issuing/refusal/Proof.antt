@@ -15,21 +15,24 @@ returns c = simp (sym (c .before .proper .ensures) ∙ not-true _ (c .if1 .taken
 
 returns-2 : tie.Need-returns-2
 unfolding refusalAt pick
-returns-2 c = let e = c .before in simp (sym (e .before .proper .ensures) ∙ not-false _ (e .if1 .left), eq-eqb (e .before .before .args .len) 32 (c .if2 .taken))
+returns-2 c =
+    let e = c .before in
+    let a = e .before .before .args in
+    simp (sym (e .before .proper .ensures) ∙ not-false _ (e .if1 .left), eq-eqb (a .settled + a .len) 1024 (c .if2 .taken))
 
 returns-3 : tie.Need-returns-3
 unfolding refusalAt pick
 returns-3 c =
     let e = c .before .before in
     let a = e .before .before .args in
-    simp (sym (e .before .proper .ensures) ∙ not-false _ (e .if1 .left), ne-eqb (a .len) 32 (c .before .if2 .left), eq-eqb (a .settled + a .len) 1024 (c .if3 .taken))
+    simp (sym (e .before .proper .ensures) ∙ not-false _ (e .if1 .left), ne-eqb (a .settled + a .len) 1024 (c .before .if2 .left), eq-eqb (a .len) 32 (c .if3 .taken))
 
 returns-4 : tie.Need-returns-4
 unfolding refusalAt pick
 returns-4 c =
     let e = c .before .before in
     let a = e .before .before .args in
-    simp (sym (e .before .proper .ensures) ∙ not-false _ (e .if1 .left), ne-eqb (a .len) 32 (c .before .if2 .left), ne-eqb (a .settled + a .len) 1024 (c .if3 .left))
+    simp (sym (e .before .proper .ensures) ∙ not-false _ (e .if1 .left), ne-eqb (a .settled + a .len) 1024 (c .before .if2 .left), ne-eqb (a .len) 32 (c .if3 .left))
 
 pub refusal-spec : {M : Type 1} → statement M
-refusal-spec = tie.close (tie.spec (λ c κs. search needs) returns returns-2 (λ c. search needs) returns-3 returns-4)
+refusal-spec = tie.close (tie.spec (λ c κs. search needs) returns (λ c. search needs) returns-2 returns-3 returns-4)
