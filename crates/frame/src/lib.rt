@@ -29,11 +29,11 @@ impl Record {
     pub const OFFICES: usize = 8;
 
     // Entries in a tail.
-    pub const TAIL: usize = 32;
+    pub const TAIL: usize = Ballot::CELLS;
 
-    pub const LINES: u32 = 64;
+    pub const LINES: u32 = issuance::LINES;
 
-    pub const CODES: u32 = 10000;
+    pub const CODES: u32 = issuance::CODES;
 
     // Entries in the settled log, and words in the lent buffer at least.
     pub const LOG: usize = 1024;

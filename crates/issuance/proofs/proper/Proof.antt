@@ -8,8 +8,8 @@ use borrow.Author.Tests.{ltb-true, lt-ltb}
 use Rattle.lists.proofs.Tests.{alike}
 use Rattle.protocol.specs.Entry.{proper}
 use Rattle.protocol.proofs.Moves.{proper-true, proper-of, proper-not}
-use Rattle.frame.proofs.issuing.proper.Statement.{statement}
-use Rattle.frame.proofs.issuing.proper.Tie as tie
+use Rattle.issuance.proofs.proper.Statement.{statement}
+use Rattle.issuance.proofs.proper.Tie as tie
 
 returns : tie.Need-returns
 returns c = proper-not _ _ _ (λ p. omega (arith, p .code-ok))

@@ -6,8 +6,8 @@ use borrow.Author.Tests.{eq-eqb, ne-eqb, not-true, not-false}
 use borrow.Author.Needs.{needs}
 use Rattle.lists.specs.Tests.{pick}
 use Rattle.protocol.specs.Issue.{refusalAt}
-use Rattle.frame.proofs.issuing.refusal.Statement.{statement}
-use Rattle.frame.proofs.issuing.refusal.Tie as tie
+use Rattle.issuance.proofs.refusal.Statement.{statement}
+use Rattle.issuance.proofs.refusal.Tie as tie
 
 returns : tie.Need-returns
 unfolding refusalAt pick
