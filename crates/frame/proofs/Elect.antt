@@ -1,6 +1,6 @@
 -- The election step on a sound record, and the run of steps.
---     winning            a winner is an entry, and the log has room for it
---     step-won, step-nobody      what the step answers and writes
+--     winning            the log has room for a winner
+--     step-made, step-written    what the step answers and writes
 --     Running            what a run of steps keeps; run-start, run-more, run-last, run-end; run-counts, counts-room of the counts beside it
 --     elect-sound, elect-state   a done elect leaves a sound record with its words, and the protocol's state
 --     elect-grows, elect-ends    its count is the log's growth, and no entry wins afterwards
@@ -11,96 +11,65 @@ use mathlib.Core.Bool.{Bool, true, false}
 use mathlib.Core.List.{List, [], _∷_, _++_, map, append-assoc}
 use mathlib.Core.Option.{Option, none, some}
 use Prim.Native.Nat.{ℕ, _+_, _-_, _<_, _≤_}
-use native.Mathlib.Numerals.{add-one}
 use native.Mathlib.Omega.{arith}
-use lib.ListN.{length, getD, take, drop, set, length-append}
-use lib.Seq.{set-split, drop-append-add, drop-drop, getD-at, take-append-seam}
+use lib.ListN.{length, getD, take, drop, length-append}
+use lib.Seq.{drop-append-add, drop-drop, getD-at, take-append-seam}
 use Rattle.lists.specs.Tests.{pick}
-use Rattle.protocol.specs.Entry.{isEntry}
 use Rattle.protocol.specs.Vote.{Rule}
 use Rattle.protocol.specs.Counts.{noCounts, countOf, counted, countsAfter}
 use Rattle.protocol.proofs.Counts.{counts-next, count-most}
 use Rattle.protocol.specs.Office.{Office, votes}
-use Rattle.protocol.specs.Elect.{lose, settle, tailEntries, next, electing, withElect, electCount}
-use Rattle.protocol.proofs.Lawful.{settled-lawful, lawful-voted}
+use Rattle.protocol.specs.Elect.{settle, next, withElect, electCount}
 use Rattle.protocol.proofs.Limits as Limits
 use Rattle.protocol.proofs.Elect.{elect-none, elect-some, elect-log, elect-stops}
-use Rattle.ballots.specs.Ballots.{tailOf, ballotOf, wordsWith}
-use Rattle.ballots.specs.declared.Ballot.{Ballot}
+use Rattle.ballots.specs.Ballots.{wordsWith}
 use Rattle.protocol.proofs.Vote.{NamesVoted}
-use Rattle.summary.specs.Summary.{startWith, summaryNext}
-use Rattle.summary.specs.declared.Summary.{Summary}
-use Rattle.summary.proofs.Laws.{summary-next}
-use Rattle.frame.specs.State.{heldBy, withHeld, doneBy, holding}
+use Rattle.elections.specs.Elections.{stateOf, nextState, nextWords}
+use Rattle.elections.specs.declared.State.{State}
+use Rattle.elections.proofs.Won as Won
+use Rattle.elections.proofs.Holding.{words-length}
+use Rattle.frame.specs.State.{heldBy, withHeld, holding}
 use Rattle.frame.specs.Soundness.{soundB, Sound}
 use Rattle.frame.specs.Electing.{ruleOf, electedOf, electOf, electWords, winnerOf, stepOf, stepWords}
 use Rattle.frame.specs.declared.Record.{Record}
 use Rattle.frame.specs.declared.electing.Elected.{Elected}
 use Rattle.frame.proofs.Sound.{sound}
-use Rattle.frame.proofs.State.{log-length, held, held-by, held-fine, words-kept, words-length, sound-of}
+use Rattle.frame.proofs.State.{stateIn, electable, log-length, held, held-by, held-fine, words-kept, sound-from, sound-of}
 
 -- ── one step ──
 -- the winner has a vote
 rule-voted : (r : Record) → NamesVoted (ruleOf r)
-rule-voted r = lawful-voted (ruleOf r) (settled-lawful (r .weights))
+rule-voted r = Won.rule-voted (r .weights)
 
--- the state and the record after e was settled
+-- the state after e was settled
 abbrev pub stepped : Record → List ℕ → ℕ → Office
 stepped r words e = settle e (heldBy r words)
 
 module _ (r : Record) (words : List ℕ) (S : Sound r words) (e : ℕ) (w : winnerOf r words ≡ some e) where
-  pub winning : (isEntry (r .n) e ≡ true) × (r .settled < 1024)
-  winning =
-      let at = rule-voted r (heldBy r words .log) (votes (heldBy r words)) e w in
-      let x = Limits.first-entry (r .n) (heldBy r words) (held-fine r words S) (at .0) e (at .1) in
-      (x .0, omega (arith, x .1, log-length r words S))
-
-  step-fine : Limits.Fine (r .n) (stepped r words e)
-  step-fine =
-      let at = rule-voted r (heldBy r words .log) (votes (heldBy r words)) e w in
-      Limits.settle-fine (r .n) e (heldBy r words) (held-fine r words S) (at .0) (at .1)
-
-  next-length : length (take (r .settled) words ++ e ∷ []) ≡ r .settled + 1
-  next-length = length-append (take (r .settled) words) (e ∷ []) ∙ ap (λ (k : ℕ). k + 1) (log-length r words S)
-
-  -- the next record holds the state with e settled
-  step-held : (bs : List Ballot) → bs ≡ map ballotOf (map (lose e) (map tailOf (r .ballots)))
-      → (x : Summary) → x ≡ summaryNext (r .summary) e → withHeld r x (r .settled + 1) bs ≡ holding r (stepped r words e)
-  unfolding settle
-  step-held bs q x p = λ i. withHeld r (after i) (sym next-length i) (q i)
-    where
-      after : x ≡ doneBy r (take (r .settled) words ++ e ∷ [])
-      after = p ∙ ap (λ (s : Summary). summaryNext s e) (S .done) ∙ sym (summary-next (startWith (r .weights)) (take (r .settled) words) e)
-
-  -- and so do the words with e written behind the settled log
-  step-words : set words (r .settled) e ≡ wordsWith (stepped r words e .log) words
-  unfolding settle
-  step-words =
-      set-split words (r .settled) e (let h = winning .1 in omega arith) ∙
-      sym (append-assoc (take (r .settled) words) (e ∷ []) (drop (length (take (r .settled) words ++ e ∷ [])) words) ∙
-      ap (λ (k : ℕ). take (r .settled) words ++ e ∷ drop k words) (next-length ∙ add-one (r .settled)))
+  winning : r .settled < 1024
+  winning = Won.winning (r .n) (r .weights) (stateIn r) words (electable r words S) e w .1
 
   step-sound : Sound (holding r (stepped r words e)) (wordsWith (stepped r words e .log) words)
-  step-sound = sound-of r (stepped r words e) words (S .head) step-fine (S .room)
+  step-sound = sound-from r (stepped r words e) words (S .head) (Won.step-electable (r .n) (r .weights) (stateIn r) words (electable r words S) e w)
 
   step-settled : holding r (stepped r words e) .settled ≡ r .settled + 1
-  unfolding settle
-  step-settled = next-length
+  step-settled = Won.step-settled (r .n) (r .weights) (stateIn r) words (electable r words S) e w
 
-  pub step-won : (bs : List Ballot) → bs ≡ map ballotOf (map (lose e) (map tailOf (r .ballots)))
-      → (x : Summary) → x ≡ summaryNext (r .summary) e → (withHeld r x (r .settled + 1) bs ≡ stepOf r words) × (set words (r .settled) e ≡ stepWords r words)
-  unfolding stepOf stepWords
-  step-won bs q x p = (
-    step-held bs q x p ∙ ap (λ (x : Option ℕ). next x r (λ f. holding r (stepped r words f))) (sym w),
-    step-words ∙ ap (λ (x : Option ℕ). next x words (λ f. wordsWith (stepped r words f .log) words)) (sym w),
-  )
+-- the record with what the step makes of its state
+pub step-made : (r : Record) (words : List ℕ) (s : State) → s ≡ nextState (r .weights) (stateIn r) words → withHeld r (s .summary) (s .settled) (s .ballots) ≡ stepOf r words
+unfolding stepOf nextState
+step-made r words s p = ap held-with p ∙ go (winnerOf r words)
+  where
+    held-with : State → Record
+    held-with x = withHeld r (x .summary) (x .settled) (x .ballots)
 
-pub step-nobody : (r : Record) (words : List ℕ) → winnerOf r words ≡ none → (r ≡ stepOf r words) × (words ≡ stepWords r words)
-unfolding stepOf stepWords
-step-nobody r words w = (
-  ap (λ (x : Option ℕ). next x r (λ f. holding r (stepped r words f))) (sym w),
-  ap (λ (x : Option ℕ). next x words (λ f. wordsWith (stepped r words f .log) words)) (sym w),
-)
+    go : (w : Option ℕ) → held-with (next w (stateIn r) (λ e. stateOf (r .weights) (stepped r words e))) ≡ next w r (λ e. holding r (stepped r words e))
+    go none = refl
+    go (some e) = refl
+
+pub step-written : (r : Record) (words last : List ℕ) → last ≡ nextWords (r .weights) (stateIn r) words → last ≡ stepWords r words
+unfolding stepWords nextWords
+step-written r words last p = p
 
 -- by cases of the winner: what a step answers
 module _ (r : Record) (words : List ℕ) (S : Sound r words) (out : Record) (last : List ℕ) where
@@ -166,7 +135,7 @@ module _ (r₀ : Record) (words₀ : List ℕ) (r : Record) (words : List ℕ) (
       }
     where
       fits : (e : ℕ) → winnerOf r words ≡ some e → length (stepped r words e .log) ≤ length words
-      fits e w = let S = R .sound in let h = winning r words S e w .1 in omega (arith, step-settled r words S e w)
+      fits e w = let S = R .sound in let h = winning r words S e w in omega (arith, step-settled r words S e w)
 
   module _ (out : Record) (p : out ≡ stepOf r words) (last : List ℕ) (q : last ≡ stepWords r words) where
     pub run-more : (out .settled ≡ r .settled → ⊥) → Running r₀ words₀ out last × (out .settled ≡ r .settled + 1) × (r .settled < 1024)
@@ -175,7 +144,7 @@ module _ (r₀ : Record) (words₀ : List ℕ) (r : Record) (words : List ℕ) (
         let m = a-win r words (R .sound) out last (winnerOf r words) p q h in (
           subst₂ (Running r₀ words₀) (sym (m .2)) (sym (m .3)) (won (m .0) (m .1)),
           ap (λ (x : Record). x .settled) (m .2) ∙ step-settled r words (R .sound) (m .0) (m .1),
-          winning r words (R .sound) (m .0) (m .1) .1,
+          winning r words (R .sound) (m .0) (m .1),
         )
 
     -- the counts with the entry that was settled are those of the log as it is then

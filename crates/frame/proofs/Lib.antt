@@ -8,5 +8,4 @@ pub mod Send
 pub mod Shown
 pub mod Sound
 pub mod State
-pub mod Steps
 pub mod Take

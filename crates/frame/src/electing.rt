@@ -5,8 +5,7 @@ ghost use Rattle.protocol.specs.Counts.{noCounts, countsAfter};
 ghost use Rattle.frame.specs.Soundness.{Sound};
 ghost use Rattle.frame.specs.Electing.{stepOf, stepWords, electOf, electWords};
 use crate::Record;
-use ballots::Ballot;
-use tallies::Winner;
+use elections::State;
 
 #[repr(C)]
 pub struct Elected {
@@ -17,43 +16,27 @@ pub struct Elected {
 
 impl Record {
     // One election step on a sound record, by the present weights and the counts of entries in its settled log: the winner is written to the log, and the next record handed back; the
-    // record itself where no entry wins. The ballots change where they stand and are walked to n, not 8: a walk of known length is unrolled, and copies them.
+    // record itself where no entry wins.
     fn step(self, counts: [u64; 8], log: &mut [u32]) -> Record
         requires { ⌜ Sound self (now log) × (counts ≡ countsAfter (noCounts 8) (take (self .settled) (now log))) ⌝ }
         ensures { λ r. ⌜ (r ≡ stepOf self (now (log .entry))) × (now (log .exit) ≡ stepWords self (now (log .entry))) ⌝ }
     {
+        let weights = self.weights;
+        let summary = self.summary;
+        let ballots = self.ballots;
+        let state = State {
+            summary,
+            settled: self.settled,
+            ballots,
+        };
+        let after = elections::step(self.n, weights, state, counts, log);
+        let done = after.summary;
+        let left = after.ballots;
         let mut next = self;
-        let n = next.n;
-        let settled = next.settled;
-        let summary = next.summary;
-        let weights = summary.present;
-        let none = tallies::NO_VOTE;
-        let mut votes = [none; 8];
-        for i in 0..n {
-            let b = next.ballots[i];
-            votes[i] = tallies::vote(b);
-        }
-        let w = tallies::find_winner(votes, weights, counts, n);
-        match w {
-            Winner::Nobody => next,
-            Winner::Entry(e) => {
-                log[settled] = e;
-                next.settled = settled + 1;
-                let after = summary.next(e);
-                next.summary = after;
-                for i in 0..n {
-                    let b = next.ballots[i];
-                    if b.len > 0 {
-                        if tallies::vote(b) == e {
-                            next.ballots[i] = tallies::without_first(b);
-                        } else {
-                            next.ballots[i] = Ballot::none();
-                        }
-                    }
-                }
-                next
-            }
-        }
+        next.summary = done;
+        next.settled = after.settled;
+        next.ballots = left;
+        next
     }
 
     // Elect repeats the step until no entry wins, and answers how many entries it settled.

@@ -1,0 +1,2 @@
+-- The definitions that the contracts of `elections` cite.
+pub mod Elections
