@@ -1,7 +1,6 @@
 -- Take: each way out of the call, and what an accepted message is made into.
 --     take-refused                      a refused call changes nothing
---     Heard, Alike                      what the call's tests have found so far
---     not-sound, bad-message, other-count, other-weights, from-self, apart, accepts      the call's number, as the code finds it
+--     number-at                         the call's number is the one that is found by the reading
 --     Accepted, accepted                what a message is that the call accepts
 --     ready, take-made                  the work on such a message may be done, and is what the definition says
 -- Assumes nothing.
@@ -14,7 +13,7 @@ use native.Mathlib.Omega.{arith}
 use lib.Dec.{eqb}
 use lib.ListN.{length, take, drop, replicate, length-append, length-drop, length-replicate, length-take, take-append-drop, length-map}
 use lib.Seq.{take-at, take-append-seam}
-use borrow.Author.Tests.{eq-eqb, ne-eqb}
+use borrow.Author.Tests.{eqb-true, ne-eqb}
 use Rattle.lists.specs.Tests.{both, pick, allB, same}
 use Rattle.protocol.specs.Office.{Office, Message}
 use Rattle.protocol.specs.Beginning.{comparable}
@@ -32,9 +31,9 @@ use Rattle.spelling.specs.Reading.{reading, recordAt}
 use Rattle.spelling.specs.Spelling.{headSize}
 use Rattle.spelling.proofs.Valid.{Valid, valid-facts, log-length}
 use Rattle.spelling.proofs.Laws.{reading-valid, reading-log, reading-room}
-use Rattle.reading.specs.Read.{readingOf, eightWeights, ballotsOf}
+use Rattle.reading.specs.Read.{readingOf, badReading, eightWeights, ballotsOf}
 use Rattle.reading.specs.declared.Reading.{Reading}
-use Rattle.intake.specs.Intake.{messageIn, mergedOf, Ready}
+use Rattle.intake.specs.Intake.{messageIn, mergedOf, refusalOf, Ready}
 use Rattle.intake.specs.declared.Merged.{Merged}
 use Rattle.reading.proofs.Answers.{read-some, read-none, rest-of-message}
 use Rattle.summary.specs.Summary.{startWith, summaryAfter}
@@ -94,6 +93,10 @@ module _ (r : Record) (words s : List ℕ) where
     not-read e = rw (sound-true r words S, e)
 
     module _ (c : Content) (e : reading s ≡ some c) where
+      pub number-read : takeNumber r words s ≡ pick (not (sameOffices r c)) 8 (refuseTake (r .own) (asMessage c) (heldBy r words))
+      unfolding takeNumber pick
+      number-read = rw (sound-true r words S, e)
+
       pub other : sameOffices r c ≡ false → takeNumber r words s ≡ 8
       unfolding takeNumber pick
       other d = rw (sound-true r words S, e, d)
@@ -114,10 +117,6 @@ take-eight n ws vs l z e =
     ap₂ (λ (a b : List ℕ). a ++ b) e (sym (zeros (drop n vs) z ∙ ap (λ (j : ℕ). replicate j 0) k)) ∙ take-append-drop n vs
 
 module _ (r : Record) (c : Content) where
-  differ : (c .n ≡ r .n → ⊥) → sameOffices r c ≡ false
-  unfolding sameOffices
-  differ d = both-false-0 _ _ (ne-eqb (c .n) (r .n) d)
-
   module _ (words : List ℕ) (S : Sound r words) (L : length (c .weights) ≡ c .n) (e : c .n ≡ r .n) where
     weights-like : same (eightWeights (c .n) (c .weights)) (r .weights) ≡ same (c .weights) (take (r .n) (r .weights))
     weights-like = go _ refl _ refl
@@ -132,27 +131,18 @@ module _ (r : Record) (c : Content) where
             let w : eightWeights (r .n) (c .weights) ≡ r .weights = take-eight (r .n) (c .weights) (r .weights) (S .head .eight) (S .head .rest) (same-true _ _ q) in
             sym p ∙ ap (λ (k : ℕ). same (eightWeights k (c .weights)) (r .weights)) e ∙ ap (λ (v : List ℕ). same v (r .weights)) w ∙ same-refl _
 
-    same-offices : (b : Bool) → same (eightWeights (c .n) (c .weights)) (r .weights) ≡ b → sameOffices r c ≡ b
-    unfolding sameOffices both
-    same-offices b p = rw (eq-eqb (c .n) (r .n) e) (sym weights-like ∙ p)
-
 -- ── the number, as the code finds it ──
--- the message's log records, in the part of the message that is lent
+-- the part of the message that is lent: its rest after the head; and the log records in it
+abbrev pub restOf : Reading → List ℕ → List ℕ
+restOf m s = take (length s - m .head) (drop (m .head) s)
+
 abbrev pub logIn : Reading → List ℕ → List ℕ
-logIn m s = runAt 6 recordAt (m .settled) (take (length s - m .head) (drop (m .head) s))
+logIn m s = runAt 6 recordAt (m .settled) (restOf m s)
 
 log-in : (m : Reading) (s : List ℕ) (c : Content) → Says m c → reading s ≡ some c → logIn m s ≡ c .log
 log-in m s c f e = rw (rest-of-message s (m .head), f .head, f .settled) (reading-log s c e)
 
 module _ (k : ℕ) (c : Content) (o : Office) where
-  number-9 : c .sender ≡ k → refuseTake k (asMessage c) o ≡ 9
-  unfolding refuseTake asMessage
-  number-9 e = rw (eq-eqb (c .sender) k e)
-
-  number-10 : (c .sender ≡ k → ⊥) → comparable (o .log) (c .log) ≡ false → refuseTake k (asMessage c) o ≡ 10
-  unfolding refuseTake asMessage
-  number-10 n e = rw (ne-eqb (c .sender) k n, e)
-
   done-comparable : refuseTake k (asMessage c) o ≡ 0 → comparable (o .log) (c .log) ≡ true
   unfolding refuseTake asMessage
   done-comparable e = go (eqb (c .sender) k) (comparable (o .log) (c .log)) e
@@ -162,74 +152,66 @@ module _ (k : ℕ) (c : Content) (o : Office) where
       go false true e = refl
       go false false e = absurd (omega arith)
 
-  number-0 : (c .sender ≡ k → ⊥) → comparable (o .log) (c .log) ≡ true → refuseTake k (asMessage c) o ≡ 0
-  unfolding refuseTake asMessage
-  number-0 n e = rw (ne-eqb (c .sender) k n, e)
+chosen : (a b : Bool) → _≡_ {A = ℕ} (pick a 9 (pick b 0 10)) (cond a 9 (cond b 0 10))
+unfolding pick
+chosen true b = refl
+chosen false true = refl
+chosen false false = refl
 
--- a sound record, and what its message is read as
-pub record Heard (r : Record) (words s : List ℕ) (m : Reading) : Type 0 where
-  pub sounds : Sound r words
-  pub is : m ≡ readingOf (reading s)
-  pub ok : m .ok ≡ true
+-- the number that is found by the reading
+module _ (r : Record) (words s : List ℕ) (S : Sound r words) (m : Reading) (is : m ≡ readingOf (reading s)) where
+  abbrev found : ℕ
+  found = refusalOf (r .n) (r .own) (r .weights) words (r .settled) (restOf m s) m
 
--- and the message has the record's offices and weights
-pub record Alike (r : Record) (words s : List ℕ) (m : Reading) : Type 0 where
-  pub heard : Heard r words s m
-  pub n : m .n ≡ r .n
-  pub weights : same (m .weights) (r .weights) ≡ true
+  not-read-found : reading s ≡ none → found ≡ 7
+  unfolding refusalOf pick readingOf badReading
+  not-read-found e = let no : m .ok ≡ false = ap (λ (x : Reading). x .ok) (is ∙ ap readingOf e) in rw no
 
-pub bad-message : (r : Record) (words s : List ℕ) → Sound r words → (m : Reading) → m ≡ readingOf (reading s) → m .ok ≡ false → takeNumber r words s ≡ 7
-bad-message r words s S m is h = not-read r words s S (read-none (reading s) (sym (ap (λ (x : Reading). x .ok) is) ∙ h))
+  module _ (c : Content) (e : reading s ≡ some c) where
+    abbrev message : Says m c
+    message = says m (reading s) c is e
 
-module _ {r : Record} {words s : List ℕ} {m : Reading} (H : Heard r words s m) where
-  found : (c : Content) × (reading s ≡ some c)
-  found = read-some (reading s) (sym (ap (λ (x : Reading). x .ok) (H .is)) ∙ H .ok)
+    -- its last two tests are the protocol's
+    refused : pick (eqb (m .sender) (r .own)) 9 (pick (comparable (take (r .settled) words) (logIn m s)) 0 10) ≡ refuseTake (r .own) (asMessage c) (heldBy r words)
+    unfolding refuseTake asMessage
+    refused = rw (message .sender, log-in m s c message e) (chosen (eqb (c .sender) (r .own)) (comparable (take (r .settled) words) (c .log)))
 
-  abbrev c : Content
-  c = found .0
+    ok : m .ok ≡ true
+    unfolding readingOf
+    ok = ap (λ (x : Reading). x .ok) (is ∙ ap readingOf e)
 
-  says-c : Says m c
-  says-c = says m (reading s) c (H .is) (found .1)
+    counted : (b : Bool) → eqb (c .n) (r .n) ≡ b → both (eqb (m .n) (r .n)) (same (m .weights) (r .weights)) ≡ sameOffices r c
+    unfolding sameOffices both
+    counted true q = rw (message .n, q, message .weights) (weights-like r c words S (valid s c e .weights-length) (eqb-true (c .n) (r .n) q))
+    counted false q = rw (message .n, q)
 
-  valid-c : Valid c
-  valid-c = valid s c (found .1)
+    read-found : found ≡ pick (not (sameOffices r c)) 8 (refuseTake (r .own) (asMessage c) (heldBy r words))
+    unfolding refusalOf pick
+    read-found = rw (ok, counted (eqb (c .n) (r .n)) refl, refused)
 
-  pub other-count : (m .n ≡ r .n → ⊥) → takeNumber r words s ≡ 8
-  other-count h = other r words s (H .sounds) c (found .1) (differ r c (λ e. h (says-c .n ∙ e)))
+  pub number-at : found ≡ takeNumber r words s
+  number-at = go (reading s) refl
+    where
+      go : (x : Option Content) → reading s ≡ x → found ≡ takeNumber r words s
+      go none e = not-read-found e ∙ sym (not-read r words s S e)
+      go (some c) e = read-found c e ∙ sym (number-read r words s S c e)
 
-  pub log-room : 6 * m .settled ≤ length s - m .head
-  log-room = omega (arith, reading-room s c (found .1), says-c .settled, says-c .head)
+  -- the lengths that the code's walks ask, whatever was read
+  pub head-within : m .head ≤ length s
+  unfolding readingOf badReading
+  head-within = go (reading s) refl
+    where
+      go : (x : Option Content) → reading s ≡ x → m .head ≤ length s
+      go none e = let z : m .head ≡ 0 = ap (λ (y : Reading). y .head) (is ∙ ap readingOf e) in omega (arith, z)
+      go (some c) e = omega (arith, reading-room s c e, message c e .head)
 
-  pub head-room : m .head ≤ length s
-  head-room = omega (arith, reading-room s c (found .1), says-c .head)
-
-  offices : m .n ≡ r .n → (b : Bool) → same (m .weights) (r .weights) ≡ b → sameOffices r c ≡ b
-  offices n b p = same-offices r c words (H .sounds) (valid-c .weights-length) (sym (says-c .n) ∙ n) b (ap (λ (ws : List ℕ). same ws (r .weights)) (sym (says-c .weights)) ∙ p)
-
-  pub other-weights : m .n ≡ r .n → same (m .weights) (r .weights) ≡ false → takeNumber r words s ≡ 8
-  other-weights n h = other r words s (H .sounds) c (found .1) (offices n false h)
-
-module _ {r : Record} {words s : List ℕ} {m : Reading} (A : Alike r words s m) where
-  abbrev d : Content
-  d = c (A .heard)
-
-  sender-d : m .sender ≡ d .sender
-  sender-d = says-c (A .heard) .sender
-
-  number : takeNumber r words s ≡ refuseTake (r .own) (asMessage d) (heldBy r words)
-  number = like r words s (A .heard .sounds) d (found (A .heard) .1) (offices (A .heard) (A .n) true (A .weights))
-
-  compared : comparable (take (r .settled) words) (logIn m s) ≡ comparable (take (r .settled) words) (d .log)
-  compared = ap (comparable (take (r .settled) words)) (log-in m s d (says-c (A .heard)) (found (A .heard) .1))
-
-  pub from-self : m .sender ≡ r .own → takeNumber r words s ≡ 9
-  from-self h = number ∙ number-9 (r .own) d (heldBy r words) (sym sender-d ∙ h)
-
-  pub apart : (m .sender ≡ r .own → ⊥) → comparable (take (r .settled) words) (logIn m s) ≡ false → takeNumber r words s ≡ 10
-  apart h e = number ∙ number-10 (r .own) d (heldBy r words) (λ q. h (sender-d ∙ q)) (sym compared ∙ e)
-
-  pub accepts : (m .sender ≡ r .own → ⊥) → comparable (take (r .settled) words) (logIn m s) ≡ true → takeNumber r words s ≡ 0
-  accepts h e = number ∙ number-0 (r .own) d (heldBy r words) (λ q. h (sender-d ∙ q)) (sym compared ∙ e)
+  pub log-within : 6 * m .settled ≤ length s - m .head
+  unfolding readingOf badReading
+  log-within = go (reading s) refl
+    where
+      go : (x : Option Content) → reading s ≡ x → 6 * m .settled ≤ length s - m .head
+      go none e = let z : m .settled ≡ 0 = ap (λ (y : Reading). y .settled) (is ∙ ap readingOf e) in omega (arith, z)
+      go (some c) e = omega (arith, reading-room s c e, message c e .settled, message c e .head)
 
 -- ── an accepted message ──
 pub record Accepted (r : Record) (words s : List ℕ) : Type 0 where
@@ -271,10 +253,6 @@ unfolding takeOf
 take-answer r words s next e q = λ i. record { number = sym e i; «record» = q i }
 
 -- ── the code's work on an accepted message ──
--- the part of the message that is lent: its rest after the head
-abbrev pub restOf : Reading → List ℕ → List ℕ
-restOf m s = take (length s - m .head) (drop (m .head) s)
-
 module _ (r : Record) (words s : List ℕ) (m : Reading) (e : takeNumber r words s ≡ 0) (is : m ≡ readingOf (reading s)) where
   taken : Accepted r words s
   taken = accepted r words s e
@@ -299,9 +277,6 @@ module _ (r : Record) (words s : List ℕ) (m : Reading) (e : takeNumber r words
   unfolding asMessage
   is-message = λ i. record { sender = says-it .sender i; state = record { log = in-message i; tails = held-tails i } }
 
-  pub head-within : m .head ≤ length s
-  head-within = omega (arith, reading-room s said (taken .reads), says-it .head)
-
   pub ready : Ready words (r .settled) (r .ballots) (r .own) (restOf m s) m
   ready =
       let S = taken .sounds in
@@ -322,42 +297,28 @@ module _ (r : Record) (words s : List ℕ) (m : Reading) (e : takeNumber r words
   abbrev next : Office
   next = withTake (r .own) (messageIn (restOf m s) m) (heldBy r words)
 
-  -- what is made of the message: its log and ballots, and the words with that log in front
-  module _ (q : Merged) (ws : List ℕ) (eq : q ≡ mergedOf next) (ew : ws ≡ wordsWith (next .log) words) where
+  -- what is made of the message: its log and ballots, what the log has done, and the words with that log in front
+  module _ (q : Merged) (ws : List ℕ) (eq : q ≡ mergedOf (r .summary) (r .settled) next) (ew : ws ≡ wordsWith (next .log) words) where
     abbrev log : List ℕ
     log = take (r .settled) words
 
     -- what was added behind the settled log
     abbrev more : List ℕ
-    more = drop (length log) (next .log)
+    more = drop (r .settled) (next .log)
 
     grown : log ++ more ≡ next .log
-    grown = ⊑-rest log (next .log) (take-grows (r .own) (messageIn (restOf m s) m) (heldBy r words))
+    grown =
+        ap (λ (k : ℕ). log ++ drop k (next .log)) (sym (State.log-length r words (taken .sounds)))
+        ∙ ⊑-rest log (next .log) (take-grows (r .own) (messageIn (restOf m s) m) (heldBy r words))
 
-    log-is : length log ≡ r .settled
-    log-is = State.log-length r words (taken .sounds)
+    after : summaryAfter (r .summary) more ≡ doneBy r (next .log)
+    after = ap (λ (x : Summary). summaryAfter x more) (taken .sounds .done) ∙ sym (summary-append (startWith (r .weights)) log more) ∙ ap (doneBy r) grown
 
-    length-is : q .settled ≡ length (next .log)
-    length-is = ap (λ (x : Merged). x .settled) eq
-
-    pub part-within : (r .settled ≤ q .settled) × (q .settled ≤ length ws)
-    part-within = (
-      omega (arith, length-is, ap length grown, length-append log more, log-is),
-      omega (arith, length-is, ap length ew, length-append (next .log) (drop (length (next .log)) words)),
-    )
-
-    -- the part of the log that the code walks
-    added : take (q .settled - r .settled) (drop (r .settled) ws) ≡ more
-    added = take-from (r .settled) (q .settled) ws ∙ ap₂ drop (sym log-is) (ap₂ take length-is ew ∙ take-append-seam (next .log) (drop (length (next .log)) words))
-
-    after : (x : Summary) → x ≡ summaryAfter (r .summary) (take (q .settled - r .settled) (drop (r .settled) ws)) → x ≡ doneBy r (next .log)
-    after x p = p ∙ ap₂ summaryAfter (taken .sounds .done) added ∙ sym (summary-append (startWith (r .weights)) log more) ∙ ap (doneBy r) grown
-
-    pub take-made : (x : Summary) → x ≡ summaryAfter (r .summary) (take (q .settled - r .settled) (drop (r .settled) ws))
-        → (withHeld r x (q .settled) (q .ballots) ≡ takeOf r words s .«record») × (ws ≡ takeWords r words s)
-    take-made x p =
+    pub take-made : (_≡_ {A = Taken} (record { number = 0; «record» = withHeld r (q .summary) (q .settled) (q .ballots) }) (takeOf r words s)) × (ws ≡ takeWords r words s)
+    take-made =
         let o : next ≡ takenOffice r words s = ap (λ (y : Message). withTake (r .own) y (heldBy r words)) is-message ∙ sym (taken-office r words s taken) in
-        let d = take-done-is r words s e in (
-          ap₂ (λ (z : Summary) (y : Merged). withHeld r z (y .settled) (y .ballots)) (after x p) eq ∙ ap (holding r) o ∙ sym (d .0),
+        let d = take-done-is r words s e in
+        let held = ap (λ (y : Merged). withHeld r (y .summary) (y .settled) (y .ballots)) eq ∙ ap (λ (z : Summary). withHeld r z (length (next .log)) (map ballotOf (next .tails))) after in (
+          take-answer r words s _ e (held ∙ ap (holding r) o ∙ sym (d .0)),
           ew ∙ ap (λ (y : Office). wordsWith (y .log) words) o ∙ sym (d .1),
         )

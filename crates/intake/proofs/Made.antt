@@ -6,11 +6,14 @@ use mathlib.Core.List.{List, [], _∷_, map}
 use Prim.Native.Nat.{ℕ, zero, suc, _<_, _≤_}
 use native.Mathlib.Nat.{not-suc-le-zero, le-of-suc-le-suc}
 use native.Mathlib.Omega.{arith}
-use lib.ListN.{length, getD, take, set, length-map}
+use lib.ListN.{length, getD, take, drop, set, length-map}
+use lib.Seq.{take-append-seam}
 use Rattle.protocol.specs.Beginning.{begins, comparable}
 use Rattle.protocol.specs.Take.{offers}
 use Rattle.lists.specs.Tests.{pick}
 use Rattle.lists.proofs.Tests.{map-set, getD-map}
+use Rattle.lists.proofs.Walk.{take-from}
+use Rattle.protocol.specs.Office.{Office}
 use Rattle.protocol.proofs.Beginning.{begins-true}
 use Rattle.ballots.specs.declared.Ballot.{Ballot}
 use Rattle.ballots.specs.Ballots.{tailOf, ballotOf, offEnd, officeIn, wordsWith}
@@ -20,6 +23,8 @@ use Rattle.numbers.specs.Numbers.{runAt}
 use Rattle.spelling.specs.Reading.{recordAt}
 use Rattle.numbers.proofs.Runs.{runAt-length}
 use Rattle.reading.specs.declared.Reading.{Reading}
+use Rattle.summary.specs.Summary.{summaryAfter}
+use Rattle.summary.specs.declared.Summary.{Summary}
 use Rattle.intake.specs.Intake.{messageIn, takenIn, mergedOf, caughtLength, caughtWords, Ready}
 use Rattle.intake.specs.declared.Merged.{Merged}
 use Rattle.intake.proofs.Caught.{Caught, caught, part, Comparable, Longer, longer-end}
@@ -86,10 +91,23 @@ module _ (words : List ℕ) (settled : ℕ) (ballots : List Ballot) (own : ℕ) 
       taking .ballots
       ∙ ap₂ (λ (bs qs : List Ballot). adoptedAll (part new (m .settled) endOf) (map (pastBallot (part new settled endOf)) bs) qs) (R .held) offers-made
 
-  pub merged : (k : ℕ) (ws : List ℕ) (bs : List Ballot) → k ≡ endOf → ws ≡ new → bs ≡ adoptedBy ws k
-      → (_≡_ {A = Merged} (record { settled = k; ballots = bs }) (mergedOf (takenIn words settled ballots own rest m)))
-      × (ws ≡ wordsWith (takenIn words settled ballots own rest m .log) words)
-  merged k ws bs ek ew eb = (
-    (λ i. record { settled = (ek ∙ sym (ap length (taking .log) ∙ caught-up .long)) i; ballots = (eb ∙ ap₂ adoptedBy ew ek ∙ sym ballots-made) i }),
-    ew ∙ sym (ap (λ (l : List ℕ). wordsWith l words) (taking .log) ∙ caught-up .kept),
-  )
+  abbrev taken : Office
+  taken = takenIn words settled ballots own rest m
+
+  module _ (k : ℕ) (ws : List ℕ) (ek : k ≡ endOf) (ew : ws ≡ new) where
+    length-made : k ≡ length (taken .log)
+    length-made = ek ∙ sym (ap length (taking .log) ∙ caught-up .long)
+
+    words-made : ws ≡ wordsWith (taken .log) words
+    words-made = ew ∙ sym (ap (λ (l : List ℕ). wordsWith l words) (taking .log) ∙ caught-up .kept)
+
+    -- the part of the log that the summary walks
+    added : part ws settled k ≡ drop settled (taken .log)
+    added = take-from settled k ws ∙ ap (drop settled) (ap₂ take length-made words-made ∙ take-append-seam (taken .log) (drop (length (taken .log)) words))
+
+    pub merged : (bs : List Ballot) → bs ≡ adoptedBy ws k → (s x : Summary) → x ≡ summaryAfter s (part ws settled k)
+        → (_≡_ {A = Merged} (record { summary = x; settled = k; ballots = bs }) (mergedOf s settled taken)) × (ws ≡ wordsWith (taken .log) words)
+    merged bs eb s x ex = (
+      (λ i. record { summary = (ex ∙ ap (summaryAfter s) added) i; settled = length-made i; ballots = (eb ∙ ap₂ adoptedBy ew ek ∙ sym ballots-made) i }),
+      words-made,
+    )

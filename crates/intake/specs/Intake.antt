@@ -1,12 +1,12 @@
 -- An office's log and ballots beside a message that was read, and what a take makes of them. Assumes nothing.
 use Prim.Native.Nat.{ℕ, _*_, _<_, _≤_}
 use mathlib.Core.Path.{_≡_}
-use mathlib.Core.Bool.{true}
+use mathlib.Core.Bool.{true, not}
 use mathlib.Core.List.{List, map}
-use lib.Dec.{ltb}
+use lib.Dec.{ltb, eqb}
 use lib.ListN.{length, take, drop}
 use lib.Seq.{sets}
-use Rattle.lists.specs.Tests.{pick}
+use Rattle.lists.specs.Tests.{both, pick, same}
 use Rattle.protocol.specs.Beginning.{comparable}
 use Rattle.protocol.specs.Office.{Office, Message}
 use Rattle.protocol.specs.Take.{withTake}
@@ -15,15 +15,26 @@ use Rattle.ballots.specs.Ballots.{tailOf, ballotOf, officeIn}
 use Rattle.numbers.specs.Numbers.{runAt}
 use Rattle.spelling.specs.Reading.{recordAt}
 use Rattle.reading.specs.declared.Reading.{Reading}
+use Rattle.summary.specs.Summary.{summaryAfter}
+use Rattle.summary.specs.declared.Summary.{Summary}
 use Rattle.intake.specs.declared.Merged.{Merged}
 
 -- the message that was read: its log records stand in the rest after the head
 abbrev pub messageIn : List ℕ → Reading → Message
 messageIn rest m = record { sender = m .sender; state = record { log = runAt 6 recordAt (m .settled) rest; tails = map tailOf (m .ballots) } }
 
--- the settled length and the ballots that hold a state
-abbrev pub mergedOf : Office → Merged
-mergedOf o = record { settled = length (o .log); ballots = map ballotOf (o .tails) }
+-- the settled length and the ballots that hold a state, and what its log has done: what the log of this settled length had, and the entries behind it
+abbrev pub mergedOf : Summary → ℕ → Office → Merged
+mergedOf summary settled o = record { summary = summaryAfter summary (drop settled (o .log)); settled = length (o .log); ballots = map ballotOf (o .tails) }
+
+-- the number of a take on a sound record with these fields. 7: "message not of the layout, .."; 8: "message's n or weights differ from the
+-- record's"; 9: the own message; 10: logs that are not comparable
+unfoldable pub refusalOf : ℕ → ℕ → List ℕ → List ℕ → ℕ → List ℕ → Reading → ℕ
+refusalOf n own weights words settled rest m =
+    pick (not (m .ok)) 7
+    (pick (not (both (eqb (m .n) n) (same (m .weights) weights))) 8
+    (pick (eqb (m .sender) own) 9
+    (pick (comparable (take settled words) (messageIn rest m .state .log)) 0 10)))
 
 -- the office's state after it took the message that was read
 abbrev pub takenIn : List ℕ → ℕ → List Ballot → ℕ → List ℕ → Reading → Office

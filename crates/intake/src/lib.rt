@@ -1,24 +1,26 @@
-// Take's work on a log and eight ballots, from a message that was read: the two logs compared, the log caught up, the ballots brought past
-// it and offered the message's. Public only for the crate above, which proves what the functions require.
+// Take's number, and its work on what a record holds, from a message that was read: the two logs compared, the log caught up, the ballots
+// brought past it and offered the message's. Public only for the crate above, which proves what the functions require.
 ghost use mathlib.Core.Path.{_≡_};
 ghost use Prim.Native.Nat.{_*_, _≤_};
 ghost use lib.ListN.{length, take};
 ghost use Rattle.numbers.specs.Numbers.{runAt};
 ghost use Rattle.spelling.specs.Reading.{recordAt};
-ghost use Rattle.intake.specs.Intake.{takenIn, mergedOf, caughtLength, caughtWords, Ready};
+ghost use Rattle.intake.specs.Intake.{takenIn, mergedOf, refusalOf, caughtLength, caughtWords, Ready};
 ghost use Rattle.ballots.specs.Ballots.{wordsWith};
 ghost use Rattle.protocol.specs.Beginning.{comparable};
 use ballots::Ballot;
 use reading::Reading;
+use summary::Summary;
 
-// A settled length and the ballots beside that log.
+// What a settled log has done, its length and the ballots beside it.
 pub struct Merged {
+    pub summary: Summary,
     pub settled: usize,
     pub ballots: [Ballot; 8],
 }
 
 // Whether one of the two settled logs is a beginning of the other: the log's first words, and the message's k log records.
-pub fn comparable(log: &[u32], settled: usize, rest: &[u8], k: usize) -> bool
+fn comparable(log: &[u32], settled: usize, rest: &[u8], k: usize) -> bool
     requires { ⌜ (settled ≤ length (now log)) × (6 * k ≤ length (now rest)) ⌝ }
     ensures { λ r. ⌜ r ≡ comparable (take settled (now (log .entry))) (runAt 6 recordAt k (now (rest .entry))) ⌝ }
 {
@@ -26,6 +28,38 @@ pub fn comparable(log: &[u32], settled: usize, rest: &[u8], k: usize) -> bool
         return reading::same_log(log, rest, settled);
     }
     reading::same_log(log, rest, k)
+}
+
+// The number of a take on a sound record with these fields, in the order of the definition; m is what the message was read as.
+pub fn refusal(
+    n: usize,
+    own: usize,
+    weights: [u16; 8],
+    log: &[u32],
+    settled: usize,
+    rest: &[u8],
+    m: Reading,
+) -> u32
+    requires { ⌜ (settled ≤ length (now log)) × (6 * m .settled ≤ length (now rest)) ⌝ }
+    ensures { λ r. ⌜ r ≡ refusalOf n own weights (now (log .entry)) settled (now (rest .entry)) m ⌝ }
+{
+    if !m.ok {
+        return 7;
+    }
+    if m.n != n {
+        return 8;
+    }
+    let theirs = m.weights;
+    if !lists::same_eight(theirs, weights) {
+        return 8;
+    }
+    if m.sender == own {
+        return 9;
+    }
+    if !comparable(log, settled, rest, m.settled) {
+        return 10;
+    }
+    0
 }
 
 // Where the message's log is the longer, writes the missing entries from the settled length onward; answers the new settled length.
@@ -41,9 +75,10 @@ fn catch_up(log: &mut [u32], settled: usize, rest: &[u8], k: usize) -> usize
 }
 
 // Takes a message whose log is comparable with the settled one: the log catches up, every ballot is brought past the entries that this
-// settled, and each is offered the message's ballot of its office, the own one the sender's. Later words keep their contents.
+// settled, and each is offered the message's ballot of its office, the own one the sender's; the summary follows. Later words keep their contents.
 pub fn take_in(
     log: &mut [u32],
+    summary: Summary,
     settled: usize,
     ballots: [Ballot; 8],
     own: usize,
@@ -51,7 +86,7 @@ pub fn take_in(
     m: Reading,
 ) -> Merged
     requires { ⌜ Ready (now log) settled ballots own (now rest) m ⌝ }
-    ensures merged { λ r. ⌜ r ≡ mergedOf (takenIn (now (log .entry)) settled ballots own (now (rest .entry)) m) ⌝ }
+    ensures merged { λ r. ⌜ r ≡ mergedOf summary settled (takenIn (now (log .entry)) settled ballots own (now (rest .entry)) m) ⌝ }
     ensures words { λ _. ⌜ now (log .exit) ≡ wordsWith (takenIn (now (log .entry)) settled ballots own (now (rest .entry)) m .log) (now (log .entry)) ⌝ }
 {
     let theirs = m.settled;
@@ -66,7 +101,9 @@ pub fn take_in(
         &log[settled..end],
         &log[theirs..end],
     );
+    let after = summary.after(&log[settled..end]);
     Merged {
+        summary: after,
         settled: end,
         ballots: next,
     }

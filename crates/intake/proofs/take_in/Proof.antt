@@ -28,12 +28,15 @@ inside c =
 
 returns : tie.Need-returns
 returns c =
-    let u = caught c .before .before in
-    merged _ _ _ _ _ _ (start (u .before) .pre) _ _ _ (u .catch-up .ensures .0) (u .catch-up .ensures .1) (c .merge .ensures)
+    let w = c .before .before .before in
+    let u = caught w .before .before in
+    merged _ _ _ _ _ _ (start (u .before) .pre) _ _ (u .catch-up .ensures .0) (u .catch-up .ensures .1) _ (w .merge .ensures) _ _ (c .after .ensures)
 
 pub take-in-spec : {M : Type 1} → statement M
 take-in-spec =
     tie.close (tie.spec (λ c κs. search needs) (λ c. search needs) (λ c. let p = past-both c in omega arith)
     (λ c. let p = past-both (c .before) in search needs) (λ c. let p = inside (c .before) in search needs)
     (λ c. search needs) (λ c. let p = past-both (c .before .before) in omega arith) (λ c. let p = past-both (c .before .before) in search needs)
-    (λ c. let p = inside (c .before .before) in search needs) (λ c κs. search needs) (λ c. search needs) returns)
+    (λ c. let p = inside (c .before .before) in search needs) (λ c κs. search needs)
+    (λ c. search needs) (λ c. let p = past-both (caught c) in omega arith) (λ c. let p = past-both (caught (c .before)) in search needs)
+    (λ c. let p = inside (caught (c .before)) in search needs) (λ c κs. search needs) (λ c. search needs) returns)

@@ -1,27 +1,61 @@
--- The number first; a refused call leaves all as it was.
+-- Soundness first, then the number by what was read; a refused call leaves all as it was.
+use native.Mathlib.Omega.{arith}
 use mathlib.Core.Path.{_≡_, sym, _∙_}
+use Prim.Native.Nat.{_≤_}
+use lib.ListN.{length, length-drop}
 use borrow.Author.Needs.{needs}
+use borrow.Author.Tests.{not-true, not-false}
+use Rattle.reading.proofs.Answers.{rest-of-message}
+use Rattle.frame.specs.Soundness.{Sound}
 use Rattle.frame.specs.Taking.{takeNumber}
-use Rattle.frame.proofs.Take.{take-refused, take-answer}
+use Rattle.frame.proofs.Sound.{sound}
+use Rattle.frame.proofs.Take.{not-sound, number-at, head-within, log-within, take-refused, ready, take-made}
 use Rattle.frame.proofs.Record.take.Statement.{statement}
 use Rattle.frame.proofs.Record.take.Tie as tie
 
 returns : tie.Need-returns
-returns c = let a = c .before .before .before .before .before .before .args in take-refused (a .self) (a .log .now) (a .msg .now) _ (c .before .take-number .ensures) (c .if1 .taken)
+returns c = take-refused _ _ _ 1 (sym (not-sound _ _ _ (sym (c .before .sound .ensures) ∙ not-true _ (c .if1 .taken)))) (λ z. omega arith)
 
--- the number is 0
-done : (c : tie.Else1) → let a = c .before .before .before .before .before .before .args in takeNumber (a .self) (a .log .now) (a .msg .now) ≡ 0
-done c = sym (c .before .take-number .ensures) ∙ c .if1 .left
+-- the places of the code: the call's start, behind the test of soundness, the reading, the number
+abbrev start : tie.Else1 → tie.Start
+start c = c .before .before .before .before .before
 
-returns-2 : tie.Need-returns-2
-returns-2 c =
-    let t = c .before .before in
-    let e = t .before .before in
-    let a = e .before .before .before .before .before .before .args in
-    (take-answer (a .self) (a .log .now) (a .msg .now) _ (done e) (t .take-accepted .ensures .0), t .take-accepted .ensures .1)
+sounds : (c : tie.Else1) → let a = start c .args in Sound (a .self) (a .log .now)
+sounds c = sound _ _ (sym (c .before .sound .ensures) ∙ not-false _ (c .if1 .left))
+
+abbrev tested : tie.After-read → tie.Else1
+tested c = c .before
+
+abbrev read : tie.After-refusal-arg → tie.After-read
+read c = c .before .before .before
+
+-- the message's head is within it
+within : (c : tie.After-read) → c .read .result .head ≤ length (start (tested c) .args .msg .now)
+within c = head-within _ _ _ (sounds (tested c)) _ (c .read .ensures)
+
+refusal-requires : tie.Need-refusal-requires
+refusal-requires c κs =
+    let x = read c in
+    let S = sounds (tested x) in
+    (omega (arith, S .most, S .room), rw (rest-of-message (start (tested x) .args .msg .now) (x .read .result .head), length-drop) (log-within _ _ _ S _ (x .read .ensures)))
+
+-- what is found by the reading is the call's number
+numbered : (c : tie.After-refusal) → let a = start (tested (read (c .before))) .args in c .refusal .result ≡ takeNumber (a .self) (a .log .now) (a .msg .now)
+numbered c = let x = read (c .before) in c .refusal .ensures ∙ number-at _ _ _ (sounds (tested x)) _ (x .read .ensures)
+
+done : (c : tie.Else2) → let a = start (tested (read (c .before .before))) .args in takeNumber (a .self) (a .log .now) (a .msg .now) ≡ 0
+done c = sym (numbered (c .before)) ∙ c .if2 .left
+
+take-in-requires : tie.Need-take-in-requires
+take-in-requires c κs = let e = c .before .before .before in ready _ _ _ _ (done e) (read (e .before .before) .read .ensures)
+
+returns-3 : tie.Need-returns-3
+returns-3 c =
+    let w = c .before .before .before .before in
+    let e = w .before .before .before .before in
+    take-made _ _ _ _ (done e) (read (e .before .before) .read .ensures) _ _ (w .take-in .ensures .0) (w .take-in .ensures .1)
 
 pub take-spec : {M : Type 1} → statement M
 take-spec =
-    tie.close
-    (tie.spec (λ c κs. search needs) (λ c κs. c .before .read .ensures) (λ c. search needs) returns
-    (λ c κs. (done (c .before), c .before .before .before .before .read .ensures)) (λ c. search needs) returns-2)
+    tie.close (tie.spec (λ c κs. search needs) (λ c. search needs) returns (λ c κs. search needs) (λ c. omega (arith, within c)) (λ c. let h = within c in search needs) (λ c. search needs)
+    refusal-requires (λ c. search needs) (λ c. take-refused _ _ _ _ (numbered (c .before)) (c .if2 .taken)) take-in-requires (λ c. search needs) returns-3)
