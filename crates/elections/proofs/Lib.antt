@@ -1,4 +1,4 @@
 -- Laws that belong to no one function.
 pub mod Holding
 pub mod Steps
-pub mod Won
+pub mod Run

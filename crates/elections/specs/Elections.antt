@@ -1,4 +1,5 @@
--- What changes of a record, the office's state that it holds with a log's words, and what an election step makes of both. Assumes nothing.
+-- What changes of a record, the office's state that it holds with a log's words, and what an election step and elections until no entry wins make of
+-- both. Assumes nothing.
 use Prim.Native.Nat.{ℕ, _≤_}
 use mathlib.Core.Path.{_≡_}
 use mathlib.Core.Bool.{true}
@@ -9,7 +10,7 @@ use Rattle.lists.specs.Tests.{allB}
 use Rattle.protocol.specs.Entry.{isEntry}
 use Rattle.protocol.specs.SettledRule.{bySettled}
 use Rattle.protocol.specs.Office.{Office, votes}
-use Rattle.protocol.specs.Elect.{settle, next}
+use Rattle.protocol.specs.Elect.{settle, next, withElect}
 use Rattle.ballots.specs.Ballots.{ballotOf, ballotFine, isNoBallot, officeIn, wordsWith}
 use Rattle.summary.specs.Summary.{startWith, summaryAfter}
 use Rattle.elections.specs.declared.State.{State}
@@ -33,13 +34,17 @@ pub record Electable (n : ℕ) (weights : List ℕ) (s : State) (words : List �
   pub fine : allB (ballotFine n (s .settled)) (s .ballots) ≡ true
   pub rest : allB isNoBallot (drop n (s .ballots)) ≡ true
 
+-- "until no entry wins"
+abbrev pub electedIn : List ℕ → State → List ℕ → Office
+electedIn weights s words = withElect (bySettled weights) (heldIn s words)
+
 -- the entry that wins, if any
 abbrev pub winnerIn : List ℕ → State → List ℕ → Option ℕ
 winnerIn weights s words = bySettled weights (heldIn s words .log) (votes (heldIn s words))
 
 -- one step: "the winner is written to the log, the length rises by one"
-unfoldable pub nextState : List ℕ → State → List ℕ → State
-nextState weights s words = next (winnerIn weights s words) s (λ e. stateOf weights (settle e (heldIn s words)))
+unfoldable pub stepOf : List ℕ → State → List ℕ → State
+stepOf weights s words = next (winnerIn weights s words) s (λ e. stateOf weights (settle e (heldIn s words)))
 
-unfoldable pub nextWords : List ℕ → State → List ℕ → List ℕ
-nextWords weights s words = next (winnerIn weights s words) words (λ e. wordsWith (settle e (heldIn s words) .log) words)
+unfoldable pub stepWords : List ℕ → State → List ℕ → List ℕ
+stepWords weights s words = next (winnerIn weights s words) words (λ e. wordsWith (settle e (heldIn s words) .log) words)

@@ -57,9 +57,8 @@ module _ (r : Record) (words : List ℕ) (S : Sound r words) where
   pub held-fine : Limits.Fine (r .n) (heldBy r words)
   held-fine = Holding.held-fine _ _ _ words electable
 
-module _ (r : Record) (o : Office) (words : List ℕ) (H : Head (r .n) (r .own) (r .weights)) where
-  pub sound-from : Electable (r .n) (r .weights) (stateIn (holding r o)) (wordsWith (o .log) words) → Sound (holding r o) (wordsWith (o .log) words)
-  sound-from E = record { room = E .room; head = H; most = E .most; entries = E .entries; done = E .done; eight = E .eight; fine = E .fine; rest = E .rest }
-
-  pub sound-of : Limits.Fine (r .n) o → 1024 ≤ length words → Sound (holding r o) (wordsWith (o .log) words)
-  sound-of F room = sound-from (Holding.electable-of (r .n) (r .weights) o words (H .most) F room)
+module _ (r : Record) (o : Office) (words : List ℕ) (H : Head (r .n) (r .own) (r .weights)) (F : Limits.Fine (r .n) o) (room : 1024 ≤ length words) where
+  pub sound-of : Sound (holding r o) (wordsWith (o .log) words)
+  sound-of =
+      let E = Holding.electable-of (r .n) (r .weights) o words (H .most) F room in
+      record { room = E .room; head = H; most = E .most; entries = E .entries; done = E .done; eight = E .eight; fine = E .fine; rest = E .rest }

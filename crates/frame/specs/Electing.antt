@@ -6,7 +6,7 @@ use Rattle.lists.specs.Tests.{pick}
 use Rattle.protocol.specs.Vote.{Rule}
 use Rattle.protocol.specs.SettledRule.{bySettled}
 use Rattle.protocol.specs.Office.{Office, votes}
-use Rattle.protocol.specs.Elect.{settle, next, withElect, electCount}
+use Rattle.protocol.specs.Elect.{withElect, electCount}
 use Rattle.frame.specs.State.{heldBy, holding}
 use Rattle.ballots.specs.Ballots.{wordsWith}
 use Rattle.frame.specs.Soundness.{soundB}
@@ -35,10 +35,3 @@ electWords r words = pick (soundB r words) (wordsWith (electedOf r words .log) w
 -- the entry that wins, if any
 abbrev pub winnerOf : Record → List ℕ → Option ℕ
 winnerOf r words = ruleOf r (heldBy r words .log) (votes (heldBy r words))
-
--- one step on a sound record: "the winner is written to the log, the length rises by one"
-unfoldable pub stepOf : Record → List ℕ → Record
-stepOf r words = next (winnerOf r words) r (λ e. holding r (settle e (heldBy r words)))
-
-unfoldable pub stepWords : Record → List ℕ → List ℕ
-stepWords r words = next (winnerOf r words) words (λ e. wordsWith (settle e (heldBy r words) .log) words)

@@ -1,9 +1,6 @@
-// The election step, and elections until no entry wins.
+// Elections until no entry wins.
 ghost use mathlib.Core.Path.{_≡_};
-ghost use lib.ListN.{take};
-ghost use Rattle.protocol.specs.Counts.{noCounts, countsAfter};
-ghost use Rattle.frame.specs.Soundness.{Sound};
-ghost use Rattle.frame.specs.Electing.{stepOf, stepWords, electOf, electWords};
+ghost use Rattle.frame.specs.Electing.{electOf, electWords};
 use crate::Record;
 use elections::State;
 
@@ -15,31 +12,7 @@ pub struct Elected {
 }
 
 impl Record {
-    // One election step on a sound record, by the present weights and the counts of entries in its settled log: the winner is written to the log, and the next record handed back; the
-    // record itself where no entry wins.
-    fn step(self, counts: [u64; 8], log: &mut [u32]) -> Record
-        requires { ⌜ Sound self (now log) × (counts ≡ countsAfter (noCounts 8) (take (self .settled) (now log))) ⌝ }
-        ensures { λ r. ⌜ (r ≡ stepOf self (now (log .entry))) × (now (log .exit) ≡ stepWords self (now (log .entry))) ⌝ }
-    {
-        let weights = self.weights;
-        let summary = self.summary;
-        let ballots = self.ballots;
-        let state = State {
-            summary,
-            settled: self.settled,
-            ballots,
-        };
-        let after = elections::step(self.n, weights, state, counts, log);
-        let done = after.summary;
-        let left = after.ballots;
-        let mut next = self;
-        next.summary = done;
-        next.settled = after.settled;
-        next.ballots = left;
-        next
-    }
-
-    // Elect repeats the step until no entry wins, and answers how many entries it settled.
+    // Elect repeats the election step until no entry wins, and answers how many entries it settled.
     pub fn elect(self, log: &mut [u32]) -> Elected
         ensures { λ r. ⌜ (r ≡ electOf self (now (log .entry))) × (now (log .exit) ≡ electWords self (now (log .entry))) ⌝ }
     {
@@ -50,21 +23,26 @@ impl Record {
                 count: 0,
             };
         }
-        let start = self.settled;
-        let mut counts = summary::counts(&log[..start]);
-        let mut now = self;
-        loop {
-            let before = now.settled;
-            now = now.step(counts, log);
-            if now.settled == before {
-                break;
-            }
-            let next = summary::counted(counts, log[before]);
-            counts = next;
-        }
-        let count = now.settled - start;
+        let weights = self.weights;
+        let summary = self.summary;
+        let settled = self.settled;
+        let ballots = self.ballots;
+        let state = State {
+            summary,
+            settled,
+            ballots,
+        };
+        let after = state.elect(self.n, weights, log);
+        let done = after.summary;
+        let end = after.settled;
+        let left = after.ballots;
+        let mut next = self;
+        next.summary = done;
+        next.settled = end;
+        next.ballots = left;
+        let count = end - settled;
         Elected {
-            record: now,
+            record: next,
             number: 0,
             count,
         }

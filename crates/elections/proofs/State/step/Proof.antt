@@ -8,10 +8,10 @@ use Prim.Native.Nat.{_+_, _-_, _≤_}
 use lib.ListN.{set}
 use borrow.Author.Needs.{needs}
 use Rattle.elections.specs.Elections.{winnerIn}
-use Rattle.elections.proofs.Won.{winning, step-won, step-nobody}
+use Rattle.elections.proofs.Run.{winning, step-won, step-nobody}
 use Rattle.elections.proofs.Steps.{Gathered, Settling, withBallots, votes-step, votes-silent, won-by, won-nobody, shape-here, lost-first, lost-rival, lost-keep, next-turn, lost-end}
-use Rattle.elections.proofs.step.Statement.{statement}
-use Rattle.elections.proofs.step.Tie as tie
+use Rattle.elections.proofs.State.step.Statement.{statement}
+use Rattle.elections.proofs.State.step.Tie as tie
 
 abbrev Inv-loop : tie.InvT-loop
 Inv-loop n counts log next settled summary present none votes₀ i₀ votes i = (i ≤ n) × Gathered (next .ballots) votes i
@@ -43,7 +43,7 @@ few2 : (c : tie.In-loop2 Inv-loop μ-loop Inv-loop2 μ-loop2) → from-winner (w
 few2 c = few (from-winner (winner2 c))
 
 -- the gathered votes have a winner
-won : (c : tie.After-w Inv-loop μ-loop Inv-loop2 μ-loop2) → let a = from-winner c .args in winnerIn (a .weights) (a .state) (a .log .now) ≡ some (c .w .given .0 .0)
+won : (c : tie.After-w Inv-loop μ-loop Inv-loop2 μ-loop2) → let a = from-winner c .args in winnerIn (a .weights) (a .self) (a .log .now) ≡ some (c .w .given .0 .0)
 won c = let s = from-winner c in let l = c .before .before .before .before .loop in won-by _ _ _ _ (s .pre .0) _ (s .pre .1) (l .votes) (l .i) (l .inv .1) (omega arith) _ (c .before .before .find-winner .ensures) _ (c .w .given .1)
 
 loop-again : tie.Need-loop-again Inv-loop μ-loop Inv-loop2 μ-loop2
@@ -66,7 +66,7 @@ loop2-again c =
     let t = c .before .before .before in
     let w = winner2 t in
     let S = from-winner w .pre .0 in
-    let s = from-winner w .args .state in
+    let s = from-winner w .args .self in
     let e = w .w .given .0 .0 in
     let l = t .before .loop2 in
     let bs = l .next .ballots in
