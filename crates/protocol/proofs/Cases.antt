@@ -10,7 +10,7 @@ use Rattle.protocol.specs.Entry.{value, proper}
 use Rattle.protocol.specs.Beginning.{begins, extends}
 use Rattle.protocol.specs.Vote.{tally, unheard, supported, wins, winner}
 use Rattle.protocol.specs.Moves.{isMove, move, weightsAfter}
-use Rattle.protocol.specs.Counts.{countsAfter, quieterBy}
+use Rattle.protocol.specs.Counts.{countIn, countsAfter, quieterBy}
 use Rattle.protocol.specs.SettledRule.{bySettled}
 use Rattle.protocol.specs.Office.{Office, Message, votes, fresh}
 use Rattle.lists.specs.Tests.{both, pick}
@@ -155,15 +155,15 @@ pub mistakes :
 unfolding begins extends countsAfter quieterBy weightsAfter move isMove both pick tally unheard supported wins winner rebase catchUp withTake refuseTake settle electing withElect
 mistakes = ((refl, refl), refl, refl, (refl, refl, refl, (refl, refl)), (refl, refl), (refl, refl), (refl, refl))
 
--- "Tails of 31 and 32, lengths of 1023 and 1024, line 63 and 64, code 9999 and 10000": the number of an issue at office 0 of three, where line 67
--- is the first past the lines of moves
+-- "Tails of 31 and 32, lengths of 1023 and 1024, line 63 and 64, code 9999 and 10000": the number of an issue at the only office of a frame, whose
+-- part of the tail is all of it, so that 11 stands where 4 stood; line 65 is the first past the lines of moves
 abbrev full : ℕ → ℕ → Office
 full settled own = state (replicate settled a) (replicate own a) [] []
 
 pub limits :
-    (refuseIssue 3 0 63 9999 (full 0 0) ≡ 0) × (refuseIssue 3 0 67 9999 (full 0 0) ≡ 3) × (refuseIssue 3 0 63 10000 (full 0 0) ≡ 3) ×
-    (refuseIssue 3 0 63 9999 (full 0 31) ≡ 0) × (refuseIssue 3 0 63 9999 (full 0 32) ≡ 4) × (refuseIssue 3 0 67 9999 (full 0 32) ≡ 3) ×
-    (refuseIssue 3 0 63 9999 (full 1023 0) ≡ 0) × (refuseIssue 3 0 63 9999 (full 1024 0) ≡ 5) × (refuseIssue 3 0 63 9999 (full 992 31) ≡ 0) ×
-    (refuseIssue 3 0 63 9999 (full 993 31) ≡ 5) × (refuseIssue 3 0 63 9999 (full 992 32) ≡ 5)
-unfolding refuseIssue refusalAt proper both pick
+    (refuseIssue 1 0 63 9999 (full 0 0) ≡ 0) × (refuseIssue 1 0 65 9999 (full 0 0) ≡ 3) × (refuseIssue 1 0 63 10000 (full 0 0) ≡ 3) ×
+    (refuseIssue 1 0 63 9999 (full 0 31) ≡ 0) × (refuseIssue 1 0 63 9999 (full 0 32) ≡ 11) × (refuseIssue 1 0 65 9999 (full 0 32) ≡ 3) ×
+    (refuseIssue 1 0 63 9999 (full 1023 0) ≡ 0) × (refuseIssue 1 0 63 9999 (full 1024 0) ≡ 5) × (refuseIssue 1 0 63 9999 (full 992 31) ≡ 0) ×
+    (refuseIssue 1 0 63 9999 (full 993 31) ≡ 5) × (refuseIssue 1 0 63 9999 (full 992 32) ≡ 5)
+unfolding refuseIssue refusalAt proper both pick countIn
 limits = (refl, refl, refl, refl, refl, refl, refl, refl, refl, refl, refl)

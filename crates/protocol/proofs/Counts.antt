@@ -4,21 +4,26 @@
 --     counts-at, count-of               the count of an office is what stood before and its entries; from no counts, its entries
 --     counts-most, count-most           it grows by at most one an entry
 --     no-count                          an office beyond the last has none
+--     counts-total                      the counts add up to what stood before and the entries
+--     count-append, count-drop          the entries of two parts; an end has no more of them
 -- Assumes nothing.
 use mathlib.Core.Path.{_≡_, refl, sym, _∙_}
-use mathlib.Core.Bool.{cond}
+use mathlib.Core.Bool.{true, cond}
 use mathlib.Core.List.{List, [], _∷_, _++_, foldl-append}
 use Prim.Native.Nat.{ℕ, zero, suc, _+_, _<_, _≤_}
 use native.Mathlib.Nat.{not-suc-le-zero, le-of-suc-le-suc}
 use native.Mathlib.Decide.{decLt}
 use native.Mathlib.Omega.{arith}
-use lib.Dec.{eqb}
-use lib.ListN.{length, length-set, length-replicate}
+use lib.Dec.{eqb, ltb}
+use lib.ListN.{length, drop, length-set, length-replicate}
 use lib.Seq.{getD-set-same, getD-set-other}
-use borrow.Author.Tests.{eqb-true, eqb-false}
-use Rattle.lists.proofs.Tests.{if-cases, getD-replicate}
+use borrow.Author.Tests.{eqb-true, eqb-false, ltb-true}
+use Rattle.lists.specs.Tests.{allB}
+use Rattle.lists.proofs.Tests.{both-0, both-1, if-cases, getD-replicate}
 use Rattle.protocol.specs.Entry.{officeOf}
+use Rattle.protocol.specs.Limits.{total}
 use Rattle.protocol.specs.Counts.{countIn, noCounts, countOf, counted, countsAfter}
+use Rattle.protocol.proofs.Moves.{total-more}
 
 pub no-count : (counts : List ℕ) (k : ℕ) → length counts ≤ k → countOf counts k ≡ 0
 no-count [] k h = refl
@@ -76,3 +81,23 @@ count-of n l k h = counts-at (noCounts n) l k (rw (length-replicate {A = ℕ} n 
 
 pub count-most : (n : ℕ) (l : List ℕ) (k : ℕ) → countOf (countsAfter (noCounts n) l) k ≤ length l
 count-most n l k = omega (arith, counts-most (noCounts n) l k, getD-replicate {A = ℕ} n 0 k)
+
+-- the counts add up
+pub counts-total : (counts l : List ℕ) → allB (λ (e : ℕ). ltb (officeOf e) (length counts)) l ≡ true → total (countsAfter counts l) ≡ total counts + length l
+unfolding countsAfter allB
+counts-total counts [] p = omega arith
+counts-total counts (e ∷ l) p =
+    let more = counts-total (counted counts e) l (rw (counted-length counts e) (both-1 _ _ p)) in
+    omega (arith, more, total-more counts (officeOf e) 1 (countOf counts (officeOf e)) (ltb-true (officeOf e) (length counts) (both-0 _ _ p)) refl)
+
+-- ── one office ──
+pub count-append : (office : ℕ) (p l : List ℕ) → countIn office (p ++ l) ≡ countIn office p + countIn office l
+unfolding countIn
+count-append office [] l = omega arith
+count-append office (e ∷ p) l = omega (arith, count-append office p l)
+
+pub count-drop : (office k : ℕ) (l : List ℕ) → countIn office (drop k l) ≤ countIn office l
+unfolding countIn
+count-drop office zero l = omega arith
+count-drop office (suc k) [] = omega arith
+count-drop office (suc k) (e ∷ l) = omega (arith, count-drop office k l)

@@ -3,6 +3,7 @@
 pub mod Cases
 pub mod MoveCases
 pub mod QuieterCases
+pub mod FairCases
 -- beginnings, the winning rule, the calls at one office
 pub mod Beginning
 pub mod Vote
@@ -12,6 +13,7 @@ pub mod Moves
 pub mod Codes
 pub mod Counts
 pub mod Quieter
+pub mod Fair
 pub mod Limits
 pub mod FiveFirst
 -- demand 3: the world, what is asked of the rule, the four invariants, each call, the theorem

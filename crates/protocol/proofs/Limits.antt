@@ -3,6 +3,7 @@
 --     Head, head, head-true     the same of the numbers that founding is given
 --     fresh-fine, issue-fine, settle-fine, elect-fine, catchUp-fine, take-fine      each call keeps them
 --     issue-done, take-done     what a call that is done found
+--     below-stopped, never-4    (v) what stops an office below its part; a full tail has the own office's part
 -- Assumes nothing.
 use mathlib.Core.Path.{_≡_, refl, sym, ap, subst, _∙_}
 use mathlib.Core.Bool.{Bool, true, false, _||_, not, cond, true≢false}
@@ -12,12 +13,14 @@ use mathlib.Core.Logic.{_⊎_, inl, inr}
 use Prim.Native.Nat.{ℕ, zero, suc, _+_, _-_, _<_, _≤_}
 use native.Mathlib.Decide.{decLt}
 use native.Mathlib.Omega.{arith}
-use lib.Dec.{eqb}
+use lib.Dec.{eqb, leb}
 use lib.ListN.{length, drop, replicate, length-append, length-map, length-set, length-drop}
 use lib.Seq.{drop-set-lt}
-use borrow.Author.Tests.{eqb-true, eqb-false, leb-true, ltb-true, eq-eqb, le-leb, lt-ltb}
+use borrow.Author.Tests.{eqb-true, eqb-false, leb-true, leb-false, ltb-true, eq-eqb, ne-eqb, le-leb, lt-leb, lt-ltb}
 use Rattle.lists.specs.Tests.{allB, pick}
 use Rattle.protocol.specs.Entry.{value, officeOf, lineOf, codeOf, proper, isEntry}
+use Rattle.protocol.specs.Counts.{countIn}
+use Rattle.protocol.specs.Fair.{part, fair}
 use Rattle.protocol.specs.Beginning.{_⊑_, _⊏_, begins, extends}
 use Rattle.protocol.specs.Vote.{Rule}
 use Rattle.protocol.specs.Office.{Office, Message, fresh, tail, first, votes}
@@ -29,25 +32,28 @@ use Rattle.lists.proofs.Tests.{both-0, both-1, both-true, all-getD, all-one, al
 use Rattle.protocol.proofs.Beginning.{⊑-refl, ⊑-cases, ⊏-⊑, ⊑-⊏-trans, ⊑-length, ⊏-length, ⊏-irrefl, ⊑-append, ⊑-trans, begins-true, extends-true, extends-false}
 use Rattle.protocol.proofs.Vote.{NamesVoted}
 use Rattle.protocol.proofs.Office.{rebased-nil, next-cases}
-use Rattle.protocol.proofs.Moves.{value-entry}
+use Rattle.protocol.proofs.Moves.{proper-true, value-parts, value-entry}
+use Rattle.protocol.proofs.Fair.{fair-nil, fair-drop, fair-behind, fair-append, fair-short, below-short}
 
 -- ── the facts by name ──
 pub record FineTail (n settled : ℕ) (t : List ℕ) : Type 0 where
   pub short : length t ≤ 32
   pub room : settled + length t ≤ 1024
   pub entries : allB (isEntry n) t ≡ true
+  pub parts : fair n t ≡ true
 
 pub fine-tail : (n settled : ℕ) (t : List ℕ) → tailFine n settled t ≡ true → FineTail n settled t
 unfolding tailFine
 fine-tail n settled t e = record {
   short = leb-true (length t) 32 (both-0 _ _ e);
   room = leb-true (settled + length t) 1024 (both-0 _ _ (both-1 _ _ e));
-  entries = both-1 _ _ (both-1 _ _ e);
+  entries = both-0 _ _ (both-1 _ _ (both-1 _ _ e));
+  parts = both-1 _ _ (both-1 _ _ (both-1 _ _ e));
 }
 
 pub fine-tail-of : (n settled : ℕ) (t : List ℕ) → FineTail n settled t → tailFine n settled t ≡ true
 unfolding tailFine
-fine-tail-of n settled t f = both-true _ _ (le-leb (length t) 32 (f .short)) (both-true _ _ (le-leb (settled + length t) 1024 (f .room)) (f .entries))
+fine-tail-of n settled t f = both-true _ _ (le-leb (length t) 32 (f .short)) (both-true _ _ (le-leb (settled + length t) 1024 (f .room)) (both-true _ _ (f .entries) (f .parts)))
 
 pub record Fine (n : ℕ) (o : Office) : Type 0 where
   pub eight : length (o .tails) ≡ 8
@@ -77,7 +83,7 @@ fine-of n o f =
 
 nil-fine : (n settled : ℕ) → settled ≤ 1024 → FineTail n settled []
 unfolding allB
-nil-fine n settled h = record { short = omega arith; room = omega arith; entries = refl }
+nil-fine n settled h = record { short = omega arith; room = omega arith; entries = refl; parts = fair-nil n }
 
 -- every tail, and past the eight of them the empty one
 pub tail-at : (n : ℕ) (o : Office) → Fine n o → (k : ℕ) → FineTail n (length (o .log)) (tail o k)
@@ -124,64 +130,82 @@ fresh-fine n = record {
 }
 
 -- ── issue ──
-more-fine : (n settled : ℕ) (t : List ℕ) (e : ℕ) → FineTail n settled t → isEntry n e ≡ true → length t < 32 → settled + length t < 1024 → FineTail n settled (t ++ (e ∷ []))
-more-fine n settled t e old p h l =
+more-fine : (n settled : ℕ) (t : List ℕ) (e : ℕ) → FineTail n settled t → isEntry n e ≡ true → countIn (officeOf e) t < part n → settled + length t < 1024 → FineTail n settled (t ++ (e ∷ []))
+more-fine n settled t e old p below l =
     let more : length (t ++ (e ∷ [])) ≡ length t + 1 = length-append t (e ∷ []) in
-    record { short = omega arith; room = omega arith; entries = all-append (isEntry n) t (e ∷ []) (old .entries) (all-one (isEntry n) e p) }
+    let all : allB (isEntry n) (t ++ (e ∷ [])) ≡ true = all-append (isEntry n) t (e ∷ []) (old .entries) (all-one (isEntry n) e p) in
+    let parts : fair n (t ++ (e ∷ [])) ≡ true = fair-append n e t (old .parts) below in
+    record { short = fair-short n (t ++ (e ∷ [])) parts all; room = omega arith; entries = all; parts = parts }
 
-pub issue-fine : (n k e : ℕ) (o : Office) → Fine n o → k < n → isEntry n e ≡ true → length (tail o k) < 32 → length (o .log) + length (tail o k) < 1024 → Fine n (withIssue k e o)
+pub issue-fine : (n k e : ℕ) (o : Office) → Fine n o → k < n → isEntry n e ≡ true → countIn (officeOf e) (tail o k) < part n → length (o .log) + length (tail o k) < 1024 → Fine n (withIssue k e o)
 unfolding withIssue
-issue-fine n k e o f h p short room =
+issue-fine n k e o f h p below room =
     let new : List ℕ = tail o k ++ (e ∷ []) in
     let settled : ℕ = length (o .log) in
     record {
       eight = length-set (o .tails) k new ∙ f .eight;
       most = f .most;
       entries = f .entries;
-      tails = all-set (tailFine n settled) (o .tails) k new (f .tails) (fine-tail-of n settled new (more-fine n settled (tail o k) e (tail-at n o f k) p short room));
+      tails = all-set (tailFine n settled) (o .tails) k new (f .tails) (fine-tail-of n settled new (more-fine n settled (tail o k) e (tail-at n o f k) p below room));
       rest = rw (drop-set-lt n (o .tails) k new h) (f .rest);
     }
 
 -- what a done issue found
 pub record IssueDone (n k line code : ℕ) (o : Office) : Type 0 where
   pub limits : proper n line code ≡ true
-  pub short : length (tail o k) ≡ 32 → ⊥
   pub room : length (o .log) + length (tail o k) ≡ 1024 → ⊥
+  pub below : countIn k (tail o k) < part n
 
 pub issue-done : (n k line code : ℕ) (o : Office) → refuseIssue n k line code o ≡ 0 → IssueDone n k line code o
 unfolding refuseIssue refusalAt pick
-issue-done n k line code o h = go (proper n line code) refl (eqb (length (o .log) + length (tail o k)) 1024) refl (eqb (length (tail o k)) 32) refl h
+issue-done n k line code o h = go (proper n line code) refl (eqb (length (o .log) + length (tail o k)) 1024) refl (leb (part n) (countIn k (tail o k))) refl h
   where
-    go : (a : Bool) → proper n line code ≡ a → (c : Bool) → eqb (length (o .log) + length (tail o k)) 1024 ≡ c → (d : Bool) → eqb (length (tail o k)) 32 ≡ d
-        → _≡_ {A = ℕ} (pick (not a) 3 (pick c 5 (pick d 4 0))) 0 → IssueDone n k line code o
+    go : (a : Bool) → proper n line code ≡ a → (c : Bool) → eqb (length (o .log) + length (tail o k)) 1024 ≡ c → (d : Bool) → leb (part n) (countIn k (tail o k)) ≡ d
+        → _≡_ {A = ℕ} (pick (not a) 3 (pick c 5 (pick d 11 0))) 0 → IssueDone n k line code o
     go false p c r d s x = absurd (omega arith)
     go true p true r d s x = absurd (omega arith)
     go true p false r true s x = absurd (omega arith)
     go true p false r false s x = record {
       limits = p;
-      short = eqb-false (length (tail o k)) 32 s;
       room = eqb-false (length (o .log) + length (tail o k)) 1024 r;
+      below = leb-false (part n) (countIn k (tail o k)) s;
     }
 
--- an issue is done, or refused with 3, 5 or 4: never with 1, which the state of a sound record does not meet, or with 10
+-- (v) "An office below its part is never stopped by the others' edits, save by 5": whatever its own tail and the other ballots hold, an entry that
+-- it may issue is done where there is room in the log
+pub below-stopped : (n k line code : ℕ) (o : Office) → proper n line code ≡ true → countIn k (tail o k) < part n
+    → refuseIssue n k line code o ≡ pick (eqb (length (o .log) + length (tail o k)) 1024) 5 0
+unfolding refuseIssue refusalAt pick
+below-stopped n k line code o p h = rw (p, lt-leb (part n) (countIn k (tail o k)) h) refl
+
+-- (v) "number 4 is to be shown never to occur": where the own tail is 32 long, the own office has its part of it, so that 11 holds where 4 did
+pub never-4 : (n k : ℕ) (o : Office) → Fine n o → k < n → length (tail o k) ≡ 32 → part n ≤ countIn k (tail o k)
+never-4 n k o f h e = go (decLt (countIn k (tail o k)) (part n))
+  where
+    go : Dec (countIn k (tail o k) < part n) → part n ≤ countIn k (tail o k)
+    go (yes b) = let t = tail-at n o f k in absurd (omega (arith, below-short n k (tail o k) h (t .parts) (t .entries) b))
+    go (no b) = omega arith
+
+-- an issue is done, or refused with 3, 5 or 11: never with 1, which the state of a sound record does not meet, or with 10
 pub issue-never : (n k line code : ℕ) (o : Office) → (refuseIssue n k line code o ≡ 1 → ⊥) × (refuseIssue n k line code o ≡ 10 → ⊥)
 unfolding refuseIssue refusalAt pick
-issue-never n k line code o = go (not (proper n line code)) (eqb (length (o .log) + length (tail o k)) 1024) (eqb (length (tail o k)) 32)
+issue-never n k line code o = go (not (proper n line code)) (eqb (length (o .log) + length (tail o k)) 1024) (leb (part n) (countIn k (tail o k)))
   where
     other : (x : ℕ) → (x ≡ 1 → ⊥) → (x ≡ 10 → ⊥) → (x ≡ 1 → ⊥) × (x ≡ 10 → ⊥)
     other x p q = (p, q)
 
-    go : (a b c : Bool) → let x : ℕ = pick a 3 (pick b 5 (pick c 4 0)) in (x ≡ 1 → ⊥) × (x ≡ 10 → ⊥)
+    go : (a b c : Bool) → let x : ℕ = pick a 3 (pick b 5 (pick c 11 0)) in (x ≡ 1 → ⊥) × (x ≡ 10 → ⊥)
     go true b c = other 3 (λ e. omega arith) (λ e. omega arith)
     go false true c = other 5 (λ e. omega arith) (λ e. omega arith)
-    go false false true = other 4 (λ e. omega arith) (λ e. omega arith)
+    go false false true = other 11 (λ e. omega arith) (λ e. omega arith)
     go false false false = other 0 (λ e. omega arith) (λ e. omega arith)
 
 pub issue-done-fine : (n k line code : ℕ) (o : Office) → Fine n o → k < n → n ≤ 8 → refuseIssue n k line code o ≡ 0 → Fine n (withIssue k (value k line code) o)
 issue-done-fine n k line code o f h m r =
     let d = issue-done n k line code o r in
     let t = tail-at n o f k in
-    issue-fine n k (value k line code) o f h (value-entry n k line code h m (d .limits)) (below _ 32 (t .short) (d .short)) (below _ 1024 (t .room) (d .room))
+    let own : officeOf (value k line code) ≡ k = value-parts n k line code m (proper-true n line code (d .limits)) .0 in
+    issue-fine n k (value k line code) o f h (value-entry n k line code h m (d .limits)) (rw own (d .below)) (below _ 1024 (t .room) (d .room))
   where
     below : (x y : ℕ) → x ≤ y → (x ≡ y → ⊥) → x < y
     below x y a b = go (decLt x y)
@@ -197,7 +221,7 @@ unfolding allB
 lose-fine n settled e [] h f = nil-fine n (settled + 1) (omega arith)
 lose-fine n settled e (x ∷ t) h f =
     if-cases (λ r. FineTail n (settled + 1) r) (eqb x e) t []
-    (λ _. record { short = omega (arith, f .short); room = omega (arith, f .room); entries = both-1 (isEntry n x) (allB (isEntry n) t) (f .entries) })
+    (λ _. record { short = omega (arith, f .short); room = omega (arith, f .room); entries = both-1 (isEntry n x) (allB (isEntry n) t) (f .entries); parts = fair-drop n 1 (x ∷ t) (f .parts) })
     (λ _. nil-fine n (settled + 1) (omega arith))
 
 lose-empty : (e : ℕ) (t : List ℕ) → isEmpty t ≡ true → isEmpty (lose e t) ≡ true
@@ -244,22 +268,25 @@ unfolding withElect
 elect-fine rule law n o f = electing-fine rule law n _ o f
 
 -- ── take ──
--- what is left of a path q behind a log l that it extends
-behind-fine : (n : ℕ) (l q : List ℕ) → l ⊏ q → length q ≤ 1024 → length q ≤ 32 + length l → allB (isEntry n) q ≡ true → FineTail n (length l) (drop (length l) q)
-behind-fine n l q h most short p =
+-- what is left of a path m ++ t behind a log l between m and it
+behind-fine : (n : ℕ) (l m t : List ℕ) → m ⊑ l → l ⊏ (m ++ t) → allB (isEntry n) m ≡ true → FineTail n (length m) t → FineTail n (length l) (drop (length l) (m ++ t))
+behind-fine n l m t h x p f =
+    let q : List ℕ = m ++ t in
     let d : length (drop (length l) q) ≡ length q - length l = length-drop (length l) q in
-    let b : length l < length q = ⊏-length l q h in
-    record { short = omega arith; room = omega arith; entries = all-drop (isEntry n) (length l) q p }
-
--- a path of fine entries
-path-length : (l t : List ℕ) → length (l ++ t) ≡ length l + length t
-path-length l t = length-append l t
+    let b : length l < length q = ⊏-length l q x in
+    let s : length q ≡ length m + length t = length-append m t in
+    let c : length m ≤ length l = ⊑-length m l h in
+    record {
+      short = omega (arith, f .short);
+      room = omega (arith, f .room);
+      entries = all-drop (isEntry n) (length l) q (all-append (isEntry n) m t p (f .entries));
+      parts = fair-behind n l m t c (f .parts);
+    }
 
 rebased-fine : (n : ℕ) (old new t : List ℕ) → old ⊑ new → length new ≤ 1024 → allB (isEntry n) old ≡ true → FineTail n (length old) t → FineTail n (length new) (rebased old new t)
 rebased-fine n old new t h most p f =
     if-cases (λ r. FineTail n (length new) r) (extends (old ++ t) new) (drop (length new) (old ++ t)) []
-    (λ e. behind-fine n new (old ++ t) (extends-true (old ++ t) new e)
-    (omega (arith, path-length old t, f .room)) (omega (arith, path-length old t, f .short, ⊑-length old new h)) (all-append (isEntry n) old t p (f .entries)))
+    (λ e. behind-fine n new old t h (extends-true (old ++ t) new e) p f)
     (λ _. nil-fine n (length new) most)
 
 pub rebase-fine : (n : ℕ) (new : List ℕ) (o : Office) → Fine n o → o .log ⊑ new → length new ≤ 1024 → allB (isEntry n) new ≡ true → Fine n (rebase new o)
@@ -310,8 +337,7 @@ catchUp-log new o c =
 adopt-fine : (n : ℕ) (l t m q : List ℕ) → m ⊑ l → allB (isEntry n) m ≡ true → FineTail n (length m) q → FineTail n (length l) t → FineTail n (length l) (adopt l t (m ++ q))
 adopt-fine n l t m q h p f g =
     if-cases (λ r. FineTail n (length l) r) (extends (m ++ q) (l ++ t)) (drop (length l) (m ++ q)) t
-    (λ e. behind-fine n l (m ++ q) (⊑-⊏-trans l (l ++ t) (m ++ q) (⊑-append l t) (extends-true (m ++ q) (l ++ t) e))
-    (omega (arith, path-length m q, f .room)) (omega (arith, path-length m q, f .short, ⊑-length m l h)) (all-append (isEntry n) m q p (f .entries)))
+    (λ e. behind-fine n l m q h (⊑-⊏-trans l (l ++ t) (m ++ q) (⊑-append l t) (extends-true (m ++ q) (l ++ t) e)) p f)
     (λ _. g)
 
 adopts-fine : (n : ℕ) (l : List ℕ) (ts : List (List ℕ)) (m : List ℕ) (qs : List (List ℕ)) → m ⊑ l → allB (isEntry n) m ≡ true → allB (tailFine n (length m)) qs ≡ true

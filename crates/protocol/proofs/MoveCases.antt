@@ -7,7 +7,7 @@ use Rattle.lists.specs.Tests.{both, pick}
 use Rattle.protocol.specs.Entry.{value, proper}
 use Rattle.protocol.specs.Limits.{isWeight}
 use Rattle.protocol.specs.Moves.{isMove, canShift, move, weightsAfter}
-use Rattle.protocol.specs.Counts.{countsAfter, quieterBy}
+use Rattle.protocol.specs.Counts.{countIn, countsAfter, quieterBy}
 use Rattle.protocol.specs.Vote.{tally, unheard, supported, wins, winner}
 use Rattle.protocol.specs.Issue.{refusalAt, refuseIssue}
 use Rattle.protocol.specs.Elect.{settle, electing, withElect}
@@ -38,7 +38,7 @@ pub limits :
     (proper 3 64 0 ≡ false) × (proper 3 64 1 ≡ true) × (proper 3 66 9999 ≡ true) × (proper 3 66 10000 ≡ false) × (proper 3 67 1 ≡ false) ×
     (proper 1 64 1 ≡ true) × (proper 1 65 1 ≡ false) × (proper 8 71 1 ≡ true) × (proper 8 72 1 ≡ false) × (proper 8 255 1 ≡ false) ×
     (refuseIssue 3 0 66 1 fresh ≡ 0) × (refuseIssue 3 0 67 1 fresh ≡ 3) × (refuseIssue 3 0 66 0 fresh ≡ 3)
-unfolding both pick proper refusalAt refuseIssue
+unfolding both pick proper refusalAt refuseIssue countIn
 limits = (refl, refl, refl, refl, refl, refl, refl, refl, refl, refl, refl, refl, refl, refl, refl, refl)
 
 pub elections :

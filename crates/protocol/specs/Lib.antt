@@ -4,9 +4,10 @@ pub mod Beginning
 pub mod Vote
 pub mod Winning
 pub mod Office
-pub mod Limits
 pub mod Moves
 pub mod Counts
+pub mod Fair
+pub mod Limits
 pub mod SettledRule
 pub mod Issue
 pub mod Take

@@ -8,6 +8,7 @@ use lib.ListN.{length, drop}
 use Rattle.lists.specs.Tests.{both, allB}
 use Rattle.protocol.specs.Entry.{isEntry}
 use Rattle.protocol.specs.Office.{Office}
+use Rattle.protocol.specs.Fair.{fair}
 
 -- "n (1 to 8 offices), its own office (below n)"; a message's sender is one of its n offices too
 unfoldable pub isOffice : ℕ → ℕ → Bool
@@ -49,9 +50,9 @@ isEmpty (x ∷ t) = false
 unfoldable pub logFine : ℕ → List ℕ → Bool
 logFine n log = both (leb (length log) 1024) (allB (isEntry n) log)
 
--- "a tail of 0 to 32 entries"; "settled length plus each tail length is at most 1024"
+-- "a tail of 0 to 32 entries"; "settled length plus each tail length is at most 1024"; (v) to each office at most its part of it
 unfoldable pub tailFine : ℕ → ℕ → List ℕ → Bool
-tailFine n settled t = both (leb (length t) 32) (both (leb (settled + length t) 1024) (allB (isEntry n) t))
+tailFine n settled t = both (leb (length t) 32) (both (leb (settled + length t) 1024) (both (allB (isEntry n) t) (fair n t)))
 
 -- eight ballots, each tail within its limits, "ballots from office n on are none"
 unfoldable pub tailsFine : ℕ → ℕ → List (List ℕ) → Bool

@@ -8,7 +8,9 @@ use native.Mathlib.Omega.{arith}
 use lib.Dec.{leb}
 use lib.ListN.{length, length-append, length-replicate, replicate}
 use borrow.Author.Tests.{leb-true, leb-false}
-use Rattle.protocol.specs.Entry.{isEntry, proper}
+use Rattle.protocol.specs.Entry.{isEntry, proper, value}
+use Rattle.protocol.specs.Counts.{countsAfter}
+use Rattle.protocol.specs.Fair.{fair}
 use Rattle.protocol.specs.Limits.{isEmpty, isWeight, tailFine}
 use Rattle.protocol.proofs.Limits.{FineTail, fine-tail}
 use Rattle.lists.specs.Tests.{allB, both, pick}
@@ -65,23 +67,31 @@ longest c e = by-test _ (leb (length (c .log)) 992) (λ q. few (leb-true _ _ q))
         let b : length (ballotsBytes 0 (c .tails)) ≤ 8 * m = ballots-most (c .n) (length (c .log)) m 0 8 (c .tails) (omega (arith, v .tails-length, v .few-offices)) (λ t q. omega (arith, fine-tail (c .n) (length (c .log)) t q)) (tails-fine c v) in
         omega (arith, spelling-length c, v .weights-length, v .few-offices, log-length c v)
 
+-- a tail of four entries of each of the offices below k: of all eight, a full tail in which each has its part
+fours : ℕ → List ℕ
+fours zero = []
+fours (suc k) = let e : ℕ = value k 0 0 in e ∷ e ∷ e ∷ e ∷ fours k
+
+fullTail : List ℕ
+fullTail = fours 8
+
 -- a content of 992 settled entries and eight tails of 32
 longestContent : Content
-longestContent = record { sender = 0; n = 8; weights = replicate 8 1; log = replicate 992 0; tails = replicate 8 (replicate 32 0) }
+longestContent = record { sender = 0; n = 8; weights = replicate 8 1; log = replicate 992 0; tails = replicate 8 fullTail }
 
 zero-entry : isEntry 8 0 ≡ true
 unfolding isEntry proper both pick
 zero-entry = refl
 
-zeros-fine : tailFine 8 992 (replicate 32 0) ≡ true
-unfolding tailFine allB both pick isEntry proper
-zeros-fine = refl
+full-fine : tailFine 8 992 fullTail ≡ true
+unfolding fullTail fours tailFine allB both pick isEntry proper fair countsAfter
+full-fine = refl
 
 -- ballots of 32 values each
-full-length : (o j : ℕ) → length (ballotsBytes o (replicate j (replicate 32 0))) ≡ j * 132
-unfolding ballotsBytes ballotBytes
+full-length : (o j : ℕ) → length (ballotsBytes o (replicate j fullTail)) ≡ j * 132
+unfolding fullTail fours ballotsBytes ballotBytes
 full-length o zero = refl
-full-length o (suc j) = rw (length-append, full-length (suc o) j, suc-mul) (omega (arith, run-length 4 bytes32 be32 (roomFor 4) isWord valueItem (replicate 32 0)))
+full-length o (suc j) = rw (length-append, full-length (suc o) j, suc-mul) (omega (arith, run-length 4 bytes32 be32 (roomFor 4) isWord valueItem fullTail))
 
 one-weight : isWeight 1 ≡ true
 unfolding isWeight
@@ -101,7 +111,7 @@ longest-facts =
         eight = refl;
         most = rw length-replicate (omega arith);
         entries = all-replicate (isEntry 8) 992 0 zero-entry;
-        tails = rw length-replicate (all-replicate (tailFine 8 992) 8 (replicate 32 0) zeros-fine);
+        tails = rw length-replicate (all-replicate (tailFine 8 992) 8 fullTail full-fine);
         rest = refl;
       };
     }

@@ -4,6 +4,8 @@ use mathlib.Core.List.{List, [], _∷_}
 use mathlib.Core.Option.{some}
 use mathlib.Core.Path.{_≡_, refl}
 use Rattle.protocol.specs.Entry.{isEntry, proper}
+use Rattle.protocol.specs.Counts.{countsAfter}
+use Rattle.protocol.specs.Fair.{fair}
 use Rattle.protocol.specs.Limits.{isOffice, isWeight, isEmpty, logFine, tailFine, tailsFine, officeFine}
 use Rattle.lists.specs.Tests.{allB, both, pick}
 use Rattle.spelling.specs.Content.{Content, asMessage, eightTails, validContent}
@@ -22,5 +24,5 @@ unfolding message bytes spelling headBytes run bytes16 bytes32 logRecord ballots
 written = refl
 
 pub read : reading bytes ≡ some message
-unfolding message bytes reading pick both layoutOk contentAt headOk recordsOk settledAt restAt be16 be32 run runAt runOk recordHere recordAt ballotsOk ballotOk ballotNext tailsAt tailAt sizeAt afterBallot endOk validContent isOffice isWeight asMessage eightTails officeFine logFine tailsFine tailFine isEmpty isEntry proper allB
+unfolding message bytes reading pick both layoutOk contentAt headOk recordsOk settledAt restAt be16 be32 run runAt runOk recordHere recordAt ballotsOk ballotOk ballotNext tailsAt tailAt sizeAt afterBallot endOk validContent isOffice isWeight asMessage eightTails officeFine logFine tailsFine tailFine fair countsAfter isEmpty isEntry proper allB
 read = refl
