@@ -2,7 +2,7 @@
 --     placesFine, places-fine      eight ballots within the limits, as a test of each and of those from office n on
 --     none-all                     eight ballots that are none
 --     fitFrom                      the lengths from a place on
---     fine-tests-all               the test of all as those of the lengths, of the cells and of the unused cells
+--     fine-tests-all, all-both     the test of all as those of the lengths, of the cells, of the unused cells and of the parts
 --     fit-next, fit-done, fit-few  a walk over the lengths: one more, at its end; lengths that fit are at most 32
 --     eight-tests                  a test of eight ballots, of four and of four, as the code joins them
 -- Assumes nothing.
@@ -23,9 +23,9 @@ use Rattle.lists.proofs.Walk.{and-both, rest-step, with-next, with-done}
 use Rattle.protocol.specs.Limits.{isEmpty, tailFine, tailsFine}
 use Rattle.protocol.proofs.Limits.{empty-nil}
 use Rattle.ballots.specs.Ballots.{ballotFine, ballotShape, ballotsFine, emptyBallot, isNoBallot, offEnd, tailOf}
-use Rattle.ballots.specs.Fours.{entryCells, fitsAt, ofFour, unusedZero}
+use Rattle.ballots.specs.Fours.{entryCells, fitsAt, ofFour, unusedZero, fairTail}
 use Rattle.ballots.specs.declared.Ballot.{Ballot}
-use Rattle.ballots.proofs.Fours.{fine-tests}
+use Rattle.ballots.proofs.Fours.{restFine, fine-tests}
 use Rattle.ballots.proofs.Laws.{tail-fine, none-empty, empty-fine}
 
 -- ── the definition's halves, ballot by ballot ──
@@ -123,27 +123,33 @@ none-left (suc k) = refl
 
 module _ (n settled : ℕ) (some : 1 ≤ n) (most : settled ≤ 1024) where
   -- the test at a place
-  place-tests : (i : ℕ) (b : Ballot) → fineAt n settled i b ≡ both (fitsAt n settled i (b .len)) (both (entryCells n b) (unusedZero b))
+  place-tests : (i : ℕ) (b : Ballot) → fineAt n settled i b ≡ both (fitsAt n settled i (b .len)) (both (entryCells n b) (restFine n b))
   unfolding fineAt fitsAt
   place-tests i b =
       ap (λ (t : Bool). both t (pick (ltb i n) true (isNoBallot b))) (sym (fine-tests n settled b some))
-      ∙ by-length (both (leb (b .len) 32) (leb (settled + b .len) 1024)) (both (entryCells n b) (unusedZero b)) (ltb i n) (isNoBallot b) none-fits
+      ∙ by-length (both (leb (b .len) 32) (leb (settled + b .len) 1024)) (both (entryCells n b) (restFine n b)) (ltb i n) (isNoBallot b) none-fits
     where
       none-fits : isNoBallot b ≡ true → both (leb (b .len) 32) (leb (settled + b .len) 1024) ≡ true
       none-fits e = let l : 0 ≡ b .len = eqb-true 0 (b .len) e in both-true _ _ (le-leb (b .len) 32 (omega arith)) (le-leb (settled + b .len) 1024 (omega arith))
 
   from-place : (i : ℕ) (bs : List Ballot) → both (allB (ballotFine n settled) bs) (allB isNoBallot (drop (n - i) bs))
-      ≡ both (fitFrom n settled i bs) (both (allB (entryCells n) bs) (allB unusedZero bs))
+      ≡ both (fitFrom n settled i bs) (both (allB (entryCells n) bs) (allB (restFine n) bs))
   unfolding allB fitFrom both
   from-place i [] = none-left (n - i)
   from-place i (b ∷ bs) =
       one n settled i b bs (ltb i n) refl ∙ ap (λ (t : Bool). both t (both (allB (ballotFine n settled) bs) (allB isNoBallot (drop (n - (i + 1)) bs)))) (place-tests i b)
-      ∙ ap (both (both (fitsAt n settled i (b .len)) (both (entryCells n b) (unusedZero b)))) (from-place (i + 1) bs)
-      ∙ mixed (fitsAt n settled i (b .len)) (entryCells n b) (unusedZero b) (fitFrom n settled (i + 1) bs) (allB (entryCells n) bs) (allB unusedZero bs)
+      ∙ ap (both (both (fitsAt n settled i (b .len)) (both (entryCells n b) (restFine n b)))) (from-place (i + 1) bs)
+      ∙ mixed (fitsAt n settled i (b .len)) (entryCells n b) (restFine n b) (fitFrom n settled (i + 1) bs) (allB (entryCells n) bs) (allB (restFine n) bs)
 
-  pub fine-tests-all : (bs : List Ballot) → length bs ≡ 8 → ballotsFine n settled bs ≡ both (fitFrom n settled 0 bs) (both (allB (entryCells n) bs) (allB unusedZero bs))
+  pub fine-tests-all : (bs : List Ballot) → length bs ≡ 8 → ballotsFine n settled bs ≡ both (fitFrom n settled 0 bs) (both (allB (entryCells n) bs) (allB (restFine n) bs))
   fine-tests-all bs eight =
       places-fine n settled bs eight ∙ ap (λ (k : ℕ). both (allB (ballotFine n settled) bs) (allB isNoBallot (drop k bs))) (sym (sub-zero n)) ∙ from-place 0 bs
+
+-- two tests of every ballot, each of all of them
+pub all-both : (t u : Ballot → Bool) (bs : List Ballot) → both (allB t bs) (allB u bs) ≡ allB (λ (b : Ballot). both (t b) (u b)) bs
+unfolding allB both
+all-both t u [] = refl
+all-both t u (b ∷ bs) = cross (t b) (allB t bs) (u b) (allB u bs) ∙ ap (both (both (t b) (u b))) (all-both t u bs)
 
 -- ── the walk over the lengths ──
 module _ (n settled : ℕ) (bs : List Ballot) (fit : Bool) (i : ℕ) (inv : fitFrom n settled 0 bs ≡ both fit (fitFrom n settled i (drop i bs))) where

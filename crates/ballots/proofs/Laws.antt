@@ -20,6 +20,8 @@ use borrow.Author.Tests.{eqb-true, leb-true, ltb-true, lt-ltb, eq-eqb, le-leb, l
 use Rattle.lists.specs.Tests.{allB, both, pick}
 use Rattle.protocol.specs.Entry.{isEntry}
 use Rattle.protocol.specs.Limits.{isEmpty, tailFine}
+use Rattle.protocol.specs.Fair.{fair}
+use Rattle.protocol.proofs.Fair.{fair-nil}
 use Rattle.lists.proofs.Tests.{both-0, both-1, both-true, both-false-1, all-append, all-at, all-mono, all-take, zeros, all-zeros, getD-map}
 use Rattle.ballots.specs.Ballots.{ballotShape, ballotFine, emptyBallot, tailOf, ballotOf, noBallot, pushed, isNoBallot, offEnd}
 use Rattle.ballots.specs.declared.Ballot.{Ballot}
@@ -30,6 +32,7 @@ pub record Fine (n settled : ℕ) (b : Ballot) : Type 0 where
   pub zero : allB (eqb 0) (drop (b .len) (b .cells)) ≡ true
   pub path : settled + b .len ≤ 1024
   pub entries : allB (isEntry n) (tailOf b) ≡ true
+  pub parts : fair n (tailOf b) ≡ true
 
 pub fine : (n settled : ℕ) (b : Ballot) → ballotFine n settled b ≡ true → Fine n settled b
 unfolding ballotFine ballotShape tailFine
@@ -43,7 +46,8 @@ fine n settled b e =
       len = len;
       zero = both-1 _ _ (both-1 _ _ s);
       path = omega (arith, leb-true (settled + length (tailOf b)) 1024 (both-0 _ _ t), length-take-le (b .len) (b .cells) (omega arith));
-      entries = both-1 _ _ t;
+      entries = both-0 _ _ (both-1 _ _ t);
+      parts = both-1 _ _ (both-1 _ _ t);
     }
 
 -- the tail of the ballot that holds it
@@ -141,7 +145,7 @@ empty-is b e = λ i. record {
 -- no ballot is fine with any settled log
 pub none-fine : (n settled : ℕ) → settled ≤ 1024 → ballotFine n settled noBallot ≡ true
 unfolding tailFine allB
-none-fine n settled h = fine-tail n settled [] (both-true _ _ refl (both-true _ _ (le-leb (settled + 0) 1024 (omega arith)) refl))
+none-fine n settled h = fine-tail n settled [] (both-true _ _ refl (both-true _ _ (le-leb (settled + 0) 1024 (omega arith)) (both-true _ _ refl (fair-nil n))))
 
 pub empty-fine : (n settled : ℕ) → settled ≤ 1024 → (b : Ballot) → emptyBallot b ≡ true → (ballotFine n settled b ≡ true) × (isNoBallot b ≡ true)
 empty-fine n settled h b e = (ap (ballotFine n settled) (empty-is b e) ∙ none-fine n settled h, ap isNoBallot (empty-is b e))

@@ -5,8 +5,10 @@ use mathlib.Core.List.{List, _++_}
 use lib.Dec.{eqb, leb, ltb}
 use lib.ListN.{length, drop, replicate}
 use Rattle.protocol.specs.Entry.{isEntry}
+use Rattle.protocol.specs.Fair.{fair}
 use Rattle.lists.specs.Tests.{both, pick, allB}
 use Rattle.entries.specs.Carries.{isCoding}
+use Rattle.ballots.specs.Ballots.{tailOf}
 use Rattle.ballots.specs.declared.Ballot.{Ballot}
 
 -- a ballot of this length may stand at this place of a record of n offices: no path past 1024, and none from office n on
@@ -27,6 +29,14 @@ codingCells n = allCells (isCoding n)
 -- "unused cells are zero"
 unfoldable pub unusedZero : Ballot → Bool
 unusedZero b = allB (eqb 0) (drop (b .len) (b .cells))
+
+-- no more entries than cells
+unfoldable pub fewCells : Ballot → Bool
+fewCells b = leb (b .len) 32
+
+-- (v) no office has more than its part of the ballot's tail
+unfoldable pub fairTail : ℕ → Ballot → Bool
+fairTail n b = fair n (tailOf b)
 
 -- a test of four ballots
 unfoldable pub ofFour : (Ballot → Bool) → Ballot → Ballot → Ballot → Ballot → Bool

@@ -3,9 +3,10 @@ ghost use mathlib.Core.Path.{_≡_};
 ghost use lib.Bits.{bitAnd};
 ghost use Prim.Native.Nat.{_≤_};
 ghost use lib.Dec.{eqb};
+ghost use mathlib.Core.Bool.{true};
 ghost use Rattle.lists.specs.Tests.{allB};
 ghost use Rattle.ballots.specs.Ballots.{emptyBallot, noBallot, pushed, ballotsFine};
-ghost use Rattle.ballots.specs.Fours.{codingCells, entryCells, fitsAt, maskWords, ofFour, unusedZero};
+ghost use Rattle.ballots.specs.Fours.{codingCells, entryCells, fairTail, fewCells, fitsAt, maskWords, ofFour, unusedZero};
 
 // A tail of 0 to 32 entries in the first cells. Unused cells are zero; length 0 means none.
 #[repr(C)]
@@ -81,6 +82,29 @@ fn eight_entries(all: [Ballot; 8], n: usize) -> bool
     for i in 0..8 {
         let b = all[i];
         good = good & entry_cells(b, n);
+    }
+    good
+}
+
+// Whether no office has more than its part of the ballot's tail.
+fn fair_tail(b: Ballot, n: usize) -> bool
+    requires { ⌜ (1 ≤ n) × ((n ≤ 8) × (b .len ≤ 32)) ⌝ }
+    ensures { λ r. ⌜ r ≡ fairTail n b ⌝ }
+{
+    let len = b.len;
+    let cells = b.cells;
+    counting::fair(&cells[..len], n)
+}
+
+// The same of eight ballots.
+fn eight_fair(all: [Ballot; 8], n: usize) -> bool
+    requires { ⌜ (1 ≤ n) × ((n ≤ 8) × (allB fewCells all ≡ true)) ⌝ }
+    ensures { λ r. ⌜ r ≡ allB (fairTail n) all ⌝ }
+{
+    let mut good = true;
+    for i in 0..8 {
+        let b = all[i];
+        good = good & fair_tail(b, n);
     }
     good
 }
@@ -185,10 +209,10 @@ fn fits(len: usize, place: usize, n: usize, settled: usize) -> bool
 }
 
 // Whether eight ballots are within the limits beside a settled log of this length: at once where there are none, else their lengths first,
-// then their cells, by the faster test where no cell is a move of weight. It serves a record and a message alike. Public only for the
+// then their cells, by the faster test where no cell is a move of weight, and each office's part. It serves a record and a message alike. Public only for the
 // crates above, which prove what it requires.
 pub fn fine(all: [Ballot; 8], n: usize, settled: usize) -> bool
-    requires { ⌜ (1 ≤ n) × (settled ≤ 1024) ⌝ }
+    requires { ⌜ (1 ≤ n) × ((n ≤ 8) × (settled ≤ 1024)) ⌝ }
     ensures { λ r. ⌜ r ≡ ballotsFine n settled all ⌝ }
 {
     if no_ballots(all) {
@@ -215,5 +239,8 @@ pub fn fine(all: [Ballot; 8], n: usize, settled: usize) -> bool
         }
     }
     let masks = masks();
-    four_unused(a, b, c, d, &masks) & four_unused(e, f, g, h, &masks)
+    if !(four_unused(a, b, c, d, &masks) & four_unused(e, f, g, h, &masks)) {
+        return false;
+    }
+    eight_fair(all, n)
 }

@@ -1,5 +1,4 @@
 -- The laws of summaries, and of the walks over a log.
 pub mod Moves
-pub mod Counting
 pub mod Laws
 pub mod Cells

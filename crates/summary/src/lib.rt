@@ -1,16 +1,12 @@
-// What the entries of a settled log have done, as a record holds it: the weights after its moves, and the code of each line. Beside it, what
-// ties are decided by: how many entries each office has.
+// What the entries of a settled log have done, as a record holds it: the weights after its moves, and the code of each line.
 ghost use mathlib.Core.Path.{_≡_};
-ghost use mathlib.Core.Bool.{cond};
 ghost use Prim.Native.Nat.{_<_, _≤_};
-ghost use lib.Dec.{eqb};
 ghost use mathlib.Core.List.{_++_};
 ghost use lib.ListN.{length, replicate, take};
 ghost use Rattle.lists.specs.Tests.{allB, same};
 ghost use Rattle.protocol.specs.Entry.{officeOf, lineOf, codeOf};
 ghost use Rattle.protocol.specs.Codes.{coded, codesAfter};
 ghost use Rattle.protocol.specs.Moves.{move, weightsAfter};
-ghost use Rattle.protocol.specs.Counts.{countIn, noCounts, countOf, counted, countsAfter};
 ghost use Rattle.summary.specs.Summary.{noMove, startWith, summaryAfter, summaryNext, sameSummary};
 
 // The present weights, and the settled codes of the 64 lines.
@@ -162,58 +158,6 @@ fn weights_after(weights: [u16; 8], words: &[u32]) -> [u16; 8]
         settle_move(&mut present, words[i]);
     }
     present
-}
-
-// 1 for an entry of the office.
-fn one_of(word: u32, office: u32) -> u32
-    ensures { λ r. ⌜ (r ≡ cond (eqb (officeOf word) office) 1 0) × (r ≤ 1) ⌝ }
-{
-    if word / 16777216 == office {
-        return 1;
-    }
-    0
-}
-
-// How many entries the office has.
-fn count_of(office: u32, words: &[u32]) -> u32
-    requires { ⌜ length (now words) < 4294967296 ⌝ }
-    ensures { λ r. ⌜ r ≡ countIn office (now (words .entry)) ⌝ }
-{
-    let mut count: u32 = 0;
-    for i in 0..words.len() {
-        count = count + one_of(words[i], office);
-    }
-    count
-}
-
-// How many entries each office has: a walk for each, since one that only counts runs on vectors, in 32 bits on more words at once. Public
-// only for the crate above, which proves what it requires: a log has at most 1024 entries.
-pub fn counts(words: &[u32]) -> [u64; 8]
-    requires { ⌜ length (now words) < 4294967296 ⌝ }
-    ensures { λ r. ⌜ r ≡ countsAfter (noCounts 8) (now (words .entry)) ⌝ }
-{
-    let mut cells: [u64; 8] = [0; 8];
-    for k in 0..8 {
-        let count = count_of(k as u32, words);
-        cells[k] = count as u64;
-    }
-    cells
-}
-
-// The counts after one entry more; an office of 8 or more has none. Public only for the crate above, which proves that the count has room:
-// it is at most the length of a log.
-pub fn counted(counts: [u64; 8], word: u32) -> [u64; 8]
-    requires { ⌜ countOf counts (officeOf word) < 18446744073709551615 ⌝ }
-    ensures { λ r. ⌜ r ≡ counted counts word ⌝ }
-{
-    let mut next = counts;
-    let office = office_of(word);
-    if office >= 8 {
-        return next;
-    }
-    let has = counts[office];
-    next[office] = has + 1;
-    next
 }
 
 impl Summary {

@@ -1,20 +1,20 @@
 -- At once where there are no ballots; else a walk over the lengths, then the cells of four ballots and of four.
 use Rattle.ballots.proofs.fine.Statement.{statement}
 use Rattle.ballots.proofs.fine.Tie as tie
-use mathlib.Core.Path.{_≡_, refl, sym, _∙_}
-use mathlib.Core.Bool.{Bool, true}
+use mathlib.Core.Path.{_≡_, refl, sym, ap, _∙_}
+use mathlib.Core.Bool.{Bool, true, _&&_}
 use mathlib.Core.Logic.{⊎-elim}
 use Prim.Native.Nat.{ℕ, _-_, _<_, _≤_}
 use native.Mathlib.Omega.{arith}
 use lib.ListN.{length, getD, drop}
-use borrow.Author.Tests.{not-true, not-false}
+use borrow.Author.Tests.{not-true, not-false, le-leb}
 use borrow.Author.Needs.{needs}
 use Rattle.lists.specs.Tests.{both, allB}
-use Rattle.lists.proofs.Tests.{all-mono, both-false-0, both-false-1, both-passed}
+use Rattle.lists.proofs.Tests.{all-mono, all-of, both-false-0, both-false-1, both-passed}
 use Rattle.ballots.specs.Ballots.{ballotsFine, offEnd}
-use Rattle.ballots.specs.Fours.{codingCells, entryCells, unusedZero}
-use Rattle.ballots.proofs.Eight.{none-all, fitFrom, fit-next, fit-done, fit-few, fine-tests-all, eight-tests}
-use Rattle.ballots.proofs.Fours.{coding-cells}
+use Rattle.ballots.specs.Fours.{codingCells, entryCells, unusedZero, fairTail, fewCells}
+use Rattle.ballots.proofs.Eight.{none-all, fitFrom, fit-next, fit-done, fit-few, fine-tests-all, all-both, eight-tests}
+use Rattle.ballots.proofs.Fours.{coding-cells, restFine}
 
 abbrev Inv-loop : tie.InvT-loop
 Inv-loop n settled all fit₀ i₀ fit i = (i ≤ 8) × (fitFrom n settled 0 all ≡ both fit (fitFrom n settled i (drop i all)))
@@ -30,7 +30,7 @@ eight : (s : tie.Start Inv-loop μ-loop) → length (s .args .t1) ≡ 8
 eight s = search needs
 
 returns : tie.Need-returns Inv-loop μ-loop
-returns c = let s = c .before .before in none-all (s .args .n) (s .args .settled) (s .pre .1) (s .args .t1) (eight s) (sym (c .before .no-ballots .ensures) ∙ c .if1 .taken)
+returns c = let s = c .before .before in none-all (s .args .n) (s .args .settled) (s .pre .1 .1) (s .args .t1) (eight s) (sym (c .before .no-ballots .ensures) ∙ c .if1 .taken)
 
 -- the places of the code: the call's start, behind the test for no ballots
 abbrev begun : tie.Else1 Inv-loop μ-loop → tie.Start Inv-loop μ-loop
@@ -44,8 +44,8 @@ loop-again c =
 
 -- the tests of all ballots, once their lengths were walked
 tests : (s : tie.Start Inv-loop μ-loop) → ballotsFine (s .args .n) (s .args .settled) (s .args .t1)
-    ≡ both (fitFrom (s .args .n) (s .args .settled) 0 (s .args .t1)) (both (allB (entryCells (s .args .n)) (s .args .t1)) (allB unusedZero (s .args .t1)))
-tests s = fine-tests-all (s .args .n) (s .args .settled) (s .pre .0) (s .pre .1) (s .args .t1) (eight s)
+    ≡ both (fitFrom (s .args .n) (s .args .settled) 0 (s .args .t1)) (both (allB (entryCells (s .args .n)) (s .args .t1)) (allB (restFine (s .args .n)) (s .args .t1)))
+tests s = fine-tests-all (s .args .n) (s .args .settled) (s .pre .0) (s .pre .1 .1) (s .args .t1) (eight s)
 
 returns-2 : tie.Need-returns-2 Inv-loop μ-loop
 returns-2 c =
@@ -98,12 +98,32 @@ four-unused-requires-2 c κs =
     let n = named (c .before .before .before .before .before) in
     (c .before .before .before .masks .ensures, (few n 4 (omega arith), (few n 5 (omega arith), (few n 6 (omega arith), few n 7 (omega arith)))))
 
-returns-4 : tie.Need-returns-4 Inv-loop μ-loop
-returns-4 c =
-    let j = c .before .before .before .before .before in
+eight-fair-requires : tie.Need-eight-fair-requires Inv-loop μ-loop
+unfolding fewCells
+eight-fair-requires c κs =
+    let w = named (c .before .before .before .before .before .before .before) in
+    let s = walked w in
+    (s .pre .0, (s .pre .1 .0, all-of fewCells offEnd (s .args .t1) (λ k h. le-leb _ 32 (few w k (omega (arith, eight s))))))
+
+-- the unused cells and the parts, where the lengths and the cells are right
+rest : (j : tie.Joined3 Inv-loop μ-loop) → let s = start (j .before) in both (allB unusedZero (s .args .t1)) (allB (fairTail (s .args .n)) (s .args .t1)) ≡ ballotsFine (s .args .n) (s .args .settled) (s .args .t1)
+rest j =
     let s = start (j .before) in
-    eight-tests unusedZero (s .args .t1) (eight s) _ _ (c .before .before .four-unused .ensures) (c .four-unused2 .ensures)
-    ∙ sym (tests s ∙ both-passed _ _ _ (fitting (named (j .before))) (entries-all j))
+    all-both unusedZero (fairTail (s .args .n)) (s .args .t1) ∙ sym (tests s ∙ both-passed _ _ _ (fitting (named (j .before))) (entries-all j))
+
+-- what the two tests of the unused cells found
+unused : (c : tie.After-four-unused2 Inv-loop μ-loop) → let s = start (c .before .before .before .before .before .before) in (c .before .before .four-unused .result && c .four-unused2 .result) ≡ allB unusedZero (s .args .t1)
+unused c = let s = start (c .before .before .before .before .before .before) in eight-tests unusedZero (s .args .t1) (eight s) _ _ (c .before .before .four-unused .ensures) (c .four-unused2 .ensures)
+
+returns-4 : tie.Need-returns-4 Inv-loop μ-loop
+returns-4 c = let u = c .before in let j = u .before .before .before .before .before in sym (sym (rest j) ∙ both-false-0 _ _ (sym (unused u) ∙ not-true _ (c .if5 .taken)))
+
+returns-5 : tie.Need-returns-5 Inv-loop μ-loop
+unfolding both
+returns-5 c =
+    let u = c .before .before in
+    let j = u .before .before .before .before .before in
+    c .eight-fair .ensures ∙ ap (λ (t : Bool). both t (allB (fairTail (start (j .before) .args .n)) (start (j .before) .args .t1))) (sym (sym (unused u) ∙ not-false _ (c .before .if5 .left))) ∙ rest j
 
 pub fine-spec : {M : Type 1} → statement M
 fine-spec =
@@ -111,4 +131,4 @@ fine-spec =
     (tie.spec Inv-loop μ-loop (λ c κs. search needs) returns loop-holds (λ c. search needs) (λ c. search needs) (λ c κs. search needs) (λ c. search needs)
     (λ c. search needs) loop-again returns-2 (λ c. search needs) (λ c. search needs) (λ c. search needs) (λ c. search needs) (λ c. search needs)
     (λ c. search needs) (λ c. search needs) (λ c. search needs) (λ c κs. search needs) (λ c κs. search needs) (λ c κs. search needs)
-    returns-3 (λ c κs. search needs) (λ c. search needs) four-unused-requires (λ c. search needs) four-unused-requires-2 returns-4)
+    returns-3 (λ c κs. search needs) (λ c. search needs) four-unused-requires (λ c. search needs) four-unused-requires-2 returns-4 eight-fair-requires returns-5)

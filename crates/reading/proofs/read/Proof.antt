@@ -125,7 +125,7 @@ weights-at-requires : tie.Need-weights-at-requires Inv-loop μ-loop
 weights-at-requires c κs = let r = parted (walked c .before) in omega (arith, few r, few r .layout, parts r .count)
 
 fine-requires : tie.Need-fine-requires Inv-loop μ-loop
-fine-requires c κs = let r = parted (c .before .before) in (omega (arith, few r, parts r .count), omega (arith, few r, parts r .settled))
+fine-requires c κs = let r = parted (c .before .before) in (omega (arith, few r, parts r .count), (omega (arith, few r, parts r .count), omega (arith, few r, parts r .settled)))
 
 returns-5 : tie.Need-returns-5 Inv-loop μ-loop
 returns-5 c =

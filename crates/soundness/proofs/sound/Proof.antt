@@ -59,7 +59,7 @@ returns-5 : tie.Need-returns-5
 returns-5 c = sound-not _ _ _ _ _ _ _ (λ S. true≢false (sym (follows-of _ _ _ _ (S .done)) ∙ sym (same-is (c .before)) ∙ not-true _ (c .if5 .taken)))
 
 fine-requires : tie.Need-fine-requires
-fine-requires c κs = let h = head _ _ _ (passed (walked (compared (c .before)))) in (h .some, omega arith)
+fine-requires c κs = let h = head _ _ _ (passed (walked (compared (c .before)))) in (h .some, (h .most, omega arith))
 
 returns-6 : tie.Need-returns-6
 unfolding both

@@ -5,9 +5,9 @@ use mathlib.Core.Path.{_≡_, refl}
 use Prim.Native.Nat.{_-_, _≤_}
 use Rattle.lists.proofs.Fill.{filled}
 use Rattle.protocol.specs.Counts.{noCounts, countsAfter}
-use Rattle.summary.proofs.Counting.{counts-next, counts-done}
-use Rattle.summary.proofs.counts.Statement.{statement}
-use Rattle.summary.proofs.counts.Tie as tie
+use Rattle.counting.proofs.Counting.{counts-next, counts-done}
+use Rattle.counting.proofs.counts.Statement.{statement}
+use Rattle.counting.proofs.counts.Tie as tie
 
 abbrev Inv-loop : tie.InvT-loop
 Inv-loop words cells₀ k₀ cells k = (k ≤ 8) × (cells ≡ filled (countsAfter (noCounts 8) words) (noCounts 8) k)

@@ -5,9 +5,9 @@ use Prim.Native.Nat.{_+_, _-_, _≤_}
 use native.Mathlib.Omega.{arith}
 use lib.ListN.{length, drop}
 use Rattle.protocol.specs.Counts.{countIn}
-use Rattle.summary.proofs.Counting.{count-next, count-done}
-use Rattle.summary.proofs.count_of.Statement.{statement}
-use Rattle.summary.proofs.count_of.Tie as tie
+use Rattle.counting.proofs.Counting.{count-next, count-done}
+use Rattle.counting.proofs.count_of.Statement.{statement}
+use Rattle.counting.proofs.count_of.Tie as tie
 
 abbrev Inv-loop : tie.InvT-loop
 Inv-loop office words count₀ i₀ i-end count i = (i ≤ length words) × (count ≤ i) × (countIn office words ≡ count + countIn office (drop i words))

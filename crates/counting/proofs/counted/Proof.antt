@@ -4,9 +4,9 @@ use native.Mathlib.Omega.{arith}
 use mathlib.Core.Path.{_≡_, ap}
 use lib.ListN.{length}
 use Rattle.protocol.specs.Counts.{countOf}
-use Rattle.summary.proofs.Counting.{counted-in, counted-far}
-use Rattle.summary.proofs.counted.Statement.{statement}
-use Rattle.summary.proofs.counted.Tie as tie
+use Rattle.counting.proofs.Counting.{counted-in, counted-far}
+use Rattle.counting.proofs.counted.Statement.{statement}
+use Rattle.counting.proofs.counted.Tie as tie
 
 returns : tie.Need-returns
 returns c = let a = c .before .before .args in let h : length (a .t1) ≡ 8 = search needs in counted-far (a .t1) (a .word) _ (c .before .office-of .ensures .0) (omega arith)

@@ -1,0 +1,103 @@
+// How many entries each office has: in a settled log, by which ties are decided, and in a tail, of which each office has at most its part.
+ghost use mathlib.Core.Path.{_≡_};
+ghost use mathlib.Core.Bool.{cond};
+ghost use Prim.Native.Nat.{_<_, _≤_};
+ghost use lib.Dec.{eqb};
+ghost use lib.ListN.{length};
+ghost use Rattle.protocol.specs.Entry.{officeOf};
+ghost use Rattle.protocol.specs.Counts.{countIn, noCounts, countOf, counted, countsAfter};
+ghost use Rattle.protocol.specs.Fair.{fair};
+
+// The office of a word.
+fn office_of(word: u32) -> usize
+    ensures { λ r. ⌜ (r ≡ officeOf word) × (r < 256) ⌝ }
+{
+    (word / 16777216) as usize
+}
+
+// 1 for an entry of the office.
+fn one_of(word: u32, office: u32) -> u32
+    ensures { λ r. ⌜ (r ≡ cond (eqb (officeOf word) office) 1 0) × (r ≤ 1) ⌝ }
+{
+    if word / 16777216 == office {
+        return 1;
+    }
+    0
+}
+
+// How many entries the office has.
+fn count_of(office: u32, words: &[u32]) -> u32
+    requires { ⌜ length (now words) < 4294967296 ⌝ }
+    ensures { λ r. ⌜ r ≡ countIn office (now (words .entry)) ⌝ }
+{
+    let mut count: u32 = 0;
+    for i in 0..words.len() {
+        count = count + one_of(words[i], office);
+    }
+    count
+}
+
+// How many entries each office has in a log: a walk for each, since one that only counts runs on vectors, in 32 bits on more words at once.
+// Public only for the crates above, which prove what it requires: a log has at most 1024 entries.
+pub fn counts(words: &[u32]) -> [u64; 8]
+    requires { ⌜ length (now words) < 4294967296 ⌝ }
+    ensures { λ r. ⌜ r ≡ countsAfter (noCounts 8) (now (words .entry)) ⌝ }
+{
+    let mut cells: [u64; 8] = [0; 8];
+    for k in 0..8 {
+        let count = count_of(k as u32, words);
+        cells[k] = count as u64;
+    }
+    cells
+}
+
+// The counts after one entry more; an office of 8 or more has none. Public only for the crates above, which prove that the count has room:
+// it is at most the length of a log.
+pub fn counted(counts: [u64; 8], word: u32) -> [u64; 8]
+    requires { ⌜ countOf counts (officeOf word) < 18446744073709551615 ⌝ }
+    ensures { λ r. ⌜ r ≡ counted counts word ⌝ }
+{
+    let mut next = counts;
+    let office = office_of(word);
+    if office >= 8 {
+        return next;
+    }
+    let has = counts[office];
+    next[office] = has + 1;
+    next
+}
+
+// How many entries each office has in a tail: one walk, since a tail is short. An office of 8 or more has none. Public only for the crates
+// above, which prove what it requires.
+pub fn in_tail(tail: &[u32]) -> [u32; 8]
+    requires { ⌜ length (now tail) ≤ 32 ⌝ }
+    ensures { λ r. ⌜ r ≡ countsAfter (noCounts 8) (now (tail .entry)) ⌝ }
+{
+    let mut cells: [u32; 8] = [0; 8];
+    for i in 0..tail.len() {
+        let office = office_of(tail[i]);
+        if office < 8 {
+            let has = cells[office];
+            cells[office] = has + 1;
+        }
+    }
+    cells
+}
+
+// Whether none of n offices has more than its part of the tail: at once where the tail is no longer than a part. Public only for the crates
+// above, which prove what it requires.
+pub fn fair(tail: &[u32], n: usize) -> bool
+    requires { ⌜ (1 ≤ n) × ((n ≤ 8) × (length (now tail) ≤ 32)) ⌝ }
+    ensures { λ r. ⌜ r ≡ fair n (now (tail .entry)) ⌝ }
+{
+    let part = 32 / n;
+    if tail.len() <= part {
+        return true;
+    }
+    let cells = in_tail(tail);
+    let mut good = true;
+    for k in 0..n {
+        good = good & (cells[k] as usize <= part);
+    }
+    good
+}
