@@ -15,6 +15,7 @@ use lib.ListN.{length, getD, set}
 use borrow.Author.Tests.{eq-eqb, ne-eqb}
 use Rattle.protocol.specs.Entry.{value}
 use Rattle.protocol.specs.Office.{tail}
+use Rattle.protocol.specs.Counts.{countIn}
 use Rattle.protocol.specs.Issue.{withIssue, refusalAt, refuseIssue}
 use Rattle.lists.proofs.Tests.{pick-true, pick-false, map-set}
 use Rattle.protocol.proofs.Limits as Limits
@@ -40,8 +41,11 @@ module _ (r : Record) (words : List ℕ) (S : Sound r words) (line code : ℕ) w
   unfolding issueNumber
   number-sound k q = q ∙ sym (pick-true (soundB r words) _ 1 (sound-true r words S))
 
+  abbrev mine : Ballot
+  mine = getD (r .ballots) (r .own) offEnd
+
   abbrev len : ℕ
-  len = getD (r .ballots) (r .own) offEnd .len
+  len = mine .len
 
   abbrev entry : ℕ
   entry = value (r .own) line code
@@ -66,10 +70,10 @@ module _ (r : Record) (words : List ℕ) (S : Sound r words) (line code : ℕ) w
   tail-is : length (tail (heldBy r words) (r .own)) ≡ len
   tail-is = tail-length r words S (r .own) (omega arith)
 
-  -- the number by the record's own lengths
-  pub number-at : (k : ℕ) → k ≡ refusalAt (r .n) line code (r .settled) len → k ≡ issueNumber r words line code
+  -- the number by the record's own length and ballot
+  pub number-at : (k : ℕ) → k ≡ refusalAt (r .n) line code (r .settled) len (countIn (r .own) (tailOf mine)) → k ≡ issueNumber r words line code
   unfolding refuseIssue
-  number-at k q = number-sound k (q ∙ sym (ap₂ (λ (s l : ℕ). refusalAt (r .n) line code s l) (log-length r words S) tail-is))
+  number-at k q = number-sound k (q ∙ λ i. refusalAt (r .n) line code (sym (log-length r words S) i) (sym tail-is i) (countIn (r .own) (sym (tail-at r words (r .own)) i)))
 
 issued-words : (r : Record) (words : List ℕ) (S : Sound r words) (line code : ℕ) → wordsWith (withIssue (r .own) (value (r .own) line code) (heldBy r words) .log) words ≡ words
 unfolding withIssue
@@ -136,7 +140,7 @@ allowed r words line code q =
     let H = S .head in
     let d = Limits.issue-done (r .n) (r .own) line code (heldBy r words) (D .allowed) in
     let F = ballot r words S (r .own) (omega arith) in
-    let short : getD (r .ballots) (r .own) offEnd .len ≡ 32 → ⊥ = λ e. d .short (tail-is r words S line code ∙ e) in
+    let short : getD (r .ballots) (r .own) offEnd .len ≡ 32 → ⊥ = λ e. omega (arith, d .below, Limits.never-4 (r .n) (r .own) (heldBy r words) (held-fine r words S) (H .member) (tail-is r words S line code ∙ e)) in
     record {
       was = S;
       place = omega arith;

@@ -10,7 +10,7 @@ use Rattle.frame.specs.Soundness.{soundB}
 use Rattle.frame.specs.declared.Record.{Record}
 use Rattle.frame.specs.declared.issuing.Issued.{Issued}
 
--- 1: "record unsound, or log below 1024 words"; 3, 5 and 4 are the protocol's
+-- 1: "record unsound, or log below 1024 words"; 3, 5 and 11 are the protocol's
 unfoldable pub issueNumber : Record → List ℕ → ℕ → ℕ → ℕ
 issueNumber r words line code = pick (soundB r words) (refuseIssue (r .n) (r .own) line code (heldBy r words)) 1
 

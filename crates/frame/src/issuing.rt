@@ -22,7 +22,7 @@ impl Record {
         }
         let own = self.own;
         let b = self.ballots[own];
-        let number = issuance::refusal(self.n, line, code, self.settled, b.len);
+        let number = issuance::refusal(self.n, own, line, code, self.settled, b);
         if number != 0 {
             return Issued {
                 record: self,

@@ -1,8 +1,10 @@
-// The number of an issue, by what it is asked of: the offices, the line and the code, and the lengths of the settled log and of the own tail.
+// The number of an issue, by what it is asked of: the offices, the line and the code, the settled length and the own ballot.
 ghost use mathlib.Core.Path.{_≡_};
-ghost use Prim.Native.Nat.{_≤_};
+ghost use Prim.Native.Nat.{_<_, _≤_};
 ghost use Rattle.protocol.specs.Entry.{proper};
+ghost use Rattle.protocol.specs.Counts.{countIn};
 ghost use Rattle.protocol.specs.Issue.{refusalAt};
+ghost use Rattle.ballots.specs.Ballots.{tailOf};
 use ballots::Ballot;
 
 // The lines of the frame; lines from here on are those of moves. And the codes.
@@ -26,19 +28,23 @@ fn proper(n: usize, line: u32, code: u32) -> bool
     ((line - LINES) as usize) < n
 }
 
-// The number of an issue on a sound record of n offices. 5 is tested before 4. Public only for the crate above, which proves what it requires.
-pub fn refusal(n: usize, line: u32, code: u32, settled: usize, len: usize) -> u32
-    requires { ⌜ (settled ≤ 1024) × (len ≤ 32) ⌝ }
-    ensures { λ r. ⌜ r ≡ refusalAt n line code settled len ⌝ }
+// The number of an issue by office `own` of n, on a sound record with this settled length and this own ballot. Public only for the crate above,
+// which proves what it requires.
+pub fn refusal(n: usize, own: usize, line: u32, code: u32, settled: usize, b: Ballot) -> u32
+    requires { ⌜ (1 ≤ n) × ((own < 8) × ((settled ≤ 1024) × (b .len ≤ 32))) ⌝ }
+    ensures { λ r. ⌜ r ≡ refusalAt n line code settled (b .len) (countIn own (tailOf b)) ⌝ }
 {
     if !proper(n, line, code) {
         return 3;
     }
+    let len = b.len;
     if settled + len == Ballot::PATH {
         return 5;
     }
-    if len == Ballot::CELLS {
-        return 4;
+    let cells = b.cells;
+    let counts = counting::in_tail(&cells[..len]);
+    if counts[own] as usize >= Ballot::CELLS / n {
+        return 11;
     }
     0
 }
