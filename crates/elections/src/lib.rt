@@ -63,7 +63,7 @@ impl State {
         ensures words { λ _. ⌜ now (log .exit) ≡ wordsWith (electedIn weights self (now (log .entry)) .log) (now (log .entry)) ⌝ }
     {
         let start = self.settled;
-        let mut counts = summary::counts(&log[..start]);
+        let mut counts = counting::counts(&log[..start]);
         let mut now = self;
         loop {
             let before = now.settled;
@@ -71,7 +71,7 @@ impl State {
             if now.settled == before {
                 break;
             }
-            let next = summary::counted(counts, log[before]);
+            let next = counting::counted(counts, log[before]);
             counts = next;
         }
         now

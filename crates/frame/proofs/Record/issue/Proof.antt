@@ -32,7 +32,7 @@ may : (c : tie.Else2) → let a = start (tested c) .args in Allowed (a .t1) (a .
 may c = allowed _ _ _ _ (sym (numbered (c .before)) ∙ c .if2 .left)
 
 refusal-requires : tie.Need-refusal-requires
-refusal-requires c κs = let s = sounds (c .before) in let F = ballot _ _ s (start (c .before) .args .t1 .own) (omega arith) in (omega arith, omega arith)
+refusal-requires c κs = let s = sounds (c .before) in let F = ballot _ _ s (start (c .before) .args .t1 .own) (omega arith) in (omega arith, (omega arith, (omega arith, omega arith)))
 
 returns-3 : tie.Need-returns-3
 returns-3 c =
