@@ -100,7 +100,7 @@ module _ (n : ℕ) (ws : List ℕ) (w : World) (s : SoundWorld n ws w) where
     where
       go : (x : Option Replica) → replicaAt w k ≡ x → onSome x 0 (λ d. issueOf (d .held) (d .words) line code .number) ≡ 1 → ⊥
       go none e h = omega arith
-      go (some d) e h = issue-never n k line code (says d) .0 (sym (issue-number n ws k d (s .each k d e) line code) ∙ h)
+      go (some d) e h = issue-never n k line code (says d) .no-1 (sym (issue-number n ws k d (s .each k d e) line code) ∙ h)
   never-unsound (send k out) h = go (sends k out)
     where
       go : (number w (send k out) ≡ 0) ⊎ (number w (send k out) ≡ 6) → ⊥

@@ -6,11 +6,12 @@ use lib.ListN.{replicate}
 use Rattle.protocol.specs.Beginning.{begins, extends}
 use Rattle.protocol.specs.Elect.{electing, settle, withElect}
 use Rattle.protocol.specs.Entry.{value, proper, isEntry}
+use Rattle.protocol.specs.Fair.{fair}
 use Rattle.protocol.specs.Issue.{refusalAt, refuseIssue, withIssue}
 use Rattle.protocol.specs.Limits.{headFine, isEmpty, isOffice, isWeight, logFine, officeFine, tailFine, tailsFine, total, weightsFine}
 use Rattle.protocol.specs.Longest.{longest}
 use Rattle.protocol.specs.Codes.{codesAfter}
-use Rattle.protocol.specs.Counts.{countsAfter, quieterBy}
+use Rattle.protocol.specs.Counts.{countIn, countsAfter, quieterBy}
 use Rattle.protocol.specs.Moves.{isMove, canShift, move, weightsAfter}
 use Rattle.summary.specs.Summary.{sameSummary}
 use Rattle.protocol.specs.Take.{catchUp, rebase, refuseTake, withTake}
@@ -38,7 +39,7 @@ abbrev rehearsal : List Call
 rehearsal = issue 0 5 120 ∷ issue 1 5 130 ∷ send 0 (replicate 22 0) ∷ take 2 0 ∷ elect 2 ∷ []
 
 pub rehearsal-order : order threeOffices rehearsal ≡ value 0 5 120 ∷ []
-unfolding order step after begins extends electing settle withElect isEntry proper refusalAt refuseIssue withIssue longest catchUp rebase refuseTake
+unfolding order step after begins extends electing settle withElect isEntry proper countIn fair refusalAt refuseIssue withIssue longest catchUp rebase refuseTake
     withTake allB both pick same supported tally unheard winner wins headFine isEmpty isOffice isWeight logFine officeFine tailFine tailsFine total
     weightsFine isMove canShift move weightsAfter codesAfter countsAfter quieterBy sameSummary ballotShape longEnough shaped follows soundFields soundB asMessage eightTails validContent be16 be32 bytes16 bytes32 run runAt runOk
     afterBallot ballotNext ballotOk ballotsOk contentAt endOk headOk layoutOk reading recordAt recordHere recordsOk restAt settledAt sizeAt tailAt
@@ -51,7 +52,7 @@ abbrev closing : List Call
 closing = issue 0 65 10 ∷ send 0 (replicate 22 0) ∷ take 2 0 ∷ elect 2 ∷ []
 
 pub closing-weights : map (λ (d : Replica). d .held .summary .present) (after threeOffices closing .replicas) ≡ usualWeights ∷ usualWeights ∷ (30 ∷ 45 ∷ 25 ∷ 0 ∷ 0 ∷ 0 ∷ 0 ∷ 0 ∷ []) ∷ []
-unfolding step after begins extends electing settle withElect isEntry proper refusalAt refuseIssue withIssue longest catchUp rebase refuseTake
+unfolding step after begins extends electing settle withElect isEntry proper countIn fair refusalAt refuseIssue withIssue longest catchUp rebase refuseTake
     withTake allB both pick same supported tally unheard winner wins headFine isEmpty isOffice isWeight logFine officeFine tailFine tailsFine total
     weightsFine isMove canShift move weightsAfter codesAfter countsAfter quieterBy sameSummary ballotShape longEnough shaped follows soundFields soundB asMessage eightTails validContent be16 be32 bytes16 bytes32 run runAt runOk
     afterBallot ballotNext ballotOk ballotsOk contentAt endOk headOk layoutOk reading recordAt recordHere recordsOk restAt settledAt sizeAt tailAt

@@ -101,7 +101,7 @@ module _ (rule : Rule) (n : ℕ) (law : Lawful rule) where
 
   pub never-10 : (cs : List Call) → Invariant rule n law cs → (c : Call) → refusal (after rule n cs) c ≡ 10 → ⊥
   unfolding refusal
-  never-10 cs inv (issue k line code) h = issue-never (length (after rule n cs .offices)) k line code (officeAt rule n k cs) .1 h
+  never-10 cs inv (issue k line code) h = issue-never (length (after rule n cs .offices)) k line code (officeAt rule n k cs) .no-10 h
   never-10 cs inv (send k room) h = send-not room h
   never-10 cs inv (take k i) h = take-never cs inv k (getElem? (after rule n cs .sent) i) i refl h
   never-10 cs inv (elect k) h = omega arith

@@ -186,19 +186,25 @@ never-4 n k o f h e = go (decLt (countIn k (tail o k)) (part n))
     go (yes b) = let t = tail-at n o f k in absurd (omega (arith, below-short n k (tail o k) h (t .parts) (t .entries) b))
     go (no b) = omega arith
 
--- an issue is done, or refused with 3, 5 or 11: never with 1, which the state of a sound record does not meet, or with 10
-pub issue-never : (n k line code : ℕ) (o : Office) → (refuseIssue n k line code o ≡ 1 → ⊥) × (refuseIssue n k line code o ≡ 10 → ⊥)
+-- an issue is done, or refused with 3, 5 or 11: never with 1, which the state of a sound record does not meet, never with document 01's 4, and
+-- never with 10
+pub record IssueNever (x : ℕ) : Type 0 where
+  pub no-1 : x ≡ 1 → ⊥
+  pub no-4 : x ≡ 4 → ⊥
+  pub no-10 : x ≡ 10 → ⊥
+
+pub issue-never : (n k line code : ℕ) (o : Office) → IssueNever (refuseIssue n k line code o)
 unfolding refuseIssue refusalAt pick
 issue-never n k line code o = go (not (proper n line code)) (eqb (length (o .log) + length (tail o k)) 1024) (leb (part n) (countIn k (tail o k)))
   where
-    other : (x : ℕ) → (x ≡ 1 → ⊥) → (x ≡ 10 → ⊥) → (x ≡ 1 → ⊥) × (x ≡ 10 → ⊥)
-    other x p q = (p, q)
+    other : (x : ℕ) → (x ≡ 1 → ⊥) → (x ≡ 4 → ⊥) → (x ≡ 10 → ⊥) → IssueNever x
+    other x p q r = record { no-1 = p; no-4 = q; no-10 = r }
 
-    go : (a b c : Bool) → let x : ℕ = pick a 3 (pick b 5 (pick c 11 0)) in (x ≡ 1 → ⊥) × (x ≡ 10 → ⊥)
-    go true b c = other 3 (λ e. omega arith) (λ e. omega arith)
-    go false true c = other 5 (λ e. omega arith) (λ e. omega arith)
-    go false false true = other 11 (λ e. omega arith) (λ e. omega arith)
-    go false false false = other 0 (λ e. omega arith) (λ e. omega arith)
+    go : (a b c : Bool) → IssueNever (pick a 3 (pick b 5 (pick c 11 0)))
+    go true b c = other 3 (λ e. omega arith) (λ e. omega arith) (λ e. omega arith)
+    go false true c = other 5 (λ e. omega arith) (λ e. omega arith) (λ e. omega arith)
+    go false false true = other 11 (λ e. omega arith) (λ e. omega arith) (λ e. omega arith)
+    go false false false = other 0 (λ e. omega arith) (λ e. omega arith) (λ e. omega arith)
 
 pub issue-done-fine : (n k line code : ℕ) (o : Office) → Fine n o → k < n → n ≤ 8 → refuseIssue n k line code o ≡ 0 → Fine n (withIssue k (value k line code) o)
 issue-done-fine n k line code o f h m r =

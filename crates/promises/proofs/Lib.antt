@@ -1,0 +1,2 @@
+-- The proofs of what is claimed of every sound record.
+pub mod Parts

@@ -1,0 +1,2 @@
+-- What is claimed of every sound record.
+pub mod Parts
