@@ -54,7 +54,7 @@ impl Entries {
 pub enum Ballots {
     /// Eight tails with this many entries, the same one: an election settles all of it.
     Alike(usize),
-    /// Eight tails of 32 with different first entries: an election settles one entry.
+    /// Eight tails of 32 entries in other orders, each with another first: an election settles one entry.
     Apart,
 }
 
@@ -119,7 +119,7 @@ pub fn state(State { settled, entries, ballots }: State, own: usize) -> Sample {
             *cell = entries.word(settled + at);
         }
         if ballots == Ballots::Apart {
-            ballot.cells[0] = entry(office, 5, 120);
+            ballot.cells.rotate_left(office);
         }
     }
     let mut sample = Sample { record, log };

@@ -9,14 +9,15 @@ use second::random::Random;
 use second::record::{sound, Record, CODES, DONE, LINES, LOG, OFFICES, UNSOUND};
 use second::samples::Sample;
 
+use crate::breaks::{break_clause, CLAUSES};
 use crate::engine;
 use crate::forge::{any_bytes, damaged, forged};
-use crate::samples::{any_sample, break_clause, huge, Family, CLAUSES};
+use crate::samples::{any_sample, huge, Family};
 
 /// The calls, in the order of the tally.
 const CALLS: [&str; 10] =
     ["found", "sound", "issue", "settled", "settled frame", "tentative frame", "elect", "send", "take", "all lines"];
-const NUMBERS: usize = 11;
+const NUMBERS: usize = 12;
 /// Elements on both sides of a lent buffer that no call may touch.
 const GUARD: usize = 16;
 /// Calls on one record, one after the other.

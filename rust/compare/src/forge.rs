@@ -2,7 +2,7 @@
 
 use second::random::Random;
 use second::record::{LOG, OFFICES, TAIL};
-use second::samples::Sample;
+use second::samples::{crowded, issued_by, Sample};
 
 use crate::samples::{any_entry, no_entry};
 
@@ -128,14 +128,14 @@ impl Forged {
         self.settled = self.log.len() as u16;
     }
 
-    /// Changes one ballot: its office, its length, its values, or both.
+    /// Changes one ballot: its office, its length, its values, or both; or one office has more of it than its part.
     fn change_ballot(&mut self, random: &mut Random, n: usize) {
         let count = self.ballots.len();
         if count == 0 {
             return;
         }
         let ballot = &mut self.ballots[random.below(count)];
-        match random.below(5) {
+        match random.below(6) {
             0 => ballot.office = random.pick(&[0, n as u8, 8, 255]),
             1 => ballot.length = random.pick(&[0, ballot.length ^ 1, 33, 255]),
             2 if !ballot.values.is_empty() => {
@@ -144,8 +144,12 @@ impl Forged {
             }
             3 => {
                 let length = random.pick(&[31, 32, 32, 33]);
-                ballot.values.resize_with(length, || any_entry(random, n));
+                ballot.values = (0..length).map(|at| issued_by(at % n, any_entry(random, n))).collect();
                 ballot.length = length as u8;
+            }
+            4 if n > 1 => {
+                ballot.values = crowded(random, n);
+                ballot.length = ballot.values.len() as u8;
             }
             _ => ballot.values.clear(),
         }

@@ -4,6 +4,7 @@ use std::io::{Error, ErrorKind, Result};
 use std::process::ExitCode;
 
 mod benchmark;
+mod breaks;
 mod by_value;
 mod calls;
 mod engine;

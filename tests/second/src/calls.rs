@@ -13,8 +13,8 @@ pub fn found(n: usize, own: usize, weights: [u16; OFFICES], log: &[u32]) -> (u32
     (DONE, Record { n, own, weights, present: weights, ..Record::ZERO })
 }
 
-/// The record with the entry appended to the office's own ballot. A full log is said before a full tail: here alone it
-/// is not the smallest number that is given.
+/// The record with the entry appended to the office's own ballot. An office that is below its part always finds room in
+/// its tail: the others have at most theirs.
 pub fn issue(mut record: Record, log: &[u32], line: u32, code: u32) -> (u32, Record) {
     if !sound(&record, log) {
         return (UNSOUND, record);
@@ -26,8 +26,8 @@ pub fn issue(mut record: Record, log: &[u32], line: u32, code: u32) -> (u32, Rec
     if record.settled + ballot.len == LOG {
         return (LOG_FULL, record);
     }
-    if ballot.len == TAIL {
-        return (TAIL_FULL, record);
+    if ballot.tail().iter().filter(|&&word| office_of(word) == record.own).count() == part(record.n) {
+        return (PART_FULL, record);
     }
     ballot.cells[ballot.len] = entry(record.own, line, code);
     ballot.len += 1;

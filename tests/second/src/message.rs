@@ -103,7 +103,7 @@ fn read_ballot<'a>(message: &mut Message<'a>, next: &mut usize, bytes: &'a [u8])
         return None;
     }
     let (tail, rest) = rest.split_at_checked(4 * length)?;
-    if !words(tail).all(|value| is_entry(value, message.n)) {
+    if !words(tail).all(|value| is_entry(value, message.n)) || !fair(words(tail), message.n) {
         return None;
     }
     message.tails[office] = tail;

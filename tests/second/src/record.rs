@@ -22,8 +22,6 @@ pub const UNSOUND: u32 = 1;
 pub const LIMITS: u32 = 2;
 /// Line or code outside the limits.
 pub const NO_ENTRY: u32 = 3;
-/// The own tail is 32 long.
-pub const TAIL_FULL: u32 = 4;
 /// Settled length and own tail length make 1024.
 pub const LOG_FULL: u32 = 5;
 /// The output is shorter than the message.
@@ -36,6 +34,8 @@ pub const OTHER_WEIGHTS: u32 = 8;
 pub const OWN_MESSAGE: u32 = 9;
 /// Neither settled log is a beginning of the other.
 pub const LOGS_PART: u32 = 10;
+/// The own office has its part in its own tail.
+pub const PART_FULL: u32 = 11;
 
 /// A tail of entries; length 0 means none, or unknown. Unused cells are zero.
 #[repr(C)]
@@ -182,6 +182,18 @@ pub(crate) fn codes_after(codes: &Codes, entries: &[u32]) -> Codes {
     std::array::from_fn(|line| places[line])
 }
 
+/// Most entries in a tail that come from one of n offices, 1 to 8.
+pub fn part(n: usize) -> usize {
+    TAIL / n
+}
+
+/// Whether none of n offices has more than its part of these entries, at most 32 of them. Each office's count is a byte
+/// of one number.
+pub fn fair(entries: impl Iterator<Item = u32>, n: usize) -> bool {
+    let counts = entries.fold(0_u64, |counts, word| counts + (1 << (8 * office_of(word))));
+    counts.to_le_bytes().iter().fold(true, |good, &count| good & (usize::from(count) <= part(n)))
+}
+
 /// Whether all words are entries among n offices. Reads them all, so that it runs on vectors.
 fn all_entries(words: &[u32], n: usize) -> bool {
     words.iter().fold(true, |good, &word| good & is_entry(word, n))
@@ -195,10 +207,11 @@ pub(crate) fn within_limits(n: usize, own: usize, weights: &[u16; OFFICES]) -> b
         && weights[..n].iter().any(|&weight| weight != 0)
 }
 
-/// Whether the ballot is a tail of at most `limit` entries with zeros after it.
+/// Whether the ballot is a tail of at most `limit` entries, none of n offices with more than its part, with zeros after it.
 fn sound_ballot(ballot: &Ballot, n: usize, limit: usize) -> bool {
     ballot.len <= limit
         && all_entries(&ballot.cells[..ballot.len], n)
+        && fair(ballot.cells[..ballot.len].iter().copied(), n)
         && ballot.cells[ballot.len..].iter().fold(0, |bits, &cell| bits | cell) == 0
 }
 

@@ -3,7 +3,9 @@
 use crate::generate::weights;
 use crate::message::{length, write};
 use crate::random::Random;
-use crate::record::{entry, is_entry, move_weight, set_code, sound, Ballot, Record, LINES, LOG, OFFICES, TAIL};
+use crate::record::{
+    entry, is_entry, move_weight, office_of, part, set_code, sound, Ballot, Record, LINES, LOG, OFFICES, TAIL,
+};
 
 /// A record and its log.
 #[derive(Clone, Debug, PartialEq, Eq)]
@@ -76,6 +78,44 @@ pub struct Family {
     around: usize,
 }
 
+/// This many different entries, n offices in turn: none has more than its part of a tail of them, if each can have as many.
+pub fn in_turn(n: usize, from: u32, length: usize) -> Vec<u32> {
+    (0..length).map(|at| entry(at % n, at as u32 % LINES, from + at as u32)).collect()
+}
+
+/// The entry with another office.
+pub fn issued_by(office: usize, word: u32) -> u32 {
+    word & 0x00FF_FFFF | (office as u32) << 24
+}
+
+/// The longest beginning of the entries in which none of n offices has more than its part.
+pub fn fair_beginning(entries: &[u32], n: usize) -> &[u32] {
+    let mut counts = [0; OFFICES];
+    let length = entries.iter().take_while(|&&word| {
+        counts[office_of(word)] += 1;
+        counts[office_of(word)] <= part(n)
+    });
+    &entries[..length.count()]
+}
+
+/// A tail in which one of n offices, two or more, has one entry past its part, together or scattered, among some or no
+/// entries of the others.
+pub fn crowded(random: &mut Random, n: usize) -> Vec<u32> {
+    let (busy, part) = (random.below(n), part(n));
+    let mut offices = vec![busy; part + 1];
+    let others = random.below(TAIL.min(n * part + 1) - part);
+    offices.extend((0..n).filter(|&office| office != busy).cycle().take(others));
+    if random.percent(50) {
+        for at in 0..offices.len() {
+            let other = random.below(offices.len());
+            offices.swap(at, other);
+        }
+    }
+    let moves = random.pick(&[0, 0, 20, 100]);
+    let any = |random: &mut Random| if random.percent(moves) { any_move(random, n) } else { any_entry(random, n) };
+    offices.into_iter().map(|office| issued_by(office, any(random))).collect()
+}
+
 /// Any entry among n offices.
 pub fn any_entry(random: &mut Random, n: usize) -> u32 {
     let line = random.pick(&[0, 1, 5, 62, 63]);
@@ -100,12 +140,20 @@ impl Family {
         }
         let moves = random.pick(&[0, 0, 30, 60]);
         let any = |random: &mut Random| if random.percent(moves) { any_move(random, n) } else { any_entry(random, n) };
-        let entries: Vec<u32> = (0..random.within(2, 4)).map(|_| any(random)).collect();
+        let mut entries: Vec<u32> = (0..random.within(2, 4)).map(|_| any(random)).collect();
+        let run = if random.percent(40) { random.pick(&[1, part(n)]) } else { 0 };
+        if run > 0 {
+            entries.extend((0..n).map(|office| issued_by(office, any(random))));
+        }
         let around = if random.percent(85) { random.below(6) } else { random.within(LOG - TAIL - 8, LOG - 2) };
         let mut path = vec![entries[0]; LOG];
         for (at, word) in path.iter_mut().enumerate() {
             if at + 40 > around || random.percent(2) {
                 *word = random.pick(&entries);
+            }
+            // Runs of each office's entries in turn: full parts.
+            if run > 0 {
+                *word = issued_by(at / run % n, *word);
             }
         }
         Family { n, weights: all, entries, path, around }
@@ -169,7 +217,7 @@ impl Family {
         if length > 0 && random.percent(35) {
             ballot.cells[random.below(length)] = random.pick(&self.entries);
         }
-        ballot
+        Ballot::of(fair_beginning(ballot.tail(), self.n))
     }
 }
 
@@ -180,7 +228,7 @@ pub fn break_one(random: &mut Random, sample: &mut Sample) {
     let n = record.n.min(OFFICES);
     let (office, past) = (random.below(n), random.within(n.min(OFFICES - 1), OFFICES - 1));
     let wrong = random.pick(&[(n as u32) << 24, 64 << 16, (64 + n as u32) << 16 | 1, 10_000, u32::MAX, 0x00FF_0000]);
-    match random.below(14) {
+    match random.below(16) {
         0 => record.n = random.pick(&[0, 9, n.saturating_sub(1), huge]),
         1 => record.own = random.pick(&[record.n, huge]),
         2 => {
@@ -198,6 +246,7 @@ pub fn break_one(random: &mut Random, sample: &mut Sample) {
         7 => break_ballot(random, &mut record.ballots[past], wrong, 0),
         8 | 9 => break_present(random, sample, office, past),
         10 | 11 => break_codes(random, record),
+        12 if n > 1 => record.ballots[office] = Ballot::of(&crowded(random, n)),
         _ => break_ballot(random, &mut record.ballots[office], wrong, huge),
     }
 }

@@ -6,7 +6,7 @@ use std::io::{Read, Result, Write};
 use crate::elect::{step, Tally};
 use crate::lines::each_line;
 use crate::message::read;
-use crate::record::{is_move, Ballot, Record, DONE, LOG_FULL, OFFICES, TAIL};
+use crate::record::{is_move, office_of, part, Ballot, Record, DONE, LOG_FULL, OFFICES, PART_FULL};
 use crate::rehearsal::{Command, Office, World, SLOTS};
 use crate::take::{adopt_all, grow, refusal};
 
@@ -52,9 +52,8 @@ impl Survey {
         };
         self.add(&format!("answer {} {}", char::from(answer.letter), answer.number), 1);
         if let Some(Command::Issue(k, ..)) = command {
-            let tail = self.world.offices[k].record.ballots[k].len;
-            self.most("longest tail", tail);
-            self.add("issue at a full log with a full tail", usize::from(answer.number == LOG_FULL && tail == TAIL));
+            let record = self.world.offices[k].record;
+            self.count_issue(&record, answer.number);
         }
         if answer.number != DONE {
             return;
@@ -63,6 +62,23 @@ impl Survey {
             Some(Command::Found(..)) => self.sent = [None; SLOTS],
             Some(Command::Send(k, m)) => self.after_send(k, m),
             _ => {}
+        }
+    }
+
+    /// Counts what an issue that gave this number shows of parts of the tail.
+    fn count_issue(&mut self, record: &Record, number: u32) {
+        let Record { n, own, ballots, .. } = record;
+        let tail = ballots[*own].tail();
+        self.most("longest tail", tail.len());
+        let full = |office: usize| tail.iter().filter(|&&word| office_of(word) == office).count() == part(*n);
+        let behind = number == DONE && (0..*n).any(|office| office != *own && full(office));
+        for (name, shown) in [
+            ("issue at a full log with a full part", number == LOG_FULL && full(*own)),
+            ("issue behind another office's full part", behind),
+            (&format!("part full among {n}"), number == PART_FULL),
+            (&format!("every part full among {n}"), number == PART_FULL && tail.len() == n * part(*n)),
+        ] {
+            self.add(name, usize::from(shown));
         }
     }
 

@@ -10,6 +10,7 @@ mod codes;
 mod damaged;
 mod layout;
 mod moves;
+mod parts;
 mod product;
 mod random;
 mod ties;
@@ -193,6 +194,7 @@ pub fn script(kind: &str, seed: u64, count: usize) -> Option<Vec<u8>> {
             moves::write(&mut trials);
             codes::write(&mut trials);
             ties::write(&mut trials);
+            parts::write(&mut trials);
         }
         "elections" => product::elections(&mut trials),
         "takes" => product::takes(&mut trials),

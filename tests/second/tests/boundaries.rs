@@ -9,6 +9,7 @@ use second::calls::*;
 use second::elect::{elect, elect_step};
 use second::message::send;
 use second::record::*;
+use second::samples::in_turn;
 use second::take::take;
 
 #[test]
@@ -75,6 +76,8 @@ fn unsound() -> Vec<Record> {
     broken(&|r| r.ballots[1].cells[1] = entry(0, 64, 0));
     broken(&|r| r.ballots[1].cells[1] = entry(0, 67, 1));
     broken(&|r| r.ballots[1].cells[1] = entry(0, 0, 10_000));
+    broken(&|r| r.ballots[2] = ballot(&[D; 11]));
+    broken(&|r| r.ballots[0] = ballot(&[&in_turn(3, 0, 30)[..], &[C]].concat()));
     bad
 }
 
@@ -117,9 +120,9 @@ fn tails_and_lengths() {
     }
     for (settled, tail, number) in [
         (0, 31, DONE),
-        (0, 32, TAIL_FULL),
+        (0, 32, PART_FULL),
         (991, 31, DONE),
-        (991, 32, TAIL_FULL),
+        (991, 32, PART_FULL),
         (992, 31, DONE),
         (992, 32, LOG_FULL),
         (993, 30, DONE),
@@ -136,16 +139,15 @@ fn tails_and_lengths() {
 }
 
 #[test]
-fn a_full_log_is_said_before_a_full_tail() {
-    // Everywhere but at 992 and 32 the number is that of a test of the tail first.
+fn a_full_log_is_said_before_a_full_part() {
+    // One office: its part is the whole tail. Request (iv)'s numbers, with 11 where 4 stood.
     let lent = log(&long_log(LOG));
     for settled in 0..=1024_usize {
         let office = record(0, &[1], &lent[..settled], &[]);
         for tail in 0..=32.min(1024 - settled) {
             let mut office = office;
             office.ballots[0] = ballot(&long_tail(tail));
-            let old = if tail == 32 { 4 } else { 5 * u32::from(settled + tail == 1024) };
-            let number = if (settled, tail) == (992, 32) { 5 } else { old };
+            let number = if settled + tail == 1024 { 5 } else { 11 * u32::from(tail == 32) };
             assert_eq!(issue(office, &lent, 64, 1).0, number, "{settled} {tail}");
         }
     }
@@ -169,7 +171,7 @@ fn lines_and_codes() {
     ] {
         assert_eq!(issue(office, &log(&[]), line, code).0, number, "{line} {code}");
     }
-    // A full tail and a wrong line: the smaller number.
+    // A full part and a wrong line: the smaller number.
     let full = record(0, &[1], &[], &[(0, &long_tail(32))]);
     assert_eq!(issue(full, &log(&[]), 64, 0), (NO_ENTRY, full));
     assert_eq!(issue(office, &log(&[]), 63, 9999).1.ballots[2], ballot(&[0x023F_270F]));
@@ -218,7 +220,7 @@ fn outputs() {
 
 #[test]
 fn the_longest_message() {
-    let tail = long_tail(32);
+    let tail = in_turn(8, 5000, 32);
     let ballots: Vec<(usize, &[u32])> = (0..8).map(|office| (office, &tail[..])).collect();
     let office = record(3, &[65535; 8], &long_log(992), &ballots);
     let sent = message(&office, &log(&long_log(992)));

@@ -4,6 +4,7 @@ mod common;
 
 use common::*;
 use second::record::*;
+use second::samples::in_turn;
 use second::take::take;
 
 /// The number that office 1 of the paper's three, with an empty log, gives for the message.
@@ -38,12 +39,10 @@ fn spelled(settled: u16, body: &[u8]) -> Vec<u8> {
     bytes
 }
 
-/// A ballot as it stands in a message, its tail being d as often as said.
+/// A ballot as it stands in a message, with this many entries, the offices in turn.
 fn spelled_ballot(office: u8, length: u8, times: usize) -> Vec<u8> {
     let mut bytes = vec![0x42, 0x41, office, length];
-    for _ in 0..times {
-        bytes.extend(D.to_be_bytes());
-    }
+    bytes.extend(in_turn(3, 0, times).iter().flat_map(|value| value.to_be_bytes()));
     bytes
 }
 
@@ -120,7 +119,8 @@ fn ballots_rise_strictly_and_are_not_empty() {
     assert_eq!(given(&spelled(0, &[zero.clone(), zero.clone()].concat())), NO_MESSAGE);
     assert_eq!(given(&spelled(0, &spelled_ballot(0, 0, 0))), NO_MESSAGE);
     assert_eq!(given(&spelled(0, &spelled_ballot(3, 1, 1))), NO_MESSAGE);
-    assert_eq!(given(&spelled(0, &spelled_ballot(0, 32, 32))), DONE);
+    assert_eq!(given(&spelled(0, &spelled_ballot(0, 30, 30))), DONE);
+    assert_eq!(given(&spelled(0, &spelled_ballot(0, 31, 31))), NO_MESSAGE);
     assert_eq!(given(&spelled(0, &spelled_ballot(0, 33, 33))), NO_MESSAGE);
     assert_eq!(given(&spelled(0, &[0x4C, 0x47, 0, 6, 0, 7])), NO_MESSAGE);
     assert_eq!(given(&spelled(0, &[0x45, 0x4E])), NO_MESSAGE);
@@ -135,8 +135,8 @@ fn lengths_in_a_message() {
         (1023, 1, DONE),
         (1023, 2, NO_MESSAGE),
         (1024, 1, NO_MESSAGE),
-        (992, 32, DONE),
-        (993, 32, NO_MESSAGE),
+        (994, 30, DONE),
+        (995, 30, NO_MESSAGE),
     ] {
         let mut body = part.repeat(settled);
         if tail > 0 {

@@ -217,7 +217,8 @@ fn issues_and_frames_are_what_the_paper_says() {
         assert_eq!(settled_codes(record, log), (0, std::array::from_fn(|line| model.frames(line as u32).0)));
         let (number, after) = issue(*record, log, edited, code);
         let length = model.tails[own].len();
-        let expected = if model.log.len() + length == 1024 { 5 } else { 4 * u32::from(length == 32) };
+        let part = issued_by(own as u32, &model.tails[own]) == 32 / record.n;
+        let expected = if model.log.len() + length == 1024 { 5 } else { 11 * u32::from(part) };
         assert_eq!(number, expected);
         let mut tail = model.tails[own].clone();
         if number == 0 {
@@ -236,6 +237,16 @@ fn proper(e: u32, n: usize) -> bool {
     office < n as u32 && (line <= 63 && code <= 9999 || move_of_weight)
 }
 
+/// How many of the entries the office issued.
+fn issued_by(office: u32, entries: &[u32]) -> usize {
+    entries.iter().filter(|&&e| e / 16777216 == office).count()
+}
+
+/// "In any tail at most 32 / n entries, rounded down, may come from one office."
+fn fair(tail: &[u32], n: usize) -> bool {
+    (0..n as u32).all(|office| issued_by(office, tail) <= 32 / n)
+}
+
 /// Soundness, sentence by sentence.
 fn sound_by_sentences(sample: &Sample) -> bool {
     let Record { n, own, weights, present, settled, codes, ballots } = sample.record;
@@ -248,6 +259,7 @@ fn sound_by_sentences(sample: &Sample) -> bool {
     for (office, ballot) in ballots.iter().enumerate() {
         good &= ballot.len <= 32 && (office < n || ballot.len == 0) && ballot.len.saturating_add(settled) <= 1024;
         good &= (0..32).all(|at| if at < ballot.len { proper(ballot.cells[at], n) } else { ballot.cells[at] == 0 });
+        good = good && fair(&ballot.cells[..ballot.len], n);
     }
     let follow = || {
         let office = lists(sample);
@@ -298,7 +310,8 @@ fn believed(bytes: &[u8]) -> Option<Lists> {
         && lists.own < n
         && settled <= 1024
         && lists.log.iter().all(proper)
-        && lists.tails.iter().all(|tail| tail.len() <= 32 && settled + tail.len() <= 1024 && tail.iter().all(proper));
+        && lists.tails.iter().all(|tail| tail.len() <= 32 && settled + tail.len() <= 1024 && tail.iter().all(proper))
+        && lists.tails.iter().all(|tail| fair(tail, n));
     good.then_some(lists)
 }
 

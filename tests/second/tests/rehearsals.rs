@@ -160,7 +160,7 @@ fn a_script_is_answered_line_by_line() {
 fn fixed_seeds_show_all_that_a_rehearsal_can() {
     let mut shown = vec![];
     for kind in KINDS {
-        survey(&script(kind, 1, 3000).unwrap()[..], &mut shown).unwrap();
+        survey(&script(kind, 3, 5000).unwrap()[..], &mut shown).unwrap();
     }
     let shown = String::from_utf8(shown).unwrap();
     for sight in [
@@ -169,8 +169,8 @@ fn fixed_seeds_show_all_that_a_rehearsal_can() {
         "answer f 2",
         "answer i 0",
         "answer i 3",
-        "answer i 4",
         "answer i 5",
+        "answer i 11",
         "answer s 0",
         "answer t 0",
         "answer t 7",
@@ -178,7 +178,14 @@ fn fixed_seeds_show_all_that_a_rehearsal_can() {
         "answer e 0",
         "answer v 0",
         "answer v 3",
-        "issue at a full log with a full tail",
+        "issue at a full log with a full part",
+        "issue behind another office's full part",
+        "every part full among 1",
+        "every part full among 2",
+        "every part full among 3",
+        "every part full among 5",
+        "every part full among 7",
+        "every part full among 8",
         "election of two or more entries",
         "tie won",
         "tie won by fewer entries, the value being higher",

@@ -1,7 +1,7 @@
 //! Rounds of calls at freshly founded offices.
 
 use super::{weights, Script};
-use crate::record::{CODES, LINES, LOG, OFFICES, TAIL};
+use crate::record::{part, CODES, LINES, LOG, OFFICES};
 
 /// How often each call is made, in parts of their sum, and what is issued.
 struct Habit {
@@ -186,7 +186,7 @@ pub(super) fn ties(script: &mut Script) {
     for _ in 0..script.random.within(5, 60) {
         if script.random.percent(50) {
             let office = script.office();
-            for _ in 0..script.random.pick(&[1, 1, 1, 2, 3, 8, 31]) {
+            for _ in 0..script.random.pick(&[1, 1, 1, 2, 3, 8, 17]) {
                 issue_one(script, office, &CONTEST);
             }
             spread(script, office, 100);
@@ -201,16 +201,20 @@ pub(super) fn ties(script: &mut Script) {
     }
 }
 
-/// Offices none of which can win alone fill their tails, and fill what they took from others.
+/// Offices none of which can win alone fill their part of the tail. Others add behind it until each has its part.
 pub(super) fn tails(script: &mut Script) {
-    let n = script.random.within(2, 4);
+    let n = script.random.pick(&[1, 2, 2, 3, 3, 4, 5, 6, 7, 8]);
     let level = script.random.within(1, 50);
     script.found(&vec![level; n]);
+    let habit = Habit { moves: script.random.pick(&[0, 0, 30]), ..PLAIN };
     for _ in 0..script.random.within(2, 6) {
         let office = script.office();
-        let length = script.random.pick(&[TAIL - 3, TAIL - 2, TAIL - 1, TAIL, TAIL + 1, TAIL + 3]);
-        for _ in 0..length {
-            issue_one(script, office, &PLAIN);
+        if script.random.percent(40) {
+            relay(script, office, &habit);
+        } else {
+            let part = part(n);
+            let length = script.random.pick(&[part - 3, part - 1, part, part + 1]);
+            issue_often(script, office, &habit, length);
         }
         spread(script, office, 60);
         let second = script.office();
@@ -218,29 +222,54 @@ pub(super) fn tails(script: &mut Script) {
             script.call('e', &[second]);
         }
         for _ in 0..script.random.below(5) {
-            issue_one(script, second, &PLAIN);
+            issue_one(script, second, &habit);
         }
         for _ in 0..script.random.within(1, 25) {
-            call(script, &PLAIN);
+            call(script, &habit);
         }
     }
 }
 
-/// One office outweighs the others: the log grows to its end, by way of 992 entries and a tail of 32 behind them;
+fn issue_often(script: &mut Script, office: usize, habit: &Habit, times: usize) {
+    for _ in 0..times {
+        issue_one(script, office, habit);
+    }
+}
+
+/// Each office takes the tail from the one before it and fills its part behind it; most hear of what it became, and the
+/// first tries once more.
+fn relay(script: &mut Script, first: usize, habit: &Habit) {
+    let n = script.n();
+    let mut from = first;
+    for office in (0..n).map(|step| (first + step) % n) {
+        if office != first {
+            let slot = script.slot();
+            script.call('s', &[from, slot]);
+            script.call('t', &[office, slot]);
+        }
+        let times = part(n) + script.random.pick(&[0, 0, 1]);
+        issue_often(script, office, habit, times);
+        from = office;
+    }
+    spread(script, from, 90);
+    issue_one(script, first, habit);
+}
+
+/// One office outweighs the others: the log grows to its end, and the last entries are the office's part of a tail;
 /// others catch up late and in long pieces. An office alone has only itself to move weight to.
 pub(super) fn long(script: &mut Script) {
     let n = script.random.within(1, 3);
     let mut given = vec![1; n];
     given[0] = 10;
     script.found(&given);
-    let habit = Habit { moves: if n == 1 { 30 } else { 0 }, ..PLAIN };
+    let (habit, part) = (Habit { moves: if n == 1 { 30 } else { 0 }, ..PLAIN }, part(n));
     let mut rounds = 0;
     while script.left > 0 && script.settled(0) < LOG && rounds < 400 {
         rounds += 1;
-        let length = match (LOG - TAIL).checked_sub(script.settled(0)) {
-            Some(0) => TAIL + 3,
-            Some(missing @ 1..=TAIL) => missing,
-            _ => script.random.pick(&[5, 17, 31, TAIL, TAIL, TAIL + 1]),
+        let length = match (LOG - part).checked_sub(script.settled(0)) {
+            Some(0) => part + 3,
+            Some(missing) if missing <= part => missing,
+            _ => script.random.pick(&[5, part / 2, part - 1, part, part, part + 1]),
         };
         for _ in 0..length {
             issue_one(script, 0, &habit);

@@ -2,7 +2,7 @@
 
 use super::Trials;
 use crate::record::{entry, Ballot, Record, LOG};
-use crate::samples::Sample;
+use crate::samples::{in_turn, Sample};
 
 /// Document 01's weights unless said.
 pub(super) const WEIGHTS: [u16; 3] = [40, 35, 25];
@@ -107,7 +107,7 @@ fn tails(trials: &mut Trials) {
         }
     }
     trials.begin();
-    let full = run_of_entries(100, 32);
+    let full = in_turn(3, 100, 30);
     trials.sample(&Sample::new(1, &WEIGHTS, &[], &[(0, &full), (2, &full)]));
     trials.all_calls();
 }
@@ -228,7 +228,7 @@ fn outputs(trials: &mut Trials) {
 /// The longest messages there are: sent into outputs around their length, and taken.
 fn longest(trials: &mut Trials) {
     let settled = run_of_entries(0, LOG);
-    let tail = run_of_entries(5000, 32);
+    let tail = in_turn(8, 5000, 32);
     let ballots: Vec<(usize, &[u32])> = (0..8).map(|office| (office, &tail[..])).collect();
     for sample in [
         Sample::new(3, &[65535; 8], &settled[..992], &ballots),

@@ -1,9 +1,9 @@
 //! Document 01's cases A to L, and a further case for each mistake that they miss.
 
-use super::boundaries::{run_of_entries, A, B, C, D, WEIGHTS};
+use super::boundaries::{A, B, C, D, WEIGHTS};
 use super::Trials;
 use crate::record::{entry, LOG};
-use crate::samples::Sample;
+use crate::samples::{in_turn, Sample};
 
 /// Ballots: an office and its tail.
 type Ballots<'a> = &'a [(usize, &'a [u32])];
@@ -67,7 +67,7 @@ fn further_elections(trials: &mut Trials) {
 /// Elections that end at the end of the log.
 fn full_elections(trials: &mut Trials) {
     for settled in [992, 1000, 1022, 1023, 1024] {
-        let tail = run_of_entries(5000, 32.min(LOG - settled));
+        let tail = in_turn(2, 5000, 32.min(LOG - settled));
         trials.begin();
         trials.sample(&Sample::new(0, &[2, 1], &vec![A; settled], &[(0, &tail), (1, &tail)]));
         for line in ["E", "P", "E", "I 0 0", "V 1"] {
@@ -140,8 +140,8 @@ fn growing(trials: &mut Trials) {
 
 /// Paths that reach the end of the log, and tails of 31 and 32.
 fn full_takes(trials: &mut Trials) {
-    let settled = vec![A; LOG];
-    let path: Vec<u32> = [vec![A; 992], run_of_entries(5000, 32)].concat();
+    let weights = [40, 35, 25, 20];
+    let path = in_turn(4, 5000, LOG);
     for (theirs, their_tail, ours, our_tail) in [
         (992, 32, 1023, 0),
         (992, 32, 1024, 0),
@@ -155,9 +155,10 @@ fn full_takes(trials: &mut Trials) {
         (1024, 0, 1023, 1),
     ] {
         let tails = (&path[theirs..theirs + their_tail], &path[ours..ours + our_tail]);
-        let sender = Sample::new(0, &WEIGHTS, &path[..theirs], &[(0, tails.0), (2, tails.0)]);
-        let receiver = Sample::new(1, &WEIGHTS, &path[..ours], &[(1, tails.1), (2, tails.1)]);
+        let sender = Sample::new(0, &weights, &path[..theirs], &[(0, tails.0), (2, tails.0)]);
+        let receiver = Sample::new(1, &weights, &path[..ours], &[(1, tails.1), (2, tails.1)]);
         taking(trials, &sender, &receiver);
     }
-    taking(trials, &Sample::new(0, &WEIGHTS, &settled, &[]), &Sample::new(1, &WEIGHTS, &[A], &[(1, &settled[..32])]));
+    let (sender, receiver) = (Sample::new(0, &[2, 1], &[A; LOG], &[]), Sample::new(1, &[2, 1], &[A], &[(1, &[A; 16])]));
+    taking(trials, &sender, &receiver);
 }

@@ -2,7 +2,7 @@
 
 use super::boundaries::{A, B, C, D, WEIGHTS};
 use super::Trials;
-use crate::samples::Sample;
+use crate::samples::{issued_by, Sample};
 
 /// Bytes of a proper message that make it improper, or proper but refused: place and value.
 /// The message is that of `proper`; marks, sender, n, weights, settled length, entries, ballots, end.
@@ -103,17 +103,20 @@ fn ends(trials: &mut Trials) {
     }
 }
 
-/// A message of office 0 with the paper's weights, a settled log of d only and these ballots of d only,
-/// taken by office 1 with an empty log.
-fn spelled(trials: &mut Trials, settled: usize, ballots: &[(u8, u8, usize)]) {
+/// A message of office 0 of n, two or more, with weights 40, 35 and 25, the rest zero: a settled log of d only and these
+/// ballots, whose entries are d with the offices in turn; taken by office 1 with an empty log.
+fn spelled(trials: &mut Trials, n: usize, settled: usize, ballots: &[(u8, u8, usize)]) {
+    let mut weights = WEIGHTS.to_vec();
+    weights.resize(n, 0);
     trials.begin();
-    trials.sample(&Sample::new(1, &WEIGHTS, &[], &[(1, &[B])]));
-    let [high, low] = (settled as u16).to_be_bytes();
-    trials.message(&[0x53, 0x48, 0, 3, 0, 40, 0, 35, 0, 25, high, low]);
+    trials.sample(&Sample::new(1, &weights, &[], &[(1, &[B])]));
+    let head = [0x53, 0x48, 0, n as u8].into_iter().chain(weights.iter().flat_map(|weight| weight.to_be_bytes()));
+    trials.message(&head.chain((settled as u16).to_be_bytes()).collect::<Vec<_>>());
     trials.say(&format!("m {settled} 76 71 0 6 0 7"));
-    for (office, length, entries) in ballots {
+    for &(office, length, entries) in ballots {
         trials.say(&format!("m 1 66 65 {office} {length}"));
-        trials.say(&format!("m {entries} 0 6 0 7"));
+        let values = (0..entries).flat_map(|at| issued_by(at % n, D).to_be_bytes());
+        trials.append(1, &values.collect::<Vec<_>>());
     }
     trials.say("m 1 69 78");
     for line in ["T", "P", "V 6", "T"] {
@@ -123,7 +126,7 @@ fn spelled(trials: &mut Trials, settled: usize, ballots: &[(u8, u8, usize)]) {
 
 /// Ballots out of order, twice, empty, of an office that isn't there, shorter or longer than said.
 fn ballots(trials: &mut Trials) {
-    let cases: [&[(u8, u8, usize)]; 20] = [
+    let cases: [&[(u8, u8, usize)]; 22] = [
         &[],
         &[(0, 1, 1)],
         &[(0, 1, 1), (1, 1, 1), (2, 1, 1)],
@@ -137,29 +140,37 @@ fn ballots(trials: &mut Trials) {
         &[(3, 1, 1)],
         &[(255, 1, 1)],
         &[(0, 1, 1), (1, 1, 1), (2, 1, 1), (3, 1, 1)],
+        &[(0, 29, 29)],
+        &[(0, 30, 30)],
         &[(0, 31, 31)],
         &[(0, 32, 32)],
         &[(0, 33, 33)],
         &[(0, 255, 255)],
         &[(0, 2, 1)],
         &[(0, 1, 2)],
-        &[(0, 32, 33)],
+        &[(0, 30, 31)],
     ];
     for case in cases {
-        spelled(trials, 0, case);
+        spelled(trials, 3, 0, case);
+    }
+    for n in [4, 8] {
+        for length in [31, 32, 33] {
+            spelled(trials, n, 0, &[(1, length, usize::from(length))]);
+        }
+        spelled(trials, n, 0, &[(0, 32, 33)]);
     }
 }
 
 /// Settled lengths and tails around 1024.
 fn lengths(trials: &mut Trials) {
     for settled in [991, 992, 993, 1022, 1023, 1024, 1025] {
-        spelled(trials, settled, &[]);
+        spelled(trials, 4, settled, &[]);
         for tail in [1, 2, 31, 32] {
-            spelled(trials, settled, &[(2, tail, usize::from(tail))]);
+            spelled(trials, 4, settled, &[(2, tail, usize::from(tail))]);
         }
     }
-    spelled(trials, 1023, &[(0, 1, 1), (2, 2, 2)]);
-    spelled(trials, 1023, &[(0, 1, 1), (1, 1, 1), (2, 1, 1)]);
+    spelled(trials, 3, 1023, &[(0, 1, 1), (2, 2, 2)]);
+    spelled(trials, 3, 1023, &[(0, 1, 1), (1, 1, 1), (2, 1, 1)]);
 }
 
 /// Messages whose weights are other ones: their sum 0, fewer or more offices; each also from the receiver itself.

@@ -3,8 +3,8 @@
 use super::Trials;
 use crate::generate::weights;
 use crate::random::Random;
-use crate::record::{OFFICES, TAIL};
-use crate::samples::{break_one, Family, Sample};
+use crate::record::{Ballot, OFFICES, TAIL};
+use crate::samples::{break_one, crowded, Family, Sample};
 use crate::trial::BYTE_ROOM;
 
 /// Tries this many random records.
@@ -70,7 +70,8 @@ fn forge(random: &mut Random, sender: &mut Sample) {
     let Sample { record, log } = sender;
     let wrong = random.pick(&[(record.n as u32) << 24, 64 << 16, (64 + record.n as u32) << 16 | 1, 10_000, u32::MAX]);
     let ballot = &mut record.ballots[random.below(record.n)];
-    match random.below(4) {
+    match random.below(5) {
+        4 if record.n > 1 => *ballot = Ballot::of(&crowded(random, record.n)),
         0 => record.own = random.pick(&[record.n, 8, 255]),
         1 if record.settled > 0 => log[random.below(record.settled)] = wrong,
         2 if ballot.len > 0 => ballot.cells[random.below(ballot.len)] = wrong,
