@@ -34,29 +34,33 @@ extern "C" {
 /* Limits. */
 enum {
     JOUKERPAN_OFFICES = 8,     /* offices, at most; places of a record */
-    JOUKERPAN_TAIL = 32,       /* entries of a ballot's tail, at most */
+    JOUKERPAN_TAIL = 32,       /* entries of a ballot's tail, at most; of one office of n at most 32 / n, its part */
     JOUKERPAN_LINES = 64,      /* lines of the frame: 0 to 63; line 64 + j moves weight to office j */
     JOUKERPAN_CODES = 10000,   /* codes of a line: 0 to 9999; weight that a move moves: 1 to 9999 */
     JOUKERPAN_LOG = 1024,      /* settled entries, at most; words of a log, at least */
     JOUKERPAN_MESSAGE = 7032   /* bytes of a message, at most */
 };
 
-/* Numbers that a call answers. Where several hold, the smallest is given; issue alone tests 5 before 4. */
+/* Numbers that a call answers. Where several hold, the smallest is given. */
 enum {
     JOUKERPAN_DONE = 0,           /* the call was done */
     JOUKERPAN_UNSOUND = 1,        /* record unsound, or log below 1,024 words */
     JOUKERPAN_FOUNDING = 2,       /* founding: n, own office or weights outside the limits */
     JOUKERPAN_NO_ENTRY = 3,       /* line or code outside the limits: see issue; of a frame: line above 63 */
-    JOUKERPAN_TAIL_FULL = 4,      /* own tail is 32 long */
+    JOUKERPAN_TAIL_FULL = 4,      /* no longer given: an own tail that is 32 long has the own office's part (11) */
     JOUKERPAN_LOG_FULL = 5,       /* settled length and own tail length make 1,024 */
     JOUKERPAN_OUTPUT_SHORT = 6,   /* output shorter than the message */
     JOUKERPAN_NO_MESSAGE = 7,     /* message not of the layout, or a number in it outside the limits */
     JOUKERPAN_OTHER_OFFICES = 8,  /* message's n or founding weights differ from the record's */
     JOUKERPAN_OWN_MESSAGE = 9,    /* sender is the receiver's own office */
-    JOUKERPAN_OTHER_LOG = 10      /* neither settled log is a beginning of the other: stop (see above) */
+    JOUKERPAN_OTHER_LOG = 10,     /* neither settled log is a beginning of the other: stop (see above) */
+    JOUKERPAN_PART_FULL = 11      /* own tail has the own office's part, 32 / n entries of it: wait for votes */
 };
 
-/* A ballot: a tail of entries. Length 0 means none, or unknown. Unused cells are zero. */
+/*
+ * A ballot: a tail of entries, of which each of n offices has at most 32 / n, rounded down, edits and moves
+ * together. Length 0 means none, or unknown. Unused cells are zero.
+ */
 typedef struct {
     size_t len;
     uint32_t cells[JOUKERPAN_TAIL];
@@ -152,7 +156,8 @@ bool joukerpan_sound(joukerpan_record record, const uint32_t *log, size_t log_le
  * of weight, with line JOUKERPAN_LINES + j, j below n, and code 1 to 9999, the weight that the own office
  * gives to office j. A move has its effect where it is settled, and only if its office then has that much
  * and office j stays at or below 65535; else, or where j is the own office, it changes no weight. It
- * changes no code, and can lose as an edit can. Refused: 1, 3, 5, 4, tested in this order.
+ * changes no code, and can lose as an edit can. Refused: 1, 3, 5, 11. An office below its part of its own
+ * tail, 32 / n entries rounded down, is never stopped by others' entries, save by 5.
  */
 joukerpan_issued joukerpan_issue(joukerpan_record record, const uint32_t *log, size_t log_len,
                                  uint32_t line, uint32_t code);

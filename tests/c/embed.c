@@ -1,6 +1,6 @@
 /*
  * The engine through its C calls: the paper's rehearsal, some lettered cases, moves of weight, the frame whole, each
- * refusal once.
+ * refusal once, the parts of a tail.
  */
 #include <stdio.h>
 #include <stdlib.h>
@@ -267,16 +267,50 @@ static void issue_refusals(void) {
     expect("a move to office 3 of 3", issue(&x, JOUKERPAN_LINES + 3, 1), JOUKERPAN_NO_ENTRY);
     expect("line 256", issue(&x, 256, 1), JOUKERPAN_NO_ENTRY);
     expect("code 10000", issue(&x, 0, JOUKERPAN_CODES), JOUKERPAN_NO_ENTRY);
-    for (int i = 0; i < JOUKERPAN_TAIL; i++) {
+    for (int i = 0; i < JOUKERPAN_TAIL / 3; i++) {
         expect("issue", issue(&x, 63, 9999), JOUKERPAN_DONE);
     }
-    expect("entry 33", issue(&x, 63, 9999), JOUKERPAN_TAIL_FULL);
+    expect("entry 11 of one office among three", issue(&x, 63, 9999), JOUKERPAN_PART_FULL);
+    expect("a move is an entry too", issue(&x, JOUKERPAN_LINES, 1), JOUKERPAN_PART_FULL);
+    expect("3 before 11", issue(&x, JOUKERPAN_LINES, 0), JOUKERPAN_NO_ENTRY);
     founded(&x, 1, WEIGHTS, 3);
     for (int i = 0; i < JOUKERPAN_LOG; i++) {
         settle(&x, entry(2, 0, 1));
     }
     expect("entry 1025", issue(&x, 0, 0), JOUKERPAN_LOG_FULL);
     expect("3 before 5", issue(&x, 64, 0), JOUKERPAN_NO_ENTRY);
+}
+
+/* Each office has its part of a tail: 32 / n entries, rounded down. */
+static void parts(void) {
+    static office x, y;
+    uint8_t message[JOUKERPAN_MESSAGE];
+    const joukerpan_weights one = {{1}};
+    founded(&x, 0, WEIGHTS, 3), founded(&y, 1, WEIGHTS, 3);
+    for (uint32_t code = 0; code < 10; code++) {
+        expect("issue", issue(&x, 5, code), JOUKERPAN_DONE);
+    }
+    expect("take at 1", take(&y, message, send(&x, message, sizeof message)), JOUKERPAN_DONE);
+    expect("another office adds behind them", issue(&y, 5, 10), JOUKERPAN_DONE);
+    expect("take at 0", take(&x, message, send(&y, message, sizeof message)), JOUKERPAN_DONE);
+    expect("its own tail now", x.record.ballots[0].len, 11);
+    expect("the busy office waits", issue(&x, 5, 11), JOUKERPAN_PART_FULL);
+    size_t length = send(&x, message, sizeof message);
+    message[length - 2 - 4] = 0; /* the last entry's office: the eleventh of office 0 */
+    expect("one more than its part in a message", take(&y, message, length), JOUKERPAN_NO_MESSAGE);
+    x.record.ballots[0].cells[10] = entry(0, 5, 10);
+    expect("and in a record", joukerpan_sound(x.record, x.log, WORDS), false);
+
+    founded(&x, 0, one, 1);
+    for (int i = 0; i < JOUKERPAN_LOG - JOUKERPAN_TAIL; i++) {
+        settle(&x, entry(0, 0, 1));
+    }
+    for (int i = 0; i < JOUKERPAN_TAIL; i++) {
+        expect("issue", issue(&x, 63, 9999), JOUKERPAN_DONE);
+    }
+    expect("5 before 11", issue(&x, 63, 9999), JOUKERPAN_LOG_FULL);
+    x.record.settled--;
+    expect("all 32 are an only office's part", issue(&x, 63, 9999), JOUKERPAN_PART_FULL);
 }
 
 static void unsound_records(void) {
@@ -361,6 +395,7 @@ int main(void) {
     whole_frame();
     founding_refusals();
     issue_refusals();
+    parts();
     unsound_records();
     message_refusals();
     longest_message();

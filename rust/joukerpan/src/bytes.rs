@@ -2,7 +2,9 @@
 //!
 //! Numbers have four bytes, the most significant first. Every version begins with the mark and its own
 //! number and ends with the check sum of all bytes before it; what stands between is the version's.
-//! A record that widens gets a new name in `VERSIONS` and its fields in `to_bytes` and `from_bytes`.
+//! A record that widens gets a new name in `VERSIONS` and its fields in `to_bytes` and `from_bytes`. What a
+//! record may hold is no part of a version: bytes of this one whose record is not sound, or is no longer, are
+//! refused as such.
 
 use joukerpan_sys::{Ballot, Record, Summary, LOG, OFFICES, TAIL};
 
@@ -109,7 +111,8 @@ impl Office {
     /// # Errors
     ///
     /// [`Unreadable`] for any other bytes. The check sum is against accidents: who can compute it can
-    /// write any sound office.
+    /// write any sound office. An office that was stored before tails had parts, with more than 32 / n
+    /// entries of one office in a ballot, is [`Unreadable::Unsound`].
     ///
     /// ```
     /// use joukerpan::{Office, Unreadable};
@@ -233,6 +236,21 @@ mod tests {
             let mut numbers = numbers(&office());
             numbers[place] = number;
             assert_eq!(Office::from_bytes(&sealed(VERSION, &numbers)), Err(Unreadable::Unsound), "{place}");
+        }
+    }
+
+    #[test]
+    fn an_office_with_more_than_a_part_in_a_tail_is_no_longer_sound() {
+        let with_tail = |length: usize| {
+            let mut numbers = numbers(&office());
+            let own = BALLOTS + 1 + TAIL;
+            numbers[own] = length as u32;
+            numbers[own + 1..][..length].fill(0x0106_0007);
+            Office::from_bytes(&sealed(VERSION, &numbers))
+        };
+        assert_eq!(with_tail(10).unwrap().pending().len(), 10); // 32 / 3, rounded down
+        for length in [11, TAIL] {
+            assert_eq!(with_tail(length), Err(Unreadable::Unsound)); // engines before read it
         }
     }
 

@@ -173,7 +173,24 @@ impl Office {
     ///
     /// # Errors
     ///
-    /// [`Refused::NoEntry`], [`Refused::TailFull`] or [`Refused::LogFull`].
+    /// [`Refused::NoEntry`], [`Refused::LogFull`], or [`Refused::PartFull`] where the own ballot has this
+    /// office's part already: 32 entries by the number of offices, rounded down. An office below its part is
+    /// stopped by a full log alone, whatever others have in the ballot.
+    ///
+    /// ```
+    /// use joukerpan::{Office, Refused};
+    ///
+    /// let mut busy = Office::found(0, &[40, 35, 25])?;
+    /// for code in 0..10 {
+    ///     busy.issue(5, code)?;
+    /// }
+    /// assert_eq!(busy.issue(5, 10), Err(Refused::PartFull)); // 32 / 3, rounded down
+    ///
+    /// let mut other = Office::found(1, &[40, 35, 25])?;
+    /// other.take(&busy.message())?;
+    /// other.issue(5, 11)?; // behind the ten
+    /// # Ok::<(), Refused>(())
+    /// ```
     pub fn issue(&mut self, line: u32, code: u32) -> Result<(), Refused> {
         // SAFETY: the log names its words for as long as the call lasts; the engine only reads them.
         let issued = unsafe { engine::joukerpan_issue(self.record, self.log.as_ptr(), LOG, line, code) };
@@ -192,8 +209,8 @@ impl Office {
     ///
     /// # Errors
     ///
-    /// [`Refused::NoEntry`] unless `to` is an office and the weight 1 to 9999; [`Refused::TailFull`] or
-    /// [`Refused::LogFull`].
+    /// [`Refused::NoEntry`] unless `to` is an office and the weight 1 to 9999; [`Refused::LogFull`] or
+    /// [`Refused::PartFull`]: a move is one of the entries of this office's part.
     ///
     /// ```
     /// use joukerpan::{Office, Refused};

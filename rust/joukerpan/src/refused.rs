@@ -5,7 +5,7 @@ use std::fmt;
 
 /// Why a call was refused. A refused call changes no record, log or output.
 ///
-/// Where several causes hold, the one with the smallest number is given; issue alone tests 5 (the log is full) before 4.
+/// Where several causes hold, the one with the smallest number is given.
 ///
 /// ```
 /// use joukerpan::{Office, Refused};
@@ -28,7 +28,8 @@ pub enum Refused {
     /// The line or the code is outside the limits: lines 0 to 63 with codes 0 to 9999, and to issue a move
     /// of weight, 64 + an office's number with 1 to 9999. Frames have lines 0 to 63 alone.
     NoEntry = 3,
-    /// The own ballot has 32 entries that are not settled yet.
+    /// The own ballot has 32 entries that are not settled yet. No longer given: in such a ballot the office
+    /// has its part, so that [`Refused::PartFull`] holds (proved).
     TailFull = 4,
     /// The settled log and the own ballot make 1,024 entries.
     LogFull = 5,
@@ -46,10 +47,14 @@ pub enum Refused {
     /// is, an older state, a second copy or an altered message has been at work, and what is settled may
     /// be contradicted: stop the frame and print no more from it.
     OtherLog = 10,
+    /// The own ballot has this office's part of the entries that are not settled yet: of n offices each has
+    /// at most 32 / n of them, rounded down, edits and moves of weight together. Others may still add theirs.
+    /// It goes on when some of them are settled, or lost.
+    PartFull = 11,
 }
 
 /// Every refusal, by rising number.
-const ALL: [Refused; 10] = [
+const ALL: [Refused; 11] = [
     Refused::Unsound,
     Refused::Founding,
     Refused::NoEntry,
@@ -60,10 +65,11 @@ const ALL: [Refused; 10] = [
     Refused::OtherOffices,
     Refused::OwnMessage,
     Refused::OtherLog,
+    Refused::PartFull,
 ];
 
 impl Refused {
-    /// The number of the refusal, 1 to 10.
+    /// The number of the refusal, 1 to 11.
     pub fn number(self) -> u32 {
         self as u32
     }
@@ -105,6 +111,7 @@ impl Refused {
             Refused::OtherOffices => "the message is from other offices, or from offices with other founding weights",
             Refused::OwnMessage => "the message is the office's own",
             Refused::OtherLog => "neither settled log is a beginning of the other",
+            Refused::PartFull => "the own ballot has this office's part, 32 / n of the entries that are not settled yet",
         }
     }
 }
@@ -134,7 +141,7 @@ mod tests {
 
     #[test]
     fn no_other_number_is_a_refusal() {
-        for number in [0, 11, 256, u32::MAX] {
+        for number in [0, 12, 256, u32::MAX] {
             assert_eq!(Refused::from_number(number), None);
         }
     }

@@ -19,7 +19,9 @@ pub enum Unreadable {
     /// The bytes are whole, and an engine of another version wrote them. That engine reads them; nothing
     /// here converts them.
     OtherVersion(u32),
-    /// The bytes are whole, and what they hold is not a sound record with its log.
+    /// The bytes are whole, and what they hold is not a sound record with its log. So is an office stored by
+    /// an engine of before tails had parts, where one office has more than its part of a ballot; that engine
+    /// reads it.
     Unsound,
 }
 

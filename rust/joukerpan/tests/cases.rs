@@ -107,12 +107,73 @@ fn the_limits_of_an_issue() {
     assert_eq!(office.issue(67, 1), Err(Refused::NoEntry));
     assert_eq!(office.issue(0, 10_000), Err(Refused::NoEntry));
     assert_eq!(office.issue(u32::MAX, u32::MAX), Err(Refused::NoEntry));
-    for _ in 0..TAIL {
-        office.issue(63, 9999).unwrap();
+    for _ in 0..10 {
+        office.issue(63, 9999).unwrap(); // 32 / 3 of them, rounded down
     }
     let full = office.clone();
-    assert_eq!(office.issue(63, 9999), Err(Refused::TailFull));
+    assert_eq!(office.issue(63, 9999), Err(Refused::PartFull));
+    assert_eq!(office.move_weight(0, 1), Err(Refused::PartFull));
+    assert_eq!(office.issue(63, 10_000), Err(Refused::NoEntry));
     assert_eq!(office, full);
+}
+
+#[test]
+fn the_part_of_an_office_among_one_to_eight() {
+    for (offices, part) in (1..).zip([32, 16, 10, 8, 6, 5, 4, 4]) {
+        let mut office = Office::found(offices - 1, &vec![1; offices]).unwrap();
+        for at in 0..part {
+            if at % 2 == 0 {
+                office.issue(at, at).unwrap();
+            } else {
+                office.move_weight(0, 1).unwrap(); // a move is one of the part
+            }
+        }
+        assert_eq!(office.issue(0, 0), Err(Refused::PartFull), "{offices}");
+        assert_eq!(office.pending().len(), part as usize);
+    }
+}
+
+#[test]
+fn a_busy_office_waits_while_others_go_on() {
+    let [mut busy, mut other] = [0, 1].map(|own| Office::found(own, &WEIGHTS).unwrap());
+    for code in 0..10 {
+        busy.issue(5, code).unwrap();
+    }
+    other.take(&busy.message()).unwrap();
+    for code in 10..20 {
+        other.issue(5, code).unwrap(); // behind the ten of the busy office
+    }
+    assert_eq!(other.issue(5, 20), Err(Refused::PartFull));
+    busy.take(&other.message()).unwrap();
+    assert_eq!((tail(&busy, 0).len(), busy.issue(5, 20)), (20, Err(Refused::PartFull)));
+    assert_eq!(busy.elect(), 20); // 75 above 25
+    assert_eq!(busy.issue(5, 20), Ok(()));
+}
+
+/// An entry of an office, one of many.
+fn any(office: usize, at: usize) -> Entry {
+    Entry { office: office as u8, line: (at % 64) as u8, code: at as u16 }
+}
+
+#[test]
+fn a_tail_with_more_than_a_part_is_no_message_and_not_sound() {
+    let parts: Vec<Entry> = (0..30).map(|at| any(at % 3, at)).collect();
+    let sender = office(0, &WEIGHTS, &[], &[(0, &parts)]);
+    let mut one = Office::found(1, &WEIGHTS).unwrap();
+    one.take(&sender.message()).unwrap();
+    assert_eq!(tail(&one, 1), parts);
+    assert_eq!(one.issue(5, 1), Err(Refused::PartFull));
+
+    let mut message = sender.message();
+    let second = message.len() - 2 - 4 * 29; // before it the first entry's value, behind it the end mark
+    message[second] = 0; // was office 1's: office 0 has eleven now, scattered over the tail
+    let before = one.clone();
+    assert_eq!(one.take(&message), Err(Refused::NoMessage));
+    assert_eq!(one, before);
+
+    let (mut record, log) = sender.into_parts();
+    record.ballots[0].cells[1] = any(0, 1).value();
+    assert_eq!(Office::from_parts(record, log), Err(Refused::Unsound));
 }
 
 #[test]
@@ -126,8 +187,17 @@ fn a_full_log() {
 }
 
 #[test]
+fn a_full_log_is_told_before_a_full_part() {
+    for (settled, wanted) in [(LOG - TAIL - 1, Refused::PartFull), (LOG - TAIL, Refused::LogFull)] {
+        let mut office = office(0, &[1], &vec![A; settled], &[(0, &[D; TAIL])]);
+        assert_eq!(office.issue(0, 1), Err(wanted));
+    }
+}
+
+#[test]
 fn the_longest_message() {
-    let all: Vec<(usize, &[Entry])> = (0..OFFICES).map(|place| (place, &[A; TAIL][..])).collect();
+    let tail: Vec<Entry> = (0..TAIL).map(|at| any(at % OFFICES, at)).collect();
+    let all: Vec<(usize, &[Entry])> = (0..OFFICES).map(|place| (place, &tail[..])).collect();
     let office = office(0, &[1; OFFICES], &[A; LOG - TAIL], &all);
     let mut output = [0xEE; MESSAGE_MAX];
     assert_eq!(office.send(&mut output[1..]), Err(Refused::OutputShort));
@@ -153,7 +223,7 @@ fn messages_that_are_refused() {
 #[test]
 fn parts_that_are_not_sound() {
     let sound = office(1, &WEIGHTS, &[A], &[(1, &[D])]);
-    let breaks: [fn(&mut Record); 11] = [
+    let breaks: [fn(&mut Record); 12] = [
         |record| record.n = 9,
         |record| record.own = 3,
         |record| record.weights = [0; OFFICES],
@@ -165,6 +235,10 @@ fn parts_that_are_not_sound() {
         |record| record.settled = 2,
         |record| record.ballots[2].len = 33,
         |record| record.ballots[7].len = 1,
+        |record| {
+            record.ballots[2].len = 11;
+            record.ballots[2].cells[..11].fill(A.value());
+        },
     ];
     for broken in breaks {
         let (mut record, mut log) = sound.clone().into_parts();

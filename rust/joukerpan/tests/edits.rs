@@ -6,7 +6,7 @@ mod dice;
 mod lost;
 
 use dice::Dice;
-use joukerpan::{Entry, Office, Refused};
+use joukerpan::{Entry, Office, Refused, TAIL};
 use lost::lost;
 
 const WEIGHTS: [u16; 3] = [40, 35, 25];
@@ -121,7 +121,8 @@ fn what_is_lost_is_what_left_the_own_path() {
         let mut sent = vec![offices[0].message()];
         for _ in 0..120 {
             let office = &mut offices[dice.below(n)];
-            if dice.below(3) == 0 && office.pending().len() < 8 {
+            if dice.below(3) == 0 && office.pending().len() < TAIL / n {
+                // below its part nothing stops it
                 match dice.below(4) {
                     0 => office.move_weight(dice.below(n), 1 + dice.below(3) as u16).unwrap(),
                     _ => office.issue(dice.below(4) as u32, dice.below(3) as u32).unwrap(),

@@ -4,7 +4,7 @@
 mod dice;
 
 use dice::Dice;
-use joukerpan::{Entry, EntryKind, Office, Refused, LINES};
+use joukerpan::{Entry, EntryKind, Office, Refused, LINES, TAIL};
 
 type Frame = [u32; LINES as usize];
 
@@ -134,7 +134,7 @@ fn the_frame_is_kept_in_every_history() {
         for _ in 0..80 {
             let office = &mut offices[dice.below(n)];
             let before = frame(office);
-            if dice.below(3) == 0 && office.pending().len() < 8 {
+            if dice.below(3) == 0 && office.pending().len() < TAIL / n {
                 match dice.below(3) {
                     0 => office.move_weight(dice.below(n), 1 + dice.below(6) as u16).unwrap(),
                     _ => office.issue(dice.below(LINES as usize) as u32, dice.below(10_000) as u32).unwrap(),

@@ -6,7 +6,7 @@ mod dice;
 mod lost;
 
 use dice::Dice;
-use joukerpan::{Ballot, Entry, EntryKind, Office, Refused, LINES};
+use joukerpan::{Ballot, Entry, EntryKind, Office, Refused, LINES, TAIL};
 use lost::lost;
 
 const WEIGHTS: [u16; 3] = [40, 35, 25];
@@ -143,9 +143,9 @@ fn messages_carry_the_founding_weights() {
 #[test]
 fn the_limits_of_a_move() {
     for n in 1..=8 {
-        let mut office = Office::found(0, &vec![1; n]).unwrap();
         let last = LINES + n as u32 - 1;
         for line in [0, 63, 64, last, last + 1, 71, 72, 127, 128, 255, 256, 64 << 8, u32::MAX] {
+            let mut office = Office::found(0, &vec![1; n]).unwrap();
             for code in [0, 1, 9999, 10_000, 65_535, 65_536, u32::MAX] {
                 let proper = code <= 9999 && (line < LINES || line <= last && code > 0);
                 let issued = office.issue(line, code);
@@ -197,7 +197,7 @@ fn offices_with_equal_logs_have_equal_weights() {
         let mut sent = vec![offices[0].message()];
         for _ in 0..120 {
             let office = &mut offices[dice.below(n)];
-            if dice.below(3) == 0 && office.pending().len() < 8 {
+            if dice.below(3) == 0 && office.pending().len() < TAIL / n {
                 match dice.below(2) {
                     0 => office.move_weight(dice.below(n), 1 + dice.below(6) as u16).unwrap(),
                     _ => office.issue(dice.below(4) as u32, dice.below(3) as u32).unwrap(),

@@ -43,7 +43,7 @@ fn work(office: &mut Office, event: Event) -> Result<(usize, usize), Refused> {
     match event {
         Event::Message(message) => office.take(&message)?,
         Event::Turn(Some((line, code)), _done) => match office.issue(line, code) {
-            Err(Refused::TailFull) => {} // the supervisor waits until some of her edits are decided
+            Err(Refused::PartFull) => {} // the supervisor waits until some of her edits are decided
             issued => {
                 issued?;
                 (before, edits) = (office.clone(), 1);
