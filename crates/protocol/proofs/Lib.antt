@@ -20,6 +20,7 @@ pub mod FiveFirst
 pub mod World
 pub mod Lawful
 pub mod History
+pub mod OneCall
 pub mod Steady
 pub mod Known
 pub mod Issued
@@ -34,3 +35,7 @@ pub mod Longest
 pub mod OneOrder
 pub mod Machine
 pub mod Held
+-- request (vi): messages twice and in either order
+pub mod Twice
+pub mod Join
+pub mod Swap

@@ -3,51 +3,25 @@
 -- It holds of every call from every state. Assumes nothing.
 use mathlib.Core.Path.{_≡_, sym, subst}
 use mathlib.Core.List.{List, [], _∷_, _++_}
-use mathlib.Core.Option.{Option, none, some}
-use mathlib.Core.Bool.{_&&_}
 use mathlib.Core.Logic.{_⊎_, inl, inr}
-use Prim.Native.Nat.{ℕ, _<_}
-use lib.Dec.{eqb}
-use lib.ListN.{length, getElem?}
-use Rattle.protocol.specs.Entry.{value}
+use Prim.Native.Nat.{ℕ}
 use Rattle.protocol.specs.Beginning.{_⊑_}
 use Rattle.protocol.specs.Vote.{Rule}
-use Rattle.protocol.specs.Office.{Office, Message, fresh, path}
-use Rattle.protocol.specs.Issue.{withIssue}
-use Rattle.protocol.specs.Elect.{withElect}
-use Rattle.protocol.proofs.World.{World, Call, issue, send, take, elect, idle, at, put, names, taking, refusal, done, step}
-use Rattle.lists.proofs.Tests.{if-cases}
+use Rattle.protocol.specs.Office.{path}
+use Rattle.protocol.proofs.World.{World, Call, at, step}
 use Rattle.protocol.proofs.Beginning.{⊑-trans, ⊑-⊏-trans, snoc-⊏, snoc-same}
-use Rattle.protocol.proofs.Office.{Moves, moves-refl, moves-trans, OfficeMoves, set-cases, issue-moves, take-moves, elect-moves}
+use Rattle.protocol.proofs.Office.{Moves, moves-refl, moves-trans, OfficeMoves, issue-moves, take-moves, elect-moves}
+use Rattle.protocol.proofs.OneCall.{step-relates}
 use Rattle.protocol.proofs.History.{Past, now, before, past-trans, past-comparable, after, logAt, ownAt}
 
 -- ── one call ──
-put-moves : (w : World) (k : ℕ) (o : Office) (j : ℕ) → ((i : ℕ) → OfficeMoves i (at w k) o) → OfficeMoves j (at w j) (at (put w k o) j)
-put-moves w k o j f = go (set-cases (w .offices) k o fresh j)
-  where
-    go : (at (put w k o) j ≡ at w j) ⊎ ((j ≡ k) × (k < length (w .offices)) × (at (put w k o) j ≡ o)) → OfficeMoves j (at w j) (at (put w k o) j)
-    go (inl e) = subst (λ (x : Office). OfficeMoves j (at w j) x) (sym e) (moves-refl (at w j .log) (path (at w j) j))
-    go (inr e) =
-        subst (λ (x : Office). OfficeMoves j (at w j) x) (sym (e .2))
-        (subst (λ (i : ℕ). OfficeMoves j (at w i) o) (sym (e .0)) (f j))
-
-taking-moves : (k : ℕ) (m : Option Message) (o : Office) (j : ℕ) → OfficeMoves j o (taking k m o)
-taking-moves k none o j = moves-refl (o .log) (path o j)
-taking-moves k (some m) o j = take-moves k m o j
-
-done-moves : (rule : Rule) (w : World) (c : Call) (j : ℕ) → OfficeMoves j (at w j) (at (done rule w c) j)
-unfolding done
-done-moves rule w (issue k line code) j = put-moves w k (withIssue k (value k line code) (at w k)) j (issue-moves k (value k line code) (at w k))
-done-moves rule w (send k room) j = moves-refl (at w j .log) (path (at w j) j)
-done-moves rule w (take k m) j = put-moves w k (taking k (getElem? (w .sent) m) (at w k)) j (taking-moves k (getElem? (w .sent) m) (at w k))
-done-moves rule w (elect k) j = put-moves w k (withElect rule (at w k)) j (elect-moves rule (at w k))
-done-moves rule w idle j = moves-refl (at w j .log) (path (at w j) j)
-
 pub step-moves : (rule : Rule) (w : World) (c : Call) (j : ℕ) → OfficeMoves j (at w j) (at (step rule w c) j)
-unfolding step
-step-moves rule w c j =
-    if-cases (λ x. OfficeMoves j (at w j) (at x j)) (names w c && eqb (refusal w c) 0) (done rule w c) w
-    (λ _. done-moves rule w c j) (λ _. moves-refl (at w j .log) (path (at w j) j))
+step-moves rule w c j = step-relates rule (OfficeMoves j) (record {
+  alone = λ o. moves-refl (o .log) (path o j);
+  issued = λ k e o. issue-moves k e o j;
+  taken = λ k m o. take-moves k m o j;
+  elected = λ o. elect-moves rule o j;
+}) w c j
 
 -- ── all calls ──
 module _ (rule : Rule) (n : ℕ) where
