@@ -81,7 +81,7 @@ module _ (n : ℕ) (ws : List ℕ) (w : World) (s : SoundWorld n ws w) where
       go : (x : Option Replica) → replicaAt w k ≡ x → (y : Option (List ℕ)) → messageAt w m ≡ y → (N x y ≡ 0) ⊎ ((N x y ≡ 9) ⊎ (N x y ≡ 10))
       go none e y f = inl refl
       go (some d) e none f = inl refl
-      go (some d) e (some b) f = rw (take-number n ws k d (s .each k d e) b (s .spelled m b f)) (refuseTake-is k (means b) (says d))
+      go (some d) e (some b) f = rw (take-number n ws k d (s .each k d e) b (s .readable m b f)) (refuseTake-is k (means b) (says d))
 
   takes : (k m : ℕ) → (number w (take k m) ≡ 10 → ⊥) → (number w (take k m) ≡ 0) ⊎ (number w (take k m) ≡ 9)
   takes k m never = go (take-is k m)
@@ -142,7 +142,7 @@ module _ (n : ℕ) (ws : List ℕ) (w : World) (s : SoundWorld n ws w) where
           → onSome x w (λ d. onSome y w (λ b. put w k (takeReplica d b .held) (takeReplica d b .words))) ≡ w
       go none e y f h = refl
       go (some d) e none f h = refl
-      go (some d) e (some b) f h = put-same k d (takeReplica d b) e (take-refused n ws k d (s .each k d e) b (s .spelled m b f) h)
+      go (some d) e (some b) f h = put-same k d (takeReplica d b) e (take-refused n ws k d (s .each k d e) b (s .readable m b f) h)
   refused (elect k) h = absurd (h (elects k))
 
 -- ── what the settled log has done ──

@@ -28,7 +28,7 @@ module _ (n : ℕ) (ws : List ℕ) (k : ℕ) (d : Replica) (m : SoundReplica n w
   unfolding electOf pick
   elect-number = rw (sound-true (d .held) (d .words) (m .sound))
 
-  elect-replica : electReplica d ≡ pick true (holds d elected) d
+  pub elect-replica : electReplica d ≡ pick true (holds d elected) d
   unfolding electOf electWords pick
   elect-replica = rw (sound-true (d .held) (d .words) (m .sound)) (ap (λ (l : List ℕ). holds d (withElect (bySettled l) (says d))) (m .weights))
 

@@ -27,7 +27,7 @@ use Rattle.agreement.proofs.Places.{nothing, there, map-there}
 use Rattle.agreement.proofs.View.{view, means, sendDone, callOf, SoundReplica, SoundWorld, put-sound, post-sound, view-there, view-at, view-length, put-view}
 use Rattle.agreement.proofs.Founded.{foundReplica, founding-sound, found-says}
 use Rattle.agreement.proofs.Issued.{issueReplica, issue-sound, issue-says}
-use Rattle.agreement.proofs.Sent.{send-spelled, send-means}
+use Rattle.agreement.proofs.Sent.{send-readable, send-means}
 use Rattle.agreement.proofs.Taken.{takeReplica, take-sound, take-says}
 use Rattle.agreement.proofs.Elected.{electReplica, elect-sound, elect-says}
 
@@ -53,7 +53,7 @@ module _ (n : ℕ) (ws : List ℕ) (start : World) (f : Founded n ws start) wher
   sound-start = record {
     offices = f .offices;
     each = λ k d e. subst (λ (x : Replica). SoundReplica n ws k x) (founded-so k d e) (founding-sound n ws k (d .words) (f .founded k d e .0));
-    spelled = λ m s e. absurd (nothing s (ap (λ (l : List (List ℕ)). getElem? l m) (sym (f .silent)) ∙ e));
+    readable = λ m s e. absurd (nothing s (ap (λ (l : List (List ℕ)). getElem? l m) (sym (f .silent)) ∙ e));
   }
 
   start-says : (k : ℕ) (d : Replica) → replicaAt start k ≡ some d → says d ≡ fresh
@@ -126,7 +126,7 @@ module _ (n : ℕ) (ws : List ℕ) (w : World) (s : SoundWorld n ws w) where
       go (some d) e none f = step-idle rule (view w)
       go (some d) e (some b) f =
           let i = means b in
-          put-view w k d e (takeReplica d b) (eqb (refuseTake k i (says d)) 0) (withTake k i (says d)) (take-says n ws k d (s .each k d e) b (s .spelled m b f))
+          put-view w k d e (takeReplica d b) (eqb (refuseTake k i (says d)) 0) (withTake k i (says d)) (take-says n ws k d (s .each k d e) b (s .readable m b f))
           ∙ ap₂ (λ (o : Office) (x : Option Message). pick (eqb (P.refuseTaking k x o) 0) (P.put (view w) k (P.taking k x o)) (view w))
           (sym (view-at w k d e)) (sym (map-there means (w .sent) m b f))
           ∙ step-named rule (view w) (P.take k m) (ap₂ _&&_ (view-there w k d e) (sent b f))
@@ -149,7 +149,7 @@ module _ (n : ℕ) (ws : List ℕ) (w : World) (s : SoundWorld n ws w) where
   moves (take k m) = take-moves k m
   moves (elect k) = elect-moves k
 
-  -- every call keeps the records sound and the messages spelled
+  -- every call keeps the records sound and the messages readable
   pub keeps : (c : Call) → SoundWorld n ws (step w c)
   unfolding step
   keeps (issue k line code) = go (replicaAt w k) refl
@@ -163,7 +163,7 @@ module _ (n : ℕ) (ws : List ℕ) (w : World) (s : SoundWorld n ws w) where
       go none e = s
       go (some d) e =
           pick-cases (SoundWorld n ws) (sendDone d out) (post w (posted d out)) w
-          (λ q. post-sound n ws w (posted d out) s (send-spelled n ws k d (s .each k d e) out (eqb-true (sendOf (d .held) (d .words) out .number) 0 q)))
+          (λ q. post-sound n ws w (posted d out) s (send-readable n ws k d (s .each k d e) out (eqb-true (sendOf (d .held) (d .words) out .number) 0 q)))
           (λ _. s)
   keeps (take k m) = go (replicaAt w k) refl (messageAt w m) refl
     where
@@ -171,7 +171,7 @@ module _ (n : ℕ) (ws : List ℕ) (w : World) (s : SoundWorld n ws w) where
           → SoundWorld n ws (onSome x w (λ d. onSome y w (λ b. put w k (takeReplica d b .held) (takeReplica d b .words))))
       go none e y f = s
       go (some d) e none f = s
-      go (some d) e (some b) f = put-sound n ws w k (takeReplica d b) s (take-sound n ws k d (s .each k d e) b (s .spelled m b f))
+      go (some d) e (some b) f = put-sound n ws w k (takeReplica d b) s (take-sound n ws k d (s .each k d e) b (s .readable m b f))
   keeps (elect k) = go (replicaAt w k) refl
     where
       go : (x : Option Replica) → replicaAt w k ≡ x → SoundWorld n ws (onSome x w (λ d. put w k (electReplica d .held) (electReplica d .words)))

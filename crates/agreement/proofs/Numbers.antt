@@ -48,7 +48,7 @@ module _ (n : ℕ) (ws : List ℕ) (w : World) (s : SoundWorld n ws w) where
       go none e y f = refl
       go (some d) e none f = refl
       go (some d) e (some b) f =
-          take-number n ws k d (s .each k d e) b (s .spelled m b f)
+          take-number n ws k d (s .each k d e) b (s .readable m b f)
           ∙ ap₂ (λ (o : Office) (x : Option Message). P.refuseTaking k x o) (sym (view-at w k d e)) (sym (map-there means (w .sent) m b f))
   numbers (elect k) = go (replicaAt w k) refl
     where

@@ -1,4 +1,4 @@
--- A done send at a replica posts the spelling of what the replica says, and a send at a replica is refused with 6 alone. Assumes nothing.
+-- A done send at a replica posts bytes that read as what the replica says, and a send at a replica is refused with 6 alone. Assumes nothing.
 use mathlib.Core.Path.{_≡_, refl, sym, ap, ap₂, _∙_}
 use mathlib.Core.Bool.{Bool, true, false}
 use mathlib.Core.List.{List}
@@ -8,13 +8,15 @@ use lib.Dec.{ltb}
 use lib.ListN as L
 use lib.ListN.{length}
 use Rattle.lists.specs.Tests.{pick}
+use Rattle.spelling.specs.Reading.{reading}
+use Rattle.spelling.proofs.Laws.{reading-spelling}
 use Rattle.writer.specs.Written.{contentOf as contentBy}
 use Rattle.frame.specs.Sending.{contentOf, messageOf, sendNumber, sendOf}
 use Rattle.frame.proofs.Sound.{sound-true}
 use Rattle.frame.proofs.Send.{content-valid, content-message, send-wrote}
 use Rattle.agreement.specs.World.{Replica, posted}
 use Rattle.agreement.specs.Demand.{says}
-use Rattle.agreement.proofs.View.{means, SoundReplica, Spelled, means-content}
+use Rattle.agreement.proofs.View.{means, SoundReplica, Readable, means-content}
 
 module _ (n : ℕ) (ws : List ℕ) (k : ℕ) (d : Replica) (m : SoundReplica n ws k d) (out : List ℕ) where
   pub send-number : (sendOf (d .held) (d .words) out .number ≡ 0) ⊎ (sendOf (d .held) (d .words) out .number ≡ 6)
@@ -26,18 +28,17 @@ module _ (n : ℕ) (ws : List ℕ) (k : ℕ) (d : Replica) (m : SoundReplica n w
       go false = inl refl
 
   module _ (done : sendOf (d .held) (d .words) out .number ≡ 0) where
-    pub send-spelled : Spelled n ws (posted d out)
+    pub send-readable : Readable n ws (posted d out)
     unfolding sendOf contentBy
-    send-spelled = record {
+    send-readable = record {
       content = contentOf (d .held) (d .words);
-      bytes = sym (send-wrote (d .held) (d .words) out done);
-      valid = content-valid (d .held) (d .words) (m .sound);
+      reads = ap reading (send-wrote (d .held) (d .words) out done) ∙ reading-spelling (contentOf (d .held) (d .words)) (content-valid (d .held) (d .words) (m .sound));
       count = m .count;
       weights = ap₂ L.take (m .count) (m .weights);
     }
 
     pub send-means : means (posted d out) ≡ record { sender = k; state = says d }
-    unfolding send-spelled
+    unfolding send-readable
     send-means =
-        means-content n ws (posted d out) send-spelled ∙ content-message (d .held) (d .words) (m .sound)
+        means-content n ws (posted d out) send-readable ∙ content-message (d .held) (d .words) (m .sound)
         ∙ ap (λ (j : ℕ). record { sender = j; state = says d }) (m .own)

@@ -3,7 +3,6 @@
 use mathlib.Core.Path.{_≡_, refl, sym, ap, ap₂, subst, _∙_}
 use mathlib.Core.Bool.{Bool, true, false}
 use mathlib.Core.List.{List}
-use mathlib.Core.Option.{some}
 use Prim.Native.Nat.{ℕ}
 use lib.Dec.{eqb}
 use lib.ListN as L
@@ -16,8 +15,7 @@ use Rattle.protocol.proofs.Limits.{Fine, fine, take-done-fine}
 use Rattle.lists.specs.Tests.{same}
 use Rattle.lists.proofs.Same.{same-refl}
 use Rattle.spelling.specs.Content.{asMessage}
-use Rattle.spelling.specs.Reading.{reading}
-use Rattle.spelling.proofs.Laws.{reading-spelling}
+use Rattle.spelling.proofs.Laws.{reading-valid}
 use Rattle.spelling.proofs.Valid.{valid-office}
 use Rattle.frame.specs.State.{holding}
 use Rattle.ballots.specs.Ballots.{wordsWith}
@@ -25,23 +23,19 @@ use Rattle.frame.specs.Taking.{sameOffices, takeNumber, takenOffice, takeOf, ta
 use Rattle.frame.proofs.Sound.{sound-true}
 use Rattle.agreement.specs.World.{Replica}
 use Rattle.agreement.specs.Demand.{says}
-use Rattle.agreement.proofs.View.{means, SoundReplica, Spelled, means-content}
+use Rattle.agreement.proofs.View.{means, SoundReplica, Readable, means-content}
 use Rattle.agreement.proofs.Held.{holds, replica-fine, own-below, moved-says, moved-sound, moved-still}
 
 -- the replica after the call
 abbrev pub takeReplica : Replica → List ℕ → Replica
 takeReplica d s = record { held = takeOf (d .held) (d .words) s .«record»; words = takeWords (d .held) (d .words) s }
 
-module _ (n : ℕ) (ws : List ℕ) (k : ℕ) (d : Replica) (m : SoundReplica n ws k d) (s : List ℕ) (x : Spelled n ws s) where
+module _ (n : ℕ) (ws : List ℕ) (k : ℕ) (d : Replica) (m : SoundReplica n ws k d) (s : List ℕ) (x : Readable n ws s) where
   abbrev refused : ℕ
   refused = refuseTake k (means s) (says d)
 
   abbrev taken : Office
   taken = withTake k (means s) (says d)
-
-  -- the message is read as what was spelled
-  read : reading s ≡ some (x .content)
-  read = ap reading (sym (x .bytes)) ∙ reading-spelling (x .content) (x .valid)
 
   same-offices : sameOffices (d .held) (x .content) ≡ true
   unfolding sameOffices
@@ -55,14 +49,14 @@ module _ (n : ℕ) (ws : List ℕ) (k : ℕ) (d : Replica) (m : SoundReplica n w
   pub take-number : takeOf (d .held) (d .words) s .number ≡ refused
   unfolding takeOf takeNumber pick
   take-number =
-      rw (sound-true (d .held) (d .words) (m .sound), read, same-offices)
+      rw (sound-true (d .held) (d .words) (m .sound), x .reads, same-offices)
       (ap₂ (λ (j : ℕ) (i : Message). refuseTake j i (says d)) (m .own) (sym (means-content n ws s x)))
 
   office-is : takenOffice (d .held) (d .words) s ≡ taken
   unfolding takenOffice
-  office-is = rw read (ap₂ (λ (j : ℕ) (i : Message). withTake j i (says d)) (m .own) (sym (means-content n ws s x)))
+  office-is = rw (x .reads) (ap₂ (λ (j : ℕ) (i : Message). withTake j i (says d)) (m .own) (sym (means-content n ws s x)))
 
-  take-replica : takeReplica d s ≡ pick (eqb refused 0) (holds d taken) d
+  pub take-replica : takeReplica d s ≡ pick (eqb refused 0) (holds d taken) d
   unfolding takeOf takeWords pick
   take-replica = ap₂ (λ (j : ℕ) (o : Office). D (eqb j 0) o) take-number office-is ∙ by (eqb refused 0)
     where
@@ -80,7 +74,7 @@ module _ (n : ℕ) (ws : List ℕ) (k : ℕ) (d : Replica) (m : SoundReplica n w
   message-fine : Fine n (means s .state)
   message-fine =
       subst (λ (i : Message). Fine n (i .state)) (sym (means-content n ws s x))
-      (subst (λ (j : ℕ). Fine j (asMessage (x .content) .state)) (x .count) (fine (x .content .n) (asMessage (x .content) .state) (valid-office (x .content) (x .valid))))
+      (subst (λ (j : ℕ). Fine j (asMessage (x .content) .state)) (x .count) (fine (x .content .n) (asMessage (x .content) .state) (valid-office (x .content) (reading-valid s (x .content) (x .reads)))))
 
   pub take-sound : SoundReplica n ws k (takeReplica d s)
   take-sound = moved-sound n ws k d m (eqb refused 0) taken (takeReplica d s) take-replica

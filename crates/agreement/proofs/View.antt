@@ -1,6 +1,6 @@
 -- The world as the protocol's world of offices and messages, its calls as the protocol's calls, and what every world of the list keeps:
--- each office's record is sound, is office k's and has the founding's n and weights, and each sent message is the spelling of a valid
--- content with that n and those weights. Assumes nothing.
+-- each office's record is sound, is office k's and has the founding's n and weights, and each sent message reads as a content with that n and
+-- those weights. Assumes nothing.
 use mathlib.Core.Path.{_≡_, sym, ap, subst, _∙_}
 use mathlib.Core.Bool.{Bool, true, false}
 use mathlib.Core.List.{List, map}
@@ -16,10 +16,9 @@ use Rattle.lists.specs.Tests.{pick}
 use Rattle.protocol.specs.Office.{Office, Message, fresh}
 use Rattle.protocol.proofs.World as P
 use Rattle.lists.proofs.Tests.{map-set}
-use Rattle.spelling.specs.Content.{Content, validContent, asMessage}
-use Rattle.spelling.specs.Reading.{contentAt}
-use Rattle.spelling.specs.Spelling.{spelling}
-use Rattle.spelling.proofs.Laws.{reading-spelling, reading-is}
+use Rattle.spelling.specs.Content.{Content, asMessage}
+use Rattle.spelling.specs.Reading.{contentAt, reading}
+use Rattle.spelling.proofs.Laws.{reading-is}
 use Rattle.frame.specs.Soundness.{Sound}
 use Rattle.frame.specs.Sending.{sendOf}
 use Rattle.agreement.specs.World.{Replica, World, Call, issue, send, take, elect, replicaAt, messageAt, onSome, put, post}
@@ -53,43 +52,41 @@ pub record SoundReplica (n : ℕ) (ws : List ℕ) (k : ℕ) (d : Replica) : Type
   pub weights : d .held .weights ≡ ws
   pub sound : Sound (d .held) (d .words)
 
--- the bytes of a message that a send wrote
-pub record Spelled (n : ℕ) (ws : List ℕ) (s : List ℕ) : Type 0 where
+-- the bytes of a message with this n and these weights
+pub record Readable (n : ℕ) (ws : List ℕ) (s : List ℕ) : Type 0 where
   pub content : Content
-  pub bytes : spelling content ≡ s
-  pub valid : validContent content ≡ true
+  pub reads : reading s ≡ some content
   pub count : content .n ≡ n
   pub weights : content .weights ≡ L.take n ws
 
 pub record SoundWorld (n : ℕ) (ws : List ℕ) (w : World) : Type 0 where
   pub offices : length (w .replicas) ≡ n
   pub each : (k : ℕ) (d : Replica) → replicaAt w k ≡ some d → SoundReplica n ws k d
-  pub spelled : (m : ℕ) (s : List ℕ) → messageAt w m ≡ some s → Spelled n ws s
+  pub readable : (m : ℕ) (s : List ℕ) → messageAt w m ≡ some s → Readable n ws s
 
--- the spelling of a valid content says that content
-pub means-content : (n : ℕ) (ws : List ℕ) (s : List ℕ) (x : Spelled n ws s) → means s ≡ asMessage (x .content)
+-- what such bytes say
+pub means-content : (n : ℕ) (ws : List ℕ) (s : List ℕ) (x : Readable n ws s) → means s ≡ asMessage (x .content)
 unfolding means
-means-content n ws s x =
-    ap asMessage (ap contentAt (sym (x .bytes)) ∙ reading-is (spelling (x .content)) (x .content) (reading-spelling (x .content) (x .valid)) .1)
+means-content n ws s x = ap asMessage (reading-is s (x .content) (x .reads) .1)
 
 -- ── the world after a call at a replica ──
 pub put-sound : (n : ℕ) (ws : List ℕ) (w : World) (k : ℕ) (d : Replica) → SoundWorld n ws w → SoundReplica n ws k d → SoundWorld n ws (put w k (d .held) (d .words))
 put-sound n ws w k d s m = record {
   offices = length-set (w .replicas) k d ∙ s .offices;
   each = λ j e q. go j e (set-there (w .replicas) k d j e q);
-  spelled = s .spelled;
+  readable = s .readable;
 }
   where
     go : (j : ℕ) (e : Replica) → (replicaAt w j ≡ some e) ⊎ ((j ≡ k) × (d ≡ e)) → SoundReplica n ws j e
     go j e (inl q) = s .each j e q
     go j e (inr q) = subst (λ (x : Replica). SoundReplica n ws j x) (q .1) (subst (λ (i : ℕ). SoundReplica n ws i d) (sym (q .0)) m)
 
-pub post-sound : (n : ℕ) (ws : List ℕ) (w : World) (b : List ℕ) → SoundWorld n ws w → Spelled n ws b → SoundWorld n ws (post w b)
-post-sound n ws w b s x = record { offices = s .offices; each = s .each; spelled = go }
+pub post-sound : (n : ℕ) (ws : List ℕ) (w : World) (b : List ℕ) → SoundWorld n ws w → Readable n ws b → SoundWorld n ws (post w b)
+post-sound n ws w b s x = record { offices = s .offices; each = s .each; readable = go }
   where
-    go : (m : ℕ) (t : List ℕ) → messageAt (post w b) m ≡ some t → Spelled n ws t
-    go zero t e = subst (λ (y : List ℕ). Spelled n ws y) (let q : b ≡ t = cc in q) x
-    go (suc m) t e = s .spelled m t e
+    go : (m : ℕ) (t : List ℕ) → messageAt (post w b) m ≡ some t → Readable n ws t
+    go zero t e = subst (λ (y : List ℕ). Readable n ws y) (let q : b ≡ t = cc in q) x
+    go (suc m) t e = s .readable m t e
 
 -- the view has as many offices
 pub view-length : (n : ℕ) (ws : List ℕ) (w : World) → SoundWorld n ws w → length (view w .offices) ≡ n
