@@ -1,0 +1,5 @@
+-- Messages twice and in either order, proved.
+pub mod Holding
+pub mod Twice
+pub mod Swap
+pub mod Examples
