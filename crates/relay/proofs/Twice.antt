@@ -5,7 +5,7 @@ use mathlib.Core.Bool.{Bool, true, false}
 use mathlib.Core.List.{List}
 use Prim.Native.Nat.{ℕ}
 use lib.Dec.{eqb}
-use borrow.Author.Tests.{eq-eqb, eqb-true, eqb-false}
+use borrow.Author.Tests.{eq-eqb, eqb-true}
 use Rattle.lists.specs.Tests.{pick}
 use Rattle.lists.proofs.Tests.{both-0, both-1, pick-true}
 use Rattle.lists.proofs.Same.{same-true}
@@ -18,11 +18,10 @@ use Rattle.protocol.proofs.Lawful.{settled-lawful}
 use Rattle.protocol.proofs.Office.{OfficeMoves, take-moves, moves-refl}
 use Rattle.protocol.proofs.Twice as P
 use Rattle.frame.specs.Soundness.{soundB}
-use Rattle.frame.specs.Taking.{sameOffices, takeOf}
+use Rattle.frame.specs.Taking.{sameOffices, takeOf, takeWords}
 use Rattle.frame.specs.Electing.{electOf}
 use Rattle.frame.proofs.Sound.{sound, sound-true}
 use Rattle.frame.proofs.Take.{Accepted, accepted}
-use Rattle.frame.proofs.Accept.{take-keeps}
 use Rattle.agreement.specs.World.{Replica}
 use Rattle.agreement.specs.Demand.{says}
 use Rattle.agreement.proofs.View.{means, SoundReplica, Readable}
@@ -116,6 +115,10 @@ elect-twice d h =
     }
 
 -- ── a take never unsettles, whatever the record and the bytes ──
+refused-still : (d : Replica) (s : List ℕ) → eqb (takeOf (d .held) (d .words) s .number) 0 ≡ false → taken d s ≡ d
+unfolding takeOf takeWords pick
+refused-still d s e = rw e
+
 steady : (d d' : Replica) → ((j : ℕ) → OfficeMoves j (says d) (says d')) → NeverUnsettles d d'
 steady d d' f = record { log = f 0 .0; paths = λ j. f j .1 }
 
@@ -128,6 +131,4 @@ never-unsettles d s = steady d (taken d s) (go (eqb (takeOf (d .held) (d .words)
         subst (OfficeMoves j (says d)) (sym (taken-says (d .held .n) (d .held .weights) (d .held .own) d (mine d s a) s (readable d s a) a))
         (take-moves (d .held .own) (means s) (says d) j)
     go false e j =
-        let q = take-keeps (d .held) (d .words) s (eqb-false (takeOf (d .held) (d .words) s .number) 0 e) in
-        let still : d ≡ taken d s = λ i. record { held = sym (q .0) i; words = sym (q .1) i } in
-        subst (λ (x : Replica). OfficeMoves j (says d) (says x)) still (moves-refl (says d .log) (path (says d) j))
+        subst (λ (x : Replica). OfficeMoves j (says d) (says x)) (sym (refused-still d s e)) (moves-refl (says d .log) (path (says d) j))
