@@ -1,6 +1,6 @@
 -- One call and every office: what holds between an office and itself, and between an office and what issue, take or elect makes of it, holds
 -- between every office before and after any call. Assumes nothing.
-use mathlib.Core.Path.{_≡_, sym, subst}
+use mathlib.Core.Path.{sym, subst}
 use mathlib.Core.Option.{Option, none, some}
 use mathlib.Core.Bool.{_&&_}
 use mathlib.Core.Logic.{inl, inr}

@@ -23,7 +23,7 @@ use Rattle.ballots.specs.Ballots.{ballotOf, noBallot, wordsWith}
 use Rattle.frame.specs.State.{withHeld, doneBy}
 use Rattle.frame.specs.Taking.{takeOf}
 use Rattle.frame.proofs.State.{held-by}
-use Rattle.agreement.specs.World.{Replica, World, Call, replicaAt, messageAt, step, after}
+use Rattle.agreement.specs.World.{Replica, World, Call, messageAt, step, after}
 use Rattle.agreement.specs.Demand.{Founded, says}
 use Rattle.agreement.proofs.Places.{map-there}
 use Rattle.agreement.proofs.View.{view, means, callOf, SoundReplica, SoundWorld, Readable, view-at}

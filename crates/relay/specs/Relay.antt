@@ -25,7 +25,7 @@ use Rattle.agreement.specs.Demand.{says}
 abbrev pub Accepts : Replica → List ℕ → Type 0
 Accepts d s = takeOf (d .held) (d .words) s .number ≡ 0
 
--- the record, and every word of the log, that take leaves; a refused one leaves what was there
+-- the record, and every word of the log, that take leaves, as a take of the world puts them at its office; a refused one leaves what was there
 abbrev pub taken : Replica → List ℕ → Replica
 taken d s = record { held = takeOf (d .held) (d .words) s .«record»; words = takeWords (d .held) (d .words) s }
 
