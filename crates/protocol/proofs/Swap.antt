@@ -28,12 +28,16 @@ use Rattle.protocol.proofs.EveryCall.{invariant}
 use Rattle.protocol.proofs.Join.{office-trans, catchUp-tails, Comparable, take-least, take-heard, moves-same}
 use Rattle.protocol.proofs.Twice.{accepts}
 
--- office k, in state o, and two messages in either order
+-- office k's state o behind two messages, a taken first
+abbrev pub takesBoth : ℕ → Message → Message → Office → Office
+takesBoth k a b o = withTake k b (withTake k a o)
+
+-- the two in either order
 pub record EitherOrder (k : ℕ) (a b : Message) (o : Office) : Type 0 where
   -- b is accepted behind a where it is accepted alone
   pub accepted : refuseTake k b o ≡ 0 → refuseTake k b (withTake k a o) ≡ 0
-  pub log : withTake k b (withTake k a o) .log ≡ withTake k a (withTake k b o) .log
-  pub ballots : (j : ℕ) → (j ≡ k → ⊥) → tail (withTake k b (withTake k a o)) j ≡ tail (withTake k a (withTake k b o)) j
+  pub log : takesBoth k a b o .log ≡ takesBoth k b a o .log
+  pub ballots : (j : ℕ) → (j ≡ k → ⊥) → tail (takesBoth k a b o) j ≡ tail (takesBoth k b a o) j
 
 -- m stands at some place of the sent messages
 abbrev pub IsSent : World → Message → Type 0
@@ -115,7 +119,8 @@ module _ (rule : Rule) (n : ℕ) (law : Lawful rule) where
         (record { eight = kb .eight; settled = ⊑-trans (b .state .log) (inv .order) (nx .order) (kb .settled) (nx .grows); known = kb .known })
 
     -- what one order leaves moves on to what the other leaves
-    into : (a b : Message) → IsSent (after rule n cs) a → IsSent (after rule n cs) b → OfficeMoves j (withTake k b (withTake k a (officeAt rule n k cs))) (withTake k a (withTake k b (officeAt rule n k cs)))
+    into : (a b : Message) → IsSent (after rule n cs) a → IsSent (after rule n cs) b
+        → OfficeMoves j (takesBoth k a b (officeAt rule n k cs)) (takesBoth k b a (officeAt rule n k cs))
     into a b x y =
         take-least k b (withTake k a o) j other r
         (take-least k a o j other r (office-trans j o ob r (take-moves k b o j) (take-moves k a ob j)) (take-heard k a ob j other (meets-after b a y x)))
@@ -144,8 +149,8 @@ module _ (rule : Rule) (n : ℕ) (law : Lawful rule) where
       next : suc k ≡ k → ⊥
       next e = omega arith
 
-      same : (j : ℕ) → (j ≡ k → ⊥) → (withTake k b (withTake k a o) .log ≡ withTake k a (withTake k b o) .log) × (tail (withTake k b (withTake k a o)) j ≡ tail (withTake k a (withTake k b o)) j)
-      same j d = moves-same j (withTake k b (withTake k a o)) (withTake k a (withTake k b o)) (into cs inv k j d a b x y) (into cs inv k j d b a y x)
+      same : (j : ℕ) → (j ≡ k → ⊥) → (takesBoth k a b o .log ≡ takesBoth k b a o .log) × (tail (takesBoth k a b o) j ≡ tail (takesBoth k b a o) j)
+      same j d = moves-same j (takesBoth k a b o) (takesBoth k b a o) (into cs inv k j d a b x y) (into cs inv k j d b a y x)
 
   -- after any history
   pub either-order : 0 < n → (cs : List Call) → Swaps (after rule n cs)

@@ -80,7 +80,7 @@ module _ (n : ℕ) (ws : List ℕ) (k : ℕ) (d : Replica) (m : SoundReplica n w
 
   -- the office's state behind both
   abbrev twoTaken : List ℕ → List ℕ → Office
-  twoTaken a b = withTake k (means b) (withTake k (means a) (says d))
+  twoTaken a b = L.takesBoth k (means a) (means b) (says d)
 
   module _ (a b : List ℕ) (x : Readable n ws a) (y : Readable n ws b) (first : Accepts d a) (second : Accepts (taken d a) b) where
     both-is : taken (taken d a) b ≡ holds d (twoTaken a b)
