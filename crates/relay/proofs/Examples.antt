@@ -16,7 +16,8 @@ use Rattle.protocol.specs.Entry.{value, proper, isEntry}
 use Rattle.protocol.specs.Issue.{refusalAt, refuseIssue, withIssue}
 use Rattle.protocol.specs.Limits.{headFine, isEmpty, isOffice, isWeight, logFine, officeFine, tailFine, tailsFine, total, weightsFine}
 use Rattle.protocol.specs.Codes.{codesAfter}
-use Rattle.protocol.specs.Counts.{countsAfter, quieterBy}
+use Rattle.protocol.specs.Counts.{countIn, countsAfter, quieterBy}
+use Rattle.protocol.specs.Fair.{fair}
 use Rattle.protocol.specs.Moves.{isMove, canShift, move, weightsAfter}
 use Rattle.protocol.specs.Office.{tail}
 use Rattle.summary.specs.Summary.{sameSummary}
@@ -118,7 +119,7 @@ pub record VoteAgain : Type 0 where
   pub vote : ballot (taken lost ahead) 2 ≡ d ∷ []
 
 pub computed : OwnBallot × OtherBallot × VoteAgain
-unfolding step after begins extends electing settle withElect isEntry proper refusalAt refuseIssue withIssue catchUp rebase refuseTake
+unfolding step after begins extends electing settle withElect isEntry proper countIn fair refusalAt refuseIssue withIssue catchUp rebase refuseTake
     withTake allB both pick same supported tally unheard winner wins headFine isEmpty isOffice isWeight logFine officeFine tailFine tailsFine total
     weightsFine isMove canShift move weightsAfter codesAfter countsAfter quieterBy sameSummary ballotShape longEnough shaped follows soundFields soundB asMessage eightTails validContent be16 be32 bytes16 bytes32 run runAt runOk
     afterBallot ballotNext ballotOk ballotsOk contentAt endOk headOk layoutOk reading recordAt recordHere recordsOk restAt settledAt sizeAt tailAt
