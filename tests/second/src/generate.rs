@@ -6,9 +6,11 @@ use crate::rehearsal::{World, SLOTS};
 
 mod histories;
 mod malformed;
+mod relays;
 
 /// The kinds of script there are.
-pub const KINDS: [&str; 8] = ["mixed", "contested", "moves", "ties", "tails", "long", "malformed", "everything"];
+pub const KINDS: [&str; 9] =
+    ["mixed", "contested", "moves", "ties", "tails", "long", "relays", "malformed", "everything"];
 
 /// A script that is being written. The offices are played beside it, so that a kind can aim.
 pub(crate) struct Script {
@@ -28,6 +30,17 @@ impl Script {
             self.text.push(b'\n');
             self.world.answer(line, &mut vec![]);
         }
+    }
+
+    /// Bytes written so far.
+    pub(crate) fn written(&self) -> usize {
+        self.text.len()
+    }
+
+    /// The lines written since there were so many bytes.
+    pub(crate) fn lines_since(&self, written: usize) -> Vec<Vec<u8>> {
+        let lines = self.text[written..].split_inclusive(|&byte| byte == b'\n');
+        lines.map(|line| line.strip_suffix(b"\n").unwrap_or(line).to_vec()).collect()
     }
 
     /// Writes a letter and numbers.
@@ -112,6 +125,7 @@ fn write_kind(script: &mut Script, kind: &str) -> Option<()> {
         "ties" => histories::ties,
         "tails" => histories::tails,
         "long" => histories::long,
+        "relays" => relays::relays,
         "malformed" => malformed::malformed,
         _ => return None,
     };

@@ -13,7 +13,8 @@ use second::{generate, trials};
 
 const USAGE: &str = "usage:
   second rehearse < SCRIPT                  answer a rehearsal script
-  second generate KIND SEED LINES           write one: mixed contested moves ties tails long malformed everything
+  second generate KIND SEED LINES           write one: mixed contested moves ties tails long relays
+                                            malformed everything
   second survey < SCRIPT                    count what it shows
   second trial < SCRIPT                     answer a trial script
   second generate-trials KIND SEED COUNT    write one: boundaries elections takes damaged random

@@ -4,30 +4,30 @@ use super::{weights, Script};
 use crate::record::{part, CODES, LINES, LOG, OFFICES};
 
 /// How often each call is made, in parts of their sum, and what is issued.
-struct Habit {
-    issue: usize,
-    send: usize,
-    take: usize,
-    elect: usize,
-    view: usize,
+pub(super) struct Habit {
+    pub(super) issue: usize,
+    pub(super) send: usize,
+    pub(super) take: usize,
+    pub(super) elect: usize,
+    pub(super) view: usize,
     /// Lines that are edited.
-    lines: usize,
+    pub(super) lines: usize,
     /// Codes that are given.
-    codes: usize,
+    pub(super) codes: usize,
     /// How many in a hundred issues and views are outside the limits.
-    outside: usize,
+    pub(super) outside: usize,
     /// How many in a hundred issues move weight.
-    moves: usize,
+    pub(super) moves: usize,
 }
 
 const PLAIN: Habit =
     Habit { issue: 25, send: 20, take: 35, elect: 12, view: 8, lines: 64, codes: 10_000, outside: 3, moves: 0 };
 
-const CONTEST: Habit =
+pub(super) const CONTEST: Habit =
     Habit { issue: 18, send: 24, take: 40, elect: 14, view: 4, lines: 2, codes: 4, outside: 0, moves: 0 };
 
 /// Makes one call. Slots are few, so that messages are taken late, twice or never.
-fn call(script: &mut Script, habit: &Habit) {
+pub(super) fn call(script: &mut Script, habit: &Habit) {
     let Habit { issue, send, take, elect, view, .. } = *habit;
     let (office, slot) = (script.office(), script.slot());
     let at = script.random.below(issue + send + take + elect + view);
