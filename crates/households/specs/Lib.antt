@@ -1,0 +1,3 @@
+-- Household records, and their weights by line.
+pub mod Households
+pub mod Pools

@@ -1,0 +1,2 @@
+-- Laws of the household sheet.
+pub mod Made

@@ -1,0 +1,2 @@
+-- The definition that the contract of `sheet` cites, and what is claimed of it.
+pub mod Sheet
