@@ -83,7 +83,7 @@ turn : (s : List ℕ) (k i at line w : ℕ) → i < k → line ≡ getD s (at + 
 unfolding householdsAt
 turn s k i at line w h l v =
     let q : k - i ≡ suc (k - (i + 1)) = omega arith in
-    rw (q, l, v, drop-drop, drop-drop, getD-drop)
+    rw (q, l, v, drop-drop 3 at s, drop-drop 7 at s, getD-drop)
 
 module _ {s : List ℕ} {met : List Bool} {totals : List ℕ} {at i : ℕ} (inv : Pooling s met totals at i) where
   -- a record stands there

@@ -1,3 +1,4 @@
 -- Household records, and their weights by line.
 pub mod Households
+pub mod Spelling
 pub mod Pools

@@ -1,2 +1,4 @@
 -- Laws of the household sheet.
 pub mod Made
+pub mod Claims
+pub mod Cases

@@ -35,7 +35,7 @@ use Rattle.sheet.specs.declared.Sheet.{Sheet}
 
 module _ (r : Record) (words : List ℕ) where
   -- frame's call is done exactly on a sound record
-  number-sound : soundB r words ≡ true → allLinesOf r words .number ≡ 0
+  pub number-sound : soundB r words ≡ true → allLinesOf r words .number ≡ 0
   unfolding allLinesOf pick
   number-sound e = rw e
 

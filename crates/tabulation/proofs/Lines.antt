@@ -1,15 +1,16 @@
 -- Pooled by line first, and then by class: the same sheet. A line's total is added to as its households are, and an unmet line has none.
 --     by-line        the rows of the lines met, pooled, are the sheet of the households
+--     sheet-few      so a sheet has at most 64 rows
 -- Assumes nothing.
 use mathlib.Core.Path.{_≡_, refl, sym, ap, _∙_}
 use mathlib.Core.Bool.{Bool, true, false, true≢false}
-use mathlib.Core.List.{List, [], _∷_, _++_, append-nil}
-use Prim.Native.Nat.{ℕ, zero, suc, _+_, _<_}
+use mathlib.Core.List.{List, [], _∷_, _++_, append-nil, List·Memᴰ, List·Memᴰ·head, List·Memᴰ·tail}
+use Prim.Native.Nat.{ℕ, zero, suc, _+_, _≤_, _<_}
 use native.Mathlib.Nat.{not-suc-le-zero, le-of-suc-le-suc}
 use native.Mathlib.Omega.{arith}
 use lib.Dec.{eqb, ltb}
-use lib.ListN.{length, getD, set, replicate, length-set}
-use lib.Seq.{getD-set-same, getD-set-other}
+use lib.ListN.{length, getD, take, set, replicate, length-set, length-append}
+use lib.Seq.{getD-set-same, getD-set-other, getD-take, length-take-le}
 use borrow.Author.Tests.{ltb-true, eqb-true, eqb-false}
 use Rattle.lists.specs.Tests.{allB}
 use Rattle.lists.proofs.Tests.{both-0, both-1, getD-replicate}
@@ -18,7 +19,8 @@ use Rattle.households.specs.Pools.{meet, addTo, metAfter, totalsAfter, noneMet,
 use Rattle.tabulation.specs.Rows.{pooled, lineRows}
 use Rattle.tabulation.specs.Sheet.{classOf, classed, sheetBy}
 use Rattle.tabulation.specs.declared.Row.{Row}
-use Rattle.tabulation.proofs.Under.{more, more-swap, more-twice, under, pooled-under, pooled-rises, rows-same}
+use Rattle.tabulation.proofs.Sheet.{same-sheet}
+use Rattle.tabulation.proofs.Under.{rows-most, more, more-swap, more-twice, under, pooled-under, pooled-rises, rows-same}
 
 -- an unmet line has no total
 abbrev Clean : List Bool → List ℕ → Type 0
@@ -75,6 +77,14 @@ pools-under class codes (h ∷ hs) met totals m t clean all =
     ∙ behind-under class (classed codes hs) (lineRows codes (meet met h) (addTo totals h)) (lineRows codes met totals) (eqb (classOf codes h) class) (h .weight)
     (line-under class (h .line) (h .weight) codes met totals clean low (omega arith) (omega arith))
 
+pub lines-most : (codes : List ℕ) (met : List Bool) (totals : List ℕ) → length (lineRows codes met totals) ≤ length codes
+unfolding lineRows
+lines-most [] met totals = omega arith
+lines-most (c ∷ codes) [] totals = omega arith
+lines-most (c ∷ codes) (m ∷ met) [] = omega arith
+lines-most (c ∷ codes) (true ∷ met) (t ∷ totals) = omega (arith, lines-most codes met totals)
+lines-most (c ∷ codes) (false ∷ met) (t ∷ totals) = omega (arith, lines-most codes met totals)
+
 pub by-line : (codes : List ℕ) (hs : List Household) → length codes ≡ 64 → allB (λ (h : Household). ltb (h .line) 64) hs ≡ true
     → pooled (lineRows codes (metAfter noneMet hs) (totalsAfter noTotals hs)) ≡ sheetBy codes hs
 by-line codes hs long all = rows-same (pooled lines) (sheetBy codes hs) (pooled-rises lines) (pooled-rises (classed codes hs))
@@ -85,3 +95,36 @@ by-line codes hs long all = rows-same (pooled lines) (sheetBy codes hs) (pooled-
   where
     lines : List Row
     lines = lineRows codes (metAfter noneMet hs) (totalsAfter noTotals hs)
+
+-- ── at most 64 rows ──
+-- the first 64 codes, with zeros where there are fewer: the same classes of lines below 64
+abbrev codes64 : List ℕ → List ℕ
+codes64 codes = take 64 (codes ++ replicate 64 0)
+
+codes64-length : (codes : List ℕ) → length (codes64 codes) ≡ 64
+codes64-length codes = length-take-le 64 (codes ++ replicate 64 0) (omega (arith, length-append codes (replicate 64 0)))
+
+code64 : (codes : List ℕ) (line : ℕ) → line < 64 → getD codes line 0 ≡ getD (codes64 codes) line 0
+code64 codes line h = sym (getD-take 64 (codes ++ replicate 64 0) line 0 h ∙ past codes line)
+  where
+    past : (codes : List ℕ) (line : ℕ) → getD (codes ++ replicate 64 0) line 0 ≡ getD codes line 0
+    past [] line = getD-replicate 64 0 line
+    past (c ∷ codes) zero = refl
+    past (c ∷ codes) (suc line) = past codes line
+
+all-mem : (t : Household → Bool) (hs : List Household) → allB t hs ≡ true → (h : Household) → List·Memᴰ h hs → t h ≡ true
+unfolding allB
+all-mem t (x ∷ xs) all h (List·Memᴰ·head q) = rw q (both-0 _ _ all)
+all-mem t (x ∷ xs) all h (List·Memᴰ·tail m) = all-mem t xs (both-1 _ _ all) h m
+
+pub sheet-few : (codes : List ℕ) (hs : List Household) → allB (λ (h : Household). ltb (h .line) 64) hs ≡ true → length (sheetBy codes hs) ≤ 64
+sheet-few codes hs all =
+    let same : sheetBy codes hs ≡ sheetBy (codes64 codes) hs = same-sheet codes (codes64 codes) hs (λ h m. code64 codes (h .line) (ltb-true (h .line) 64 (all-mem _ hs all h m))) in
+    let lines = lineRows (codes64 codes) (metAfter noneMet hs) (totalsAfter noTotals hs) in
+    omega (
+      arith,
+      ap length (same ∙ sym (by-line (codes64 codes) hs (codes64-length codes) all)),
+      rows-most lines,
+      lines-most (codes64 codes) (metAfter noneMet hs) (totalsAfter noTotals hs),
+      codes64-length codes,
+    )

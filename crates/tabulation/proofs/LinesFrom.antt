@@ -14,7 +14,8 @@ use Rattle.tabulation.specs.Rows.{pool, pooled, totalOf, lineRows}
 use Rattle.tabulation.specs.Cells.{rowsOf, held, poolInto, RoomFor, Fitting}
 use Rattle.tabulation.specs.declared.Row.{Row}
 use Rattle.tabulation.specs.declared.Rows.{Rows}
-use Rattle.tabulation.proofs.Under.{pool-cases, pooled-total}
+use Rattle.tabulation.proofs.Under.{pooled-total, rows-most}
+use Rattle.tabulation.proofs.Lines.{lines-most}
 use Rattle.tabulation.proofs.Cells.{held-rows}
 
 -- the rows of the lines from i on
@@ -24,24 +25,6 @@ linesFrom codes met totals i = lineRows (drop i codes) (drop i met) (drop i tota
 -- the row of the line i
 abbrev pub lineRow : List ℕ → List ℕ → ℕ → Row
 lineRow codes totals i = record { class = getD codes i 0; total = getD totals i 0 }
-
-lines-most : (codes : List ℕ) (met : List Bool) (totals : List ℕ) → length (lineRows codes met totals) ≤ length codes
-unfolding lineRows
-lines-most [] met totals = omega arith
-lines-most (c ∷ codes) [] totals = omega arith
-lines-most (c ∷ codes) (m ∷ met) [] = omega arith
-lines-most (c ∷ codes) (true ∷ met) (t ∷ totals) = omega (arith, lines-most codes met totals)
-lines-most (c ∷ codes) (false ∷ met) (t ∷ totals) = omega (arith, lines-most codes met totals)
-
-pool-most : (r : Row) (rows : List Row) → length (pool r rows) ≤ length rows + 1
-unfolding pool
-pool-most r [] = omega arith
-pool-most r (s ∷ rows) = pool-cases (λ l. length l ≤ length (s ∷ rows) + 1) r s rows (λ _. omega arith) (λ _. omega arith) (λ _. omega (arith, pool-most r rows))
-
-rows-most : (rows : List Row) → length (pooled rows) ≤ length rows
-unfolding pooled
-rows-most [] = omega arith
-rows-most (r ∷ rows) = omega (arith, pool-most r (pooled rows), rows-most rows)
 
 total-rest : (codes : List ℕ) (met : List Bool) (totals : List ℕ) (i : ℕ) → totalOf (linesFrom codes met totals i) ≤ totalOf (lineRows codes met totals)
 unfolding lineRows totalOf

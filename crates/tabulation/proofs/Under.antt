@@ -2,6 +2,7 @@
 --     under                                the total under a class; none where no row has it
 --     pool-under, pooled-under             pooling keeps it
 --     pooled-total                         the totals together stay
+--     rows-most                            there are no more of them
 --     pooled-rises                         pooled rows rise
 --     rows-same                            rows that rise, with the same total under each class, are the same
 --     listed-under, under-listed           a class has a total exactly where it is listed
@@ -13,6 +14,7 @@ use mathlib.Core.Bool.{Bool, true, false}
 use Prim.Native.Nat.{ℕ, _+_, _≤_, _<_}
 use native.Mathlib.Omega.{arith}
 use lib.Dec.{eqb, ltb, leb}
+use lib.ListN.{length}
 use borrow.Author.Tests.{eqb-true, eqb-false, eq-eqb, ne-eqb, ltb-true, ltb-false, lt-ltb, leb-true, le-leb}
 use Rattle.lists.specs.Tests.{pick, allB}
 use Rattle.lists.proofs.Tests.{both-0, both-1, both-true, all-mono, pick-cases}
@@ -87,6 +89,16 @@ pub pooled-total : (rows : List Row) → totalOf (pooled rows) ≡ totalOf rows
 unfolding pooled totalOf
 pooled-total [] = refl
 pooled-total (r ∷ rows) = omega (arith, pool-total r (pooled rows), pooled-total rows)
+
+pool-most : (r : Row) (rows : List Row) → length (pool r rows) ≤ length rows + 1
+unfolding pool
+pool-most r [] = omega arith
+pool-most r (s ∷ rows) = pool-cases (λ l. length l ≤ length (s ∷ rows) + 1) r s rows (λ _. omega arith) (λ _. omega arith) (λ _. omega (arith, pool-most r rows))
+
+pub rows-most : (rows : List Row) → length (pooled rows) ≤ length rows
+unfolding pooled
+rows-most [] = omega arith
+rows-most (r ∷ rows) = omega (arith, pool-most r (pooled rows), rows-most rows)
 
 -- ── rows that rise ──
 -- every class comes after c

@@ -1,0 +1,2 @@
+-- Equal sheets, proved.
+pub mod EqualSheets
