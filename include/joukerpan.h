@@ -38,7 +38,9 @@ enum {
     JOUKERPAN_LINES = 64,      /* lines of the frame: 0 to 63; line 64 + j moves weight to office j */
     JOUKERPAN_CODES = 10000,   /* codes of a line: 0 to 9999; weight that a move moves: 1 to 9999 */
     JOUKERPAN_LOG = 1024,      /* settled entries, at most; words of a log, at least */
-    JOUKERPAN_MESSAGE = 7032   /* bytes of a message, at most */
+    JOUKERPAN_MESSAGE = 7032,  /* bytes of a message, at most */
+    JOUKERPAN_HOUSEHOLD = 7,   /* bytes of a household record: 0x48 0x52, line, weight (4, most significant first) */
+    JOUKERPAN_HOUSEHOLDS = 1000000  /* household records of a sheet, at most */
 };
 
 /* Numbers that a call answers. Where several hold, the smallest is given. */
@@ -54,7 +56,8 @@ enum {
     JOUKERPAN_OTHER_OFFICES = 8,  /* message's n or founding weights differ from the record's */
     JOUKERPAN_OWN_MESSAGE = 9,    /* sender is the receiver's own office */
     JOUKERPAN_OTHER_LOG = 10,     /* neither settled log is a beginning of the other: stop (see above) */
-    JOUKERPAN_PART_FULL = 11      /* own tail has the own office's part, 32 / n entries of it: wait for votes */
+    JOUKERPAN_PART_FULL = 11,     /* own tail has the own office's part, 32 / n entries of it: wait for votes */
+    JOUKERPAN_NO_HOUSEHOLDS = 12  /* bytes are no household records, have a line above 63, or are too many */
 };
 
 /*
@@ -137,6 +140,18 @@ typedef struct {
     uint32_t number;
 } joukerpan_taken;
 
+/* A row of a sheet: a class, which is a settled code, and the weights of the households under it. */
+typedef struct {
+    uint32_t code;
+    uint64_t total;  /* below 2^52 */
+} joukerpan_row;
+
+typedef struct {
+    uint32_t number;
+    size_t count;                         /* rows there are; 0 where refused */
+    joukerpan_row rows[JOUKERPAN_LINES];  /* codes rising; zero from place count on */
+} joukerpan_tabulated;
+
 /*
  * A fresh record: an empty log, no ballots, present weights as founded, codes 0.
  * Refused: 1 (log size alone), 2.
@@ -202,6 +217,15 @@ joukerpan_sent joukerpan_send(joukerpan_record record, const uint32_t *log, size
 joukerpan_taken joukerpan_take(joukerpan_record record, uint32_t *log, size_t log_len,
                                const uint8_t *message, size_t message_len);
 
+/*
+ * The household sheet: the weights of the households pooled under the settled codes of their lines, a row
+ * for each code met, codes rising. The bytes are household records, JOUKERPAN_HOUSEHOLD bytes each, and
+ * nothing else; none of them is a done, empty sheet. Two offices with equal settled logs answer equal
+ * sheets. Refused: 1, 12.
+ */
+joukerpan_tabulated joukerpan_sheet(joukerpan_record record, const uint32_t *log, size_t log_len,
+                                       const uint8_t *households, size_t households_len);
+
 #ifdef __cplusplus
 }
 #define JOUKERPAN_ASSERT static_assert
@@ -239,6 +263,11 @@ JOUKERPAN_ASSERT(sizeof(joukerpan_sent) == 16, "joukerpan_sent: size");
 JOUKERPAN_ASSERT(offsetof(joukerpan_sent, length) == 8, "joukerpan_sent: length");
 JOUKERPAN_ASSERT(sizeof(joukerpan_taken) == 1408, "joukerpan_taken: size");
 JOUKERPAN_ASSERT(offsetof(joukerpan_taken, number) == 1400, "joukerpan_taken: number");
+JOUKERPAN_ASSERT(sizeof(joukerpan_row) == 16, "joukerpan_row: size");
+JOUKERPAN_ASSERT(offsetof(joukerpan_row, total) == 8, "joukerpan_row: total");
+JOUKERPAN_ASSERT(sizeof(joukerpan_tabulated) == 1040, "joukerpan_tabulated: size");
+JOUKERPAN_ASSERT(offsetof(joukerpan_tabulated, count) == 8, "joukerpan_tabulated: count");
+JOUKERPAN_ASSERT(offsetof(joukerpan_tabulated, rows) == 16, "joukerpan_tabulated: rows");
 
 #undef JOUKERPAN_ASSERT
 

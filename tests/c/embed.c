@@ -1,6 +1,6 @@
 /*
- * The engine through its C calls: the paper's rehearsal, some lettered cases, moves of weight, the frame whole, each
- * refusal once, the parts of a tail.
+ * The engine through its C calls: the paper's rehearsal, some lettered cases, moves of weight, the frame whole, a
+ * household sheet, each refusal once, the parts of a tail.
  */
 #include <stdio.h>
 #include <stdlib.h>
@@ -244,6 +244,49 @@ static void whole_frame(void) {
     expect("each of them 0", memcmp(lines.codes, none, sizeof none), 0);
 }
 
+/* A household's record at the front of the bytes; where the next one goes. */
+static uint8_t *household(uint8_t *bytes, uint8_t line, uint32_t weight) {
+    const uint8_t record[JOUKERPAN_HOUSEHOLD] = {0x48, 0x52, line, (uint8_t)(weight >> 24), (uint8_t)(weight >> 16),
+                                                 (uint8_t)(weight >> 8), (uint8_t)weight};
+    memcpy(bytes, record, sizeof record);
+    return bytes + sizeof record;
+}
+
+static void refused_sheet(const char *what, joukerpan_tabulated sheet, uint32_t number) {
+    static const joukerpan_row none[JOUKERPAN_LINES];
+    expect(what, sheet.number, number);
+    expect("its rows", sheet.count, 0);
+    for (int i = 0; i < JOUKERPAN_LINES; i++) {
+        expect("each of them zero", sheet.rows[i].code == none[i].code && sheet.rows[i].total == none[i].total, true);
+    }
+}
+
+static void household_sheet(void) {
+    static office x;
+    uint8_t bytes[6 * JOUKERPAN_HOUSEHOLD], *end = bytes;
+    founded(&x, 0, WEIGHTS, 3);
+    settle(&x, entry(1, 5, 140)), settle(&x, entry(2, 6, 7)), settle(&x, entry(0, 63, 140));
+    put(&x, 0, entry(0, 8, 9)); /* pending, so line 8 has no code yet */
+    end = household(end, 5, 0xFFFFFFFF), end = household(end, 8, 257), end = household(end, 6, 0);
+    end = household(end, 9, 2), end = household(end, 63, 0xFFFFFFFF), end = household(end, 5, 2);
+    joukerpan_tabulated sheet = joukerpan_sheet(x.record, x.log, WORDS, bytes, sizeof bytes);
+    expect("sheet", sheet.number, JOUKERPAN_DONE);
+    expect("its rows", sheet.count, 3);
+    const joukerpan_row wanted[3] = {{0, 259}, {7, 0}, {140, 0x200000000}};
+    for (int i = 0; i < 3; i++) {
+        expect("a row's code", sheet.rows[i].code, wanted[i].code);
+        expect("a row's total", sheet.rows[i].total, wanted[i].total);
+    }
+    expect("the row behind them", sheet.rows[3].code == 0 && sheet.rows[3].total == 0, true);
+    refused_sheet("no households", joukerpan_sheet(x.record, x.log, WORDS, bytes, 0), JOUKERPAN_DONE);
+    for (size_t short_by = 1; short_by < JOUKERPAN_HOUSEHOLD; short_by++) {
+        refused_sheet("a record cut short", joukerpan_sheet(x.record, x.log, WORDS, bytes, sizeof bytes - short_by), JOUKERPAN_NO_HOUSEHOLDS);
+    }
+    bytes[sizeof bytes - JOUKERPAN_HOUSEHOLD + 2] = 64;
+    refused_sheet("line 64", joukerpan_sheet(x.record, x.log, WORDS, bytes, sizeof bytes), JOUKERPAN_NO_HOUSEHOLDS);
+    refused_sheet("1 before 12", joukerpan_sheet(x.record, x.log, JOUKERPAN_LOG - 1, bytes, sizeof bytes), JOUKERPAN_UNSOUND);
+}
+
 static void founding_refusals(void) {
     static uint32_t log[JOUKERPAN_LOG];
     static const joukerpan_record zero;
@@ -393,6 +436,7 @@ int main(void) {
     cases();
     moves();
     whole_frame();
+    household_sheet();
     founding_refusals();
     issue_refusals();
     parts();

@@ -8,6 +8,7 @@ ghost use Rattle.frame.specs.Frames.{settledFrameOf, tentativeFrameOf, allLines
 ghost use Rattle.frame.specs.Electing.{electOf, electWords};
 ghost use Rattle.frame.specs.Sending.{sendOf, sendBytes};
 ghost use Rattle.frame.specs.Taking.{takeOf, takeWords};
+ghost use Rattle.sheet.specs.Sheet.{sheetOf};
 ghost use Rattle.embed.specs.Part.{partOf};
 use frame::Record;
 use frame::electing::Elected;
@@ -17,6 +18,7 @@ use frame::frames::Lines;
 use frame::issuing::Issued;
 use frame::sending::Sent;
 use frame::taking::Taken;
+use sheet::Sheet;
 
 // Eight weights. An array by itself cannot cross to C; a struct that holds one can.
 #[repr(C)]
@@ -113,4 +115,12 @@ pub extern "C" fn joukerpan_take(office: Record, log: &mut [u32], message: &[u8]
     ensures { λ r. ⌜ (r ≡ takeOf office (now (log .entry)) (now (message .entry))) × (now (log .exit) ≡ takeWords office (now (log .entry)) (now (message .entry))) ⌝ }
 {
     office.take(log, message)
+}
+
+// The household sheet: class totals of the households that the bytes say, by the settled codes.
+#[no_mangle]
+pub extern "C" fn joukerpan_sheet(office: Record, log: &[u32], households: &[u8]) -> Sheet
+    ensures { λ r. ⌜ r ≡ sheetOf office (now (log .entry)) (now (households .entry)) ⌝ }
+{
+    sheet::household_sheet(office, log, households)
 }

@@ -13,6 +13,7 @@ use second::samples::Sample;
 
 use crate::by_value;
 use crate::engine::to_engine;
+use crate::households;
 
 /// Rounds of batches of each case; their order changes from round to round.
 const ROUNDS: usize = 61;
@@ -157,7 +158,7 @@ fn batch(call: &mut dyn FnMut(), times: usize) -> f64 {
     start.elapsed().as_nanos() as f64 / times as f64
 }
 
-fn median(mut values: Vec<f64>) -> f64 {
+pub fn median(mut values: Vec<f64>) -> f64 {
     values.sort_by(f64::total_cmp);
     values[values.len() / 2]
 }
@@ -401,7 +402,8 @@ pub fn print() -> Result<()> {
     let mut output = stdout().lock();
     let rows = print_times(&mut output)?;
     print_growth(&rows, &mut output)?;
-    print_frames(&rows, &mut output)
+    print_frames(&rows, &mut output)?;
+    households::print(&mut output)
 }
 
 /// Times every case and prints it.

@@ -9,12 +9,14 @@ mod by_value;
 mod calls;
 mod engine;
 mod forge;
+mod households;
 mod samples;
 mod stack;
 
 const USAGE: &str = "usage:
   compare calls SEED ROUNDS     random records, logs, messages and outputs; stops at the first difference
   compare benchmark             times of both, as a Markdown table
+  compare households            times of the household sheet alone
   compare stack                 deepest stack of each of the engine's calls";
 
 /// An error about the arguments.
@@ -32,6 +34,7 @@ fn run(words: &[&str]) -> Result<bool> {
     match *words {
         ["calls", seed, rounds] => calls::compare(number(seed)?, number(rounds)?),
         ["benchmark"] => benchmark::print().map(|()| true),
+        ["households"] => households::print(&mut std::io::stdout().lock()).map(|()| true),
         ["stack"] => stack::print(),
         _ => Err(wrong("no such command")),
     }

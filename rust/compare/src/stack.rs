@@ -6,7 +6,7 @@ use std::io::{stdout, Result, Write};
 use std::mem::transmute;
 
 use joukerpan_sys as engine;
-use joukerpan_sys::{Elected, Founded, Framed, Issued, Lines, Part, Sent, Taken, Weights};
+use joukerpan_sys::{Elected, Founded, Framed, Issued, Lines, Part, Sent, Sheet, Taken, Weights, HOUSEHOLD};
 use second::message::LONGEST;
 use second::random::Random;
 use second::record::{LOG, OFFICES};
@@ -36,6 +36,7 @@ struct Calls {
     elect: unsafe extern "C" fn(engine::Record, *mut u32, usize) -> Elected,
     send: unsafe extern "C" fn(engine::Record, *const u32, usize, *mut u8, usize) -> Sent,
     take: unsafe extern "C" fn(engine::Record, *mut u32, usize, *const u8, usize) -> Taken,
+    sheet: unsafe extern "C" fn(engine::Record, *const u32, usize, *const u8, usize) -> Sheet,
 }
 
 extern "C" fn nothing() {}
@@ -53,6 +54,7 @@ impl Calls {
             elect: engine::joukerpan_elect,
             send: engine::joukerpan_send,
             take: engine::joukerpan_take,
+            sheet: engine::joukerpan_sheet,
         }
     }
 
@@ -73,6 +75,7 @@ impl Calls {
                 elect: transmute(nothing),
                 send: transmute(nothing),
                 take: transmute(nothing),
+                sheet: transmute(nothing),
             }
         }
     }
@@ -107,7 +110,7 @@ macro_rules! call {
     }};
 }
 
-const CALLS: [Call; 10] = [
+const CALLS: [Call; 11] = [
     ("found", |calls, input| {
         let (log, length) = input.log();
         call!(calls.found, 3, 0, Weights { of: [1; OFFICES] }, log, length)
@@ -154,7 +157,24 @@ const CALLS: [Call; 10] = [
         let record = to_engine(&input.sample.record);
         call!(calls.take, record, log.as_mut_ptr(), log.len(), message.as_ptr(), message.len())
     }),
+    ("sheet", |calls, input| {
+        let (log, length) = input.log();
+        let bytes = ALL_LINES;
+        call!(calls.sheet, to_engine(&input.sample.record), log, length, bytes.as_ptr(), bytes.len())
+    }),
 ];
+
+/// A household of each line.
+const ALL_LINES: &[u8] = &{
+    let mut bytes = [0; 64 * HOUSEHOLD];
+    let mut line = 0;
+    while line < 64 {
+        let at = HOUSEHOLD * line;
+        (bytes[at], bytes[at + 1], bytes[at + 2], bytes[at + 6]) = (0x48, 0x52, line as u8, 1);
+        line += 1;
+    }
+    bytes
+};
 
 /// What runs on the painted stack.
 struct Job<'a> {

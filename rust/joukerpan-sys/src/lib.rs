@@ -20,6 +20,10 @@ pub const CODES: u32 = 10_000;
 pub const LOG: usize = 1024;
 /// Most bytes of a message.
 pub const MESSAGE_MAX: usize = 7032;
+/// Bytes of a household record: 0x48 0x52, line (1), grossing weight (4, most significant first).
+pub const HOUSEHOLD: usize = 7;
+/// Most household records of a sheet.
+pub const HOUSEHOLDS: usize = 1_000_000;
 
 /// A ballot: a tail of entries. Length 0 means none, or unknown. Unused cells are zero.
 #[repr(C)]
@@ -150,6 +154,28 @@ pub struct Taken {
     pub number: u32,
 }
 
+/// A row of a household sheet.
+#[repr(C)]
+#[derive(Clone, Copy, Debug, PartialEq, Eq)]
+pub struct Row {
+    /// The class: a settled code.
+    pub class: u32,
+    /// The weights of the households under it; below 2^52.
+    pub total: u64,
+}
+
+/// The household sheet's answer.
+#[repr(C)]
+#[derive(Clone, Copy, Debug, PartialEq, Eq)]
+pub struct Sheet {
+    /// 0, or the refusal's number.
+    pub number: u32,
+    /// Rows there are; 0 where the call is refused.
+    pub count: usize,
+    /// The rows, classes rising, then zeros.
+    pub rows: [Row; LINES as usize],
+}
+
 // Each function asks what C asks: a pointer is aligned, not null, and names as many elements as the
 // count after it says; memory that a call writes is named by no other argument of it.
 extern "C" {
@@ -188,6 +214,15 @@ extern "C" {
         message: *const u8,
         message_len: usize,
     ) -> Taken;
+
+    /// The household sheet, by the settled codes.
+    pub fn joukerpan_sheet(
+        record: Record,
+        log: *const u32,
+        log_len: usize,
+        households: *const u8,
+        households_len: usize,
+    ) -> Sheet;
 }
 
 /// The layout that the engine was compiled for.
@@ -208,4 +243,6 @@ const _: () = {
     assert!(size_of::<Elected>() == 1416 && offset_of!(Elected, number) == 1400 && offset_of!(Elected, count) == 1408);
     assert!(size_of::<Sent>() == 16 && offset_of!(Sent, length) == 8);
     assert!(size_of::<Taken>() == 1408 && offset_of!(Taken, number) == 1400);
+    assert!(size_of::<Row>() == 16 && offset_of!(Row, total) == 8);
+    assert!(size_of::<Sheet>() == 1040 && offset_of!(Sheet, count) == 8 && offset_of!(Sheet, rows) == 16);
 };

@@ -28,6 +28,8 @@
 //! # Ok::<(), Refused>(())
 //! ```
 //!
+//! The tabulator's sheet of households, class by class, is [`Office::sheet`].
+//!
 //! What a service owes in return, above all how it stores an office, stands at [`Office`]. That an edit
 //! can lose, and how that is noticed, stands at [`Office::pending`].
 //!
@@ -40,10 +42,14 @@ mod bytes;
 mod entry;
 mod office;
 mod refused;
+mod sheet;
 mod unreadable;
 
 pub use entry::{Entry, EntryKind};
-pub use joukerpan_sys::{Ballot, Record, Summary, CODES, LINES, LOG, MESSAGE_MAX, OFFICES, TAIL};
+pub use joukerpan_sys::{
+    Ballot, Record, Row, Summary, CODES, HOUSEHOLD, HOUSEHOLDS, LINES, LOG, MESSAGE_MAX, OFFICES, TAIL,
+};
 pub use office::{sound, Office};
 pub use refused::Refused;
+pub use sheet::{Household, Sheet};
 pub use unreadable::Unreadable;

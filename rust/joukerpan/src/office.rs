@@ -5,7 +5,7 @@ use std::fmt;
 use joukerpan_sys as engine;
 use joukerpan_sys::{Record, Weights, LINES, LOG, MESSAGE_MAX, OFFICES};
 
-use crate::{Entry, Refused};
+use crate::{Entry, Refused, Sheet};
 
 /// One office's state: its record and its log, which are always sound together.
 ///
@@ -301,6 +301,45 @@ impl Office {
         let framed = unsafe { engine::joukerpan_tentative_frame(self.record, self.log.as_ptr(), LOG, line) };
         Refused::check(framed.number)?;
         Ok(framed.code)
+    }
+
+    /// The household sheet: the weights of the households pooled under the settled codes of their lines, a
+    /// row for each class met, classes rising.
+    ///
+    /// The bytes are household records and nothing else, [`HOUSEHOLD`](crate::HOUSEHOLD) bytes each: 0x48
+    /// 0x52, the line, the grossing weight with its most significant byte first ([`Household`](crate::Household)
+    /// writes them). No bytes are a sheet without rows; a household of weight 0 makes its class met. The
+    /// totals add up to the weights read, and two offices with equal settled logs have equal sheets of the
+    /// same households (proved).
+    ///
+    /// # Errors
+    ///
+    /// [`Refused::NoHouseholds`].
+    ///
+    /// ```
+    /// use joukerpan::{Household, Office, Refused};
+    ///
+    /// let mut office = Office::found(0, &[1])?;
+    /// office.issue(5, 120)?;
+    /// office.issue(6, 120)?;
+    /// office.elect();
+    ///
+    /// let households = [Household { line: 6, weight: 40 }, Household { line: 9, weight: 2 }, Household { line: 5, weight: 60 }];
+    /// let sheet = office.sheet(&Household::to_bytes(&households))?;
+    /// let rows: Vec<(u32, u64)> = sheet.iter().map(|row| (row.class, row.total)).collect();
+    /// assert_eq!(rows, [(0, 2), (120, 100)]); // line 9 has no code
+    /// assert_eq!(office.sheet(b"HR"), Err(Refused::NoHouseholds));
+    /// # Ok::<(), Refused>(())
+    /// ```
+    pub fn sheet(&self, households: &[u8]) -> Result<Sheet, Refused> {
+        // SAFETY: log and households name their elements for as long as the call lasts; the engine only
+        // reads them.
+        let answer = unsafe {
+            let (log, bytes) = (self.log.as_ptr(), households.as_ptr());
+            engine::joukerpan_sheet(self.record, log, LOG, bytes, households.len())
+        };
+        Refused::check(answer.number)?;
+        Ok(Sheet::from(answer))
     }
 
     /// Settles the entries that have won, and answers how many: 0 where none has. Each is counted by the

@@ -51,10 +51,12 @@ pub enum Refused {
     /// at most 32 / n of them, rounded down, edits and moves of weight together. Others may still add theirs.
     /// It goes on when some of them are settled, or lost.
     PartFull = 11,
+    /// The bytes are not household records, have a line above 63, or are more than 1,000,000 records.
+    NoHouseholds = 12,
 }
 
 /// Every refusal, by rising number.
-const ALL: [Refused; 11] = [
+const ALL: [Refused; 12] = [
     Refused::Unsound,
     Refused::Founding,
     Refused::NoEntry,
@@ -66,10 +68,11 @@ const ALL: [Refused; 11] = [
     Refused::OwnMessage,
     Refused::OtherLog,
     Refused::PartFull,
+    Refused::NoHouseholds,
 ];
 
 impl Refused {
-    /// The number of the refusal, 1 to 11.
+    /// The number of the refusal, 1 to 12.
     pub fn number(self) -> u32 {
         self as u32
     }
@@ -112,6 +115,9 @@ impl Refused {
             Refused::OwnMessage => "the message is the office's own",
             Refused::OtherLog => "neither settled log is a beginning of the other",
             Refused::PartFull => "the own ballot has this office's part, 32 / n of the entries that are not settled yet",
+            Refused::NoHouseholds => {
+                "the bytes are not household records, have a line above 63, or are more than 1000000 records"
+            }
         }
     }
 }
@@ -131,8 +137,9 @@ mod tests {
     #[test]
     fn every_number_is_its_own() {
         assert_eq!(Refused::check(0), Ok(()));
-        for (number, refused) in (1..).zip(ALL) {
-            assert_eq!(refused.number(), number);
+        assert!(ALL.windows(2).all(|two| two[0].number() < two[1].number()));
+        for refused in ALL {
+            let number = refused.number();
             assert_eq!(Refused::from_number(number), Some(refused));
             assert_eq!(Refused::check(number), Err(refused));
             assert!(refused.to_string().starts_with(&format!("refused ({number}): ")));
@@ -141,7 +148,7 @@ mod tests {
 
     #[test]
     fn no_other_number_is_a_refusal() {
-        for number in [0, 12, 256, u32::MAX] {
+        for number in [0, 13, 256, u32::MAX] {
             assert_eq!(Refused::from_number(number), None);
         }
     }
