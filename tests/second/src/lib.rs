@@ -15,6 +15,7 @@ pub mod random;
 pub mod record;
 pub mod rehearsal;
 pub mod samples;
+pub mod sheet;
 pub mod shrink;
 pub mod survey;
 pub mod take;

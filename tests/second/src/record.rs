@@ -36,6 +36,8 @@ pub const OWN_MESSAGE: u32 = 9;
 pub const LOGS_PART: u32 = 10;
 /// The own office has its part in its own tail.
 pub const PART_FULL: u32 = 11;
+/// The households are not of the layout, have a line above 63, or are too many.
+pub const NO_HOUSEHOLDS: u32 = 12;
 
 /// A tail of entries; length 0 means none, or unknown. Unused cells are zero.
 #[repr(C)]

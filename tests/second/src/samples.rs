@@ -6,6 +6,7 @@ use crate::random::Random;
 use crate::record::{
     entry, is_entry, move_weight, office_of, part, set_code, sound, Ballot, Record, LINES, LOG, OFFICES, TAIL,
 };
+use crate::sheet::{household, HOUSEHOLD_SIZE};
 
 /// A record and its log.
 #[derive(Clone, Debug, PartialEq, Eq)]
@@ -285,4 +286,36 @@ fn break_ballot(random: &mut Random, ballot: &mut Ballot, wrong: u32, huge: usiz
         _ if length < TAIL => ballot.cells[random.within(length, TAIL - 1)] = random.pick(&[1, wrong]),
         _ => ballot.len = TAIL + 1,
     }
+}
+
+/// The bytes of this many households, of few lines or of all, their weights at the limits now and then.
+pub fn any_households(random: &mut Random, count: usize) -> Vec<u8> {
+    let lines = random.pick(&[1, 3, 64, 64]);
+    let mut bytes = vec![];
+    for _ in 0..count {
+        let any = random.below(lines) as u8;
+        let line = random.pick(&[any, any, any, 0, 5, 63]);
+        let weight = match random.below(8) {
+            0 => random.pick(&[0, 0, 1, 255, 256, 65_536, u32::MAX]),
+            _ => random.bits() as u32,
+        };
+        bytes.extend(household(line, weight));
+    }
+    bytes
+}
+
+/// The bytes of households with one thing wrong: a byte of a mark, a line above 63, a byte more or less.
+pub fn damaged_households(random: &mut Random, mut bytes: Vec<u8>) -> Vec<u8> {
+    let at = random.below(bytes.len());
+    let start = at - at % HOUSEHOLD_SIZE;
+    match random.below(6) {
+        _ if bytes.is_empty() => bytes.push(random.pick(&[0, 0x48])),
+        0 => bytes[start + random.below(2)] ^= 1 << random.below(8),
+        1 => bytes[start..start + 2].reverse(),
+        2 => bytes[start + 2] = random.pick(&[64, 65, 128, 255]),
+        3 => bytes.truncate(at - usize::from(at > 0 && at == start)),
+        4 => bytes.insert(at, random.pick(&[0, 0x48, 0x52])),
+        _ => drop(bytes.remove(at)),
+    }
+    bytes
 }

@@ -8,6 +8,7 @@ use crate::lines::{each_line, letter_and_numbers};
 use crate::message::send;
 use crate::record::{sound, Ballot, Record, OFFICES, TAIL};
 use crate::rehearsal::push_number;
+use crate::sheet::sheet;
 use crate::take::take;
 
 /// Most words of the log.
@@ -170,6 +171,7 @@ impl State {
                 let (number, length) = send(&self.record, &self.log, &mut self.output);
                 vec![number.into(), length as u64]
             }
+            (b'H', 0) => self.sheet(),
             (b'T', 0) => {
                 let (number, record) = take(self.record, &mut self.log, &self.message);
                 self.record = record;
@@ -199,6 +201,17 @@ impl State {
         let (number, code) = settled_frame(&self.record, &self.log, line);
         let (second, tentative) = tentative_frame(&self.record, &self.log, line);
         vec![number.into(), code.into(), second.into(), tentative.into()]
+    }
+
+    /// The number of the sheet of the households in the message, its rows, and the digest of their classes and totals.
+    fn sheet(&self) -> Vec<u64> {
+        let (number, rows) = sheet(&self.record, &self.log, &self.message);
+        let mut digest = Digest::default();
+        for row in &rows {
+            digest.add(row.class.into());
+            digest.add(row.total);
+        }
+        vec![number.into(), rows.len() as u64, digest.0]
     }
 
     /// The settled part's number, length and digest.

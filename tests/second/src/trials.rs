@@ -13,10 +13,11 @@ mod moves;
 mod parts;
 mod product;
 mod random;
+mod sheets;
 mod ties;
 
 /// The kinds of trial script there are.
-pub const KINDS: [&str; 5] = ["boundaries", "elections", "takes", "damaged", "random"];
+pub const KINDS: [&str; 6] = ["boundaries", "elections", "takes", "damaged", "random", "sheets"];
 
 /// Words or bytes of a line that has several.
 const WORDS: usize = 10;
@@ -182,8 +183,8 @@ fn most_common(log: &[u32]) -> u32 {
 }
 
 /// A trial script of one kind; nothing if there is no such kind.
-/// `count` is how many messages are damaged, or how many random records are tried; the other kinds have neither
-/// seed nor count.
+/// `count` is how many messages are damaged, or how many random records are tried; kinds without chance have neither seed
+/// nor count.
 pub fn script(kind: &str, seed: u64, count: usize) -> Option<Vec<u8>> {
     let mut trials = Trials::default();
     match kind {
@@ -200,6 +201,7 @@ pub fn script(kind: &str, seed: u64, count: usize) -> Option<Vec<u8>> {
         "takes" => product::takes(&mut trials),
         "damaged" => damaged::write(&mut trials, seed, count),
         "random" => random::write(&mut trials, seed, count),
+        "sheets" => sheets::write(&mut trials, seed, count),
         _ => return None,
     }
     Some(trials.text)

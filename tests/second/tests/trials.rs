@@ -20,7 +20,7 @@ fn the_documents_example() {
 }
 
 /// Lines outside the language, each for one cause.
-const WRONG: [&str; 57] = [
+const WRONG: [&str; 58] = [
     "",
     "d 1",
     "q",
@@ -75,6 +75,7 @@ const WRONG: [&str; 57] = [
     "E 0",
     "S 0",
     "T 0",
+    "H 0",
     "I  0 0",
     "I 00 0",
     "m 1 1 1 1 1 1 1 1 1 1 1 1 1 1 1 1 1 1 1 1 1 1 1 1 1",
@@ -108,6 +109,16 @@ fn generated_scripts_are_well_formed() {
 /// Whether the answers of these kinds hold the line's beginning.
 fn shown(answers: &str, beginning: &str) -> bool {
     answers.lines().any(|line| line.starts_with(beginning))
+}
+
+#[test]
+fn every_number_of_the_further_calls_is_shown() {
+    for (kind, beginnings) in [("sheets", &["H 0 0 0 ", "H 0 64 ", "H 1 0 0 ", "H 12 0 0 "][..])] {
+        let answers = tried(&script(kind, 1, 100).unwrap());
+        for beginning in beginnings {
+            assert!(shown(&answers, beginning), "{beginning}");
+        }
+    }
 }
 
 #[test]
