@@ -33,7 +33,7 @@ use Rattle.frame.specs.State.{heldBy, holding, freshRecord}
 use Rattle.protocol.specs.Limits.{Head}
 use Rattle.frame.specs.Soundness.{Sound}
 use Rattle.frame.specs.Sending.{contentOf, messageOf}
-use Rattle.frame.specs.Taking.{sameOffices, takeNumber, takeOf, takeWords}
+use Rattle.frame.specs.Taking.{sameOffices, takeNumber, takePlaces, takeOf, takeWords}
 use Rattle.frame.specs.declared.Record.{Record}
 use Rattle.frame.proofs.State.{held-by, held-fine, sound-of}
 use Rattle.frame.proofs.Take.{Accepted, accepted, take-refused, take-done-is, taken-office, not-read, other, like}
@@ -45,7 +45,7 @@ number-is r words s = refl
 -- ── the record after a call ──
 pub take-keeps : (r : Record) (words s : List ℕ) → (takeOf r words s .number ≡ 0 → ⊥) → (takeOf r words s .«record» ≡ r) × (takeWords r words s ≡ words)
 take-keeps r words s h =
-    let e = take-refused r words s (takeNumber r words s) refl (λ q. h (number-is r words s ∙ q)) in
+    let e = take-refused r words s (takeNumber r words s) (takePlaces r words s) refl refl (λ q. h (number-is r words s ∙ q)) in
     (ap (λ t. t .«record») (sym (e .0)), sym (e .1))
 
 -- an accepted message says a content; of bytes it is valid

@@ -1,6 +1,6 @@
 -- Take: each way out of the call, and what an accepted message is made into.
 --     take-refused                      a refused call changes nothing
---     number-at                         the call's number is the one that is found by the reading
+--     number-at, places-at              the call's number and its places are those that are found by the reading
 --     Accepted, accepted                what a message is that the call accepts
 --     ready, take-made                  the work on such a message may be done, and is what the definition says
 -- Assumes nothing.
@@ -33,7 +33,8 @@ use Rattle.spelling.proofs.Valid.{Valid, valid-facts, log-length}
 use Rattle.spelling.proofs.Laws.{reading-valid, reading-log, reading-room}
 use Rattle.reading.specs.Read.{readingOf, badReading, eightWeights, ballotsOf}
 use Rattle.reading.specs.declared.Reading.{Reading}
-use Rattle.intake.specs.Intake.{messageIn, mergedOf, refusalOf, Ready}
+use Rattle.comparing.specs.FromEnd.{compares, placesFromEnd}
+use Rattle.intake.specs.Intake.{messageIn, mergedOf, refusalOf, checkedOf, Ready}
 use Rattle.intake.specs.declared.Merged.{Merged}
 use Rattle.reading.proofs.Answers.{read-some, read-none, rest-of-message}
 use Rattle.summary.specs.Summary.{startWith, summaryAfter}
@@ -41,18 +42,18 @@ use Rattle.summary.specs.declared.Summary.{Summary}
 use Rattle.summary.proofs.Laws.{summary-append}
 use Rattle.frame.specs.State.{withHeld, heldBy, doneBy, holding}
 use Rattle.frame.specs.Soundness.{soundB, Sound}
-use Rattle.frame.specs.Taking.{sameOffices, onReading, takeNumber, takenOffice, takeOf, takeWords}
+use Rattle.frame.specs.Taking.{sameOffices, onReading, takeNumber, takePlaces, takenOffice, takeOf, takeWords}
 use Rattle.frame.specs.declared.Record.{Record}
 use Rattle.frame.specs.declared.taking.Taken.{Taken}
 use Rattle.frame.proofs.Sound.{sound, sound-true}
 use Rattle.frame.proofs.State as State
 
-pub take-refused : (r : Record) (words s : List ℕ) (x : ℕ) → x ≡ takeNumber r words s → (x ≡ 0 → ⊥)
-    → (_≡_ {A = Taken} (record { number = x; «record» = r }) (takeOf r words s)) × (words ≡ takeWords r words s)
+pub take-refused : (r : Record) (words s : List ℕ) (x p : ℕ) → x ≡ takeNumber r words s → p ≡ takePlaces r words s → (x ≡ 0 → ⊥)
+    → (_≡_ {A = Taken} (record { number = x; places = p; «record» = r }) (takeOf r words s)) × (words ≡ takeWords r words s)
 unfolding takeOf takeWords
-take-refused r words s x e d =
+take-refused r words s x p e q d =
     let no : eqb (takeNumber r words s) 0 ≡ false = ne-eqb (takeNumber r words s) 0 (λ z. d (e ∙ z)) in
-    ((λ i. record { number = e i; «record» = sym (pick-false (eqb (takeNumber r words s) 0) (holding r (takenOffice r words s)) r no) i }), sym (pick-false (eqb (takeNumber r words s) 0) _ words no))
+    ((λ i. record { number = e i; places = q i; «record» = sym (pick-false (eqb (takeNumber r words s) 0) (holding r (takenOffice r words s)) r no) i }), sym (pick-false (eqb (takeNumber r words s) 0) _ words no))
 
 -- ── what is read ──
 -- the fields of a reading are what the message says
@@ -104,6 +105,19 @@ module _ (r : Record) (words s : List ℕ) where
       pub like : sameOffices r c ≡ true → takeNumber r words s ≡ refuseTake (r .own) (asMessage c) (heldBy r words)
       unfolding takeNumber pick
       like d = rw (sound-true r words S, e, d)
+
+-- a number that came to no comparison
+pub no-places : (r : Record) (words s : List ℕ) → compares (takeNumber r words s) ≡ false → 0 ≡ takePlaces r words s
+unfolding takePlaces
+no-places r words s e = go (reading s)
+  where
+    go : (x : Option Content) → _≡_ {A = ℕ} 0 (onReading x 0 (λ c. pick (compares (takeNumber r words s)) (placesFromEnd (heldBy r words .log) (c .log)) 0))
+    go none = refl
+    go (some c) = sym (pick-false (compares (takeNumber r words s)) (placesFromEnd (heldBy r words .log) (c .log)) 0 e)
+
+places-said : (r : Record) (words s : List ℕ) (c : Content) → reading s ≡ some c → takePlaces r words s ≡ pick (compares (takeNumber r words s)) (placesFromEnd (take (r .settled) words) (c .log)) 0
+unfolding takePlaces
+places-said r words s c e = ap (λ (x : Option Content). onReading x 0 (λ c. pick (compares (takeNumber r words s)) (placesFromEnd (heldBy r words .log) (c .log)) 0)) e
 
 -- eight weights with zeros behind the first n are the same as n weights are
 eight-take : (n : ℕ) (ws vs : List ℕ) → length ws ≡ n → eightWeights n ws ≡ vs → ws ≡ take n vs
@@ -196,6 +210,15 @@ module _ (r : Record) (words s : List ℕ) (S : Sound r words) (m : Reading) (is
       go none e = not-read-found e ∙ sym (not-read r words s S e)
       go (some c) e = read-found c e ∙ sym (number-read r words s S c e)
 
+  -- and so are the places
+  pub places-at : checkedOf (r .n) (r .own) (r .weights) words (r .settled) (restOf m s) m .places ≡ takePlaces r words s
+  unfolding checkedOf compares pick
+  places-at = ap (λ (k : ℕ). pick (compares k) (placesFromEnd (take (r .settled) words) (logIn m s)) 0) number-at ∙ go (reading s) refl
+    where
+      go : (x : Option Content) → reading s ≡ x → pick (compares (takeNumber r words s)) (placesFromEnd (take (r .settled) words) (logIn m s)) 0 ≡ takePlaces r words s
+      go none e = let seven = not-read r words s S e in ap (λ (k : ℕ). pick (compares k) (placesFromEnd (take (r .settled) words) (logIn m s)) 0) seven ∙ no-places r words s (ap compares seven)
+      go (some c) e = ap (λ (l : List ℕ). pick (compares (takeNumber r words s)) (placesFromEnd (take (r .settled) words) l) 0) (log-in m s c (message c e) e) ∙ sym (places-said r words s c e)
+
   -- the lengths that the code's walks ask, whatever was read
   pub head-within : m .head ≤ length s
   unfolding readingOf badReading
@@ -248,9 +271,10 @@ pub take-done-is : (r : Record) (words s : List ℕ) → takeNumber r words s �
 unfolding takeOf takeWords pick
 take-done-is r words s e = (rw e, rw e)
 
-pub take-answer : (r : Record) (words s : List ℕ) (next : Record) → takeNumber r words s ≡ 0 → next ≡ takeOf r words s .«record» → record { number = 0; «record» = next } ≡ takeOf r words s
+pub take-answer : (r : Record) (words s : List ℕ) (next : Record) (p : ℕ) → takeNumber r words s ≡ 0 → p ≡ takePlaces r words s → next ≡ takeOf r words s .«record»
+    → record { number = 0; places = p; «record» = next } ≡ takeOf r words s
 unfolding takeOf
-take-answer r words s next e q = λ i. record { number = sym e i; «record» = q i }
+take-answer r words s next p e l q = λ i. record { number = sym e i; places = l i; «record» = q i }
 
 -- ── the code's work on an accepted message ──
 module _ (r : Record) (words s : List ℕ) (m : Reading) (e : takeNumber r words s ≡ 0) (is : m ≡ readingOf (reading s)) where
@@ -314,11 +338,11 @@ module _ (r : Record) (words s : List ℕ) (m : Reading) (e : takeNumber r words
     after : summaryAfter (r .summary) more ≡ doneBy r (next .log)
     after = ap (λ (x : Summary). summaryAfter x more) (taken .sounds .done) ∙ sym (summary-append (startWith (r .weights)) log more) ∙ ap (doneBy r) grown
 
-    pub take-made : (_≡_ {A = Taken} (record { number = 0; «record» = withHeld r (q .summary) (q .settled) (q .ballots) }) (takeOf r words s)) × (ws ≡ takeWords r words s)
-    take-made =
+    pub take-made : (p : ℕ) → p ≡ takePlaces r words s → (_≡_ {A = Taken} (record { number = 0; places = p; «record» = withHeld r (q .summary) (q .settled) (q .ballots) }) (takeOf r words s)) × (ws ≡ takeWords r words s)
+    take-made p l =
         let o : next ≡ takenOffice r words s = ap (λ (y : Message). withTake (r .own) y (heldBy r words)) is-message ∙ sym (taken-office r words s taken) in
         let d = take-done-is r words s e in
         let held = ap (λ (y : Merged). withHeld r (y .summary) (y .settled) (y .ballots)) eq ∙ ap (λ (z : Summary). withHeld r z (length (next .log)) (map ballotOf (next .tails))) after in (
-          take-answer r words s _ e (held ∙ ap (holding r) o ∙ sym (d .0)),
+          take-answer r words s _ p e l (held ∙ ap (holding r) o ∙ sym (d .0)),
           ew ∙ ap (λ (y : Office). wordsWith (y .log) words) o ∙ sym (d .1),
         )

@@ -8,6 +8,7 @@ use lib.ListN.{take}
 use Rattle.lists.specs.Tests.{both, pick, same}
 use Rattle.protocol.specs.Office.{Office}
 use Rattle.protocol.specs.Take.{withTake, refuseTake}
+use Rattle.comparing.specs.FromEnd.{compares, placesFromEnd}
 use Rattle.spelling.specs.Content.{Content, asMessage}
 use Rattle.spelling.specs.Reading.{reading}
 use Rattle.frame.specs.State.{heldBy, holding}
@@ -38,10 +39,15 @@ takeNumber r words s =
 unfoldable pub takenOffice : Record → List ℕ → List ℕ → Office
 takenOffice r words s = onReading (reading s) (heldBy r words) (λ c. withTake (r .own) (asMessage c) (heldBy r words))
 
+-- (viii) "how many places that needed: up to and including the first difference met, every shared place if none differs, 0 on any refusal but 10"
+unfoldable pub takePlaces : Record → List ℕ → List ℕ → ℕ
+takePlaces r words s = onReading (reading s) 0 (λ c. pick (compares (takeNumber r words s)) (placesFromEnd (heldBy r words .log) (c .log)) 0)
+
 -- the record as it was where it is refused
 unfoldable pub takeOf : Record → List ℕ → List ℕ → Taken
 takeOf r words s = record {
   number = takeNumber r words s;
+  places = takePlaces r words s;
   «record» = pick (eqb (takeNumber r words s) 0) (holding r (takenOffice r words s)) r;
 }
 

@@ -7,10 +7,12 @@ use crate::Record;
 pub struct Taken {
     pub record: Record,
     pub number: u32,
+    pub places: usize,
 }
 
 impl Record {
-    // Take: an accepted message is worked into the record and its log; a refused one changes nothing.
+    // Take: an accepted message is worked into the record and its log; a refused one changes nothing. Beside the number it answers how many
+    // places the comparison of the logs needed.
     pub fn take(self, log: &mut [u32], msg: &[u8]) -> Taken
         ensures { λ r. ⌜ (r ≡ takeOf self (now (log .entry)) (now (msg .entry))) × (now (log .exit) ≡ takeWords self (now (log .entry)) (now (msg .entry))) ⌝ }
     {
@@ -18,6 +20,7 @@ impl Record {
             return Taken {
                 record: self,
                 number: 1,
+                places: 0,
             };
         }
         let m = reading::read(msg);
@@ -26,11 +29,14 @@ impl Record {
         let own = self.own;
         let weights = self.weights;
         let settled = self.settled;
-        let number = intake::refusal(self.n, own, weights, &log[..], settled, rest, m);
+        let checked = intake::check(self.n, own, weights, &log[..], settled, rest, m);
+        let number = checked.number;
+        let places = checked.places;
         if number != 0 {
             return Taken {
                 record: self,
                 number,
+                places,
             };
         }
         let summary = self.summary;
@@ -45,6 +51,7 @@ impl Record {
         Taken {
             record: next,
             number: 0,
+            places,
         }
     }
 }

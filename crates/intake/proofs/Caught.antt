@@ -1,11 +1,9 @@
--- The settled log beside a message's: the comparison of the two, and the words after the log has caught up.
---     by-shorter, by-longer              of two lists the shorter one decides whether one is a beginning of the other
---     decides-own, decides-theirs        the same of the log's words and the message's log records
+-- The settled log beside a message's: the words after the log has caught up.
 --     keeps, grows, Longer               the settled length and the words after the log has caught up
 --     Caught, caught                     what the settled log has before it is the message's, and what it lacked
 -- Assumes nothing.
 use mathlib.Core.Path.{_≡_, refl, sym, ap, subst, _∙_}
-use mathlib.Core.Bool.{Bool, true, false, _||_, or-comm}
+use mathlib.Core.Bool.{Bool, true, false}
 use mathlib.Core.Logic.{_⊎_, inl, inr}
 use mathlib.Core.List.{List, [], _++_, append-nil}
 use Prim.Native.Nat.{ℕ, _-_, _<_, _≤_}
@@ -15,14 +13,14 @@ use lib.ListN.{length, take, drop, length-drop, take-append-drop}
 use lib.Seq.{sets, length-take-le, drop-append-le, take-at}
 use borrow.Author.Tests.{lt-ltb, le-ltb, ltb-true, ltb-false}
 use Rattle.lists.specs.Tests.{pick}
-use Rattle.protocol.specs.Beginning.{_⊑_, _⊏_, begins, comparable}
+use Rattle.protocol.specs.Beginning.{_⊑_, _⊏_}
 use Rattle.lists.proofs.Tests.{pick-cases}
-use Rattle.protocol.proofs.Beginning.{⊑-cases, ⊏-length, ⊑-length, ⊑-rest, ⊑-refl, begins-true, begins-of}
+use Rattle.protocol.proofs.Beginning.{⊑-cases, ⊏-length, ⊑-length, ⊑-rest, ⊑-refl, begins-of}
 use Rattle.lists.proofs.Walk.{take-from}
 use Rattle.numbers.specs.Numbers.{runAt}
 use Rattle.spelling.specs.Reading.{recordAt}
 use Rattle.numbers.proofs.Runs.{runAt-length}
-use Rattle.reading.proofs.Logs.{same-shorter, same-longer, extended}
+use Rattle.reading.proofs.Logs.{extended}
 use Rattle.intake.specs.Intake.{caughtLength, caughtWords}
 use Rattle.ballots.specs.Ballots.{wordsWith}
 
@@ -33,42 +31,6 @@ not-shorter a b p h = go (⊑-cases a b p)
     go : (a ≡ b) ⊎ (a ⊏ b) → b ⊑ a
     go (inl e) = subst (λ (l : List ℕ). b ⊑ l) (sym e) (⊑-refl b)
     go (inr q) = absurd (omega (arith, ⊏-length a b q))
-
-by-shorter : (a b : List ℕ) → length a ≤ length b → comparable a b ≡ begins a b
-by-shorter a b h = go (begins a b) refl (begins b a) refl
-  where
-    go : (x : Bool) → begins a b ≡ x → (y : Bool) → begins b a ≡ y → (x || y) ≡ x
-    go true p y q = refl
-    go false p false q = refl
-    go false p true q = sym (begins-of a b (not-shorter b a (begins-true b a q) h)) ∙ p
-
-by-longer : (a b : List ℕ) → length b ≤ length a → comparable a b ≡ begins b a
-by-longer a b h = or-comm (begins a b) (begins b a) ∙ by-shorter b a h
-
--- ── the message's log where it stands: k log records in the rest of the message ──
-module _ (log rest : List ℕ) (settled k : ℕ) (room : settled ≤ length log) where
-  abbrev theirs : List ℕ
-  theirs = runAt 6 recordAt k rest
-
-  theirs-length : length theirs ≡ k
-  theirs-length = runAt-length 6 recordAt k rest
-
-  own-long : length (take settled log) ≡ settled
-  own-long = length-take-le settled log room
-
-  again : runAt 6 recordAt (length theirs) rest ≡ theirs
-  again = ap (λ (j : ℕ). runAt 6 recordAt j rest) theirs-length
-
-  pub decides-own : settled ≤ k → begins (take settled log) (runAt 6 recordAt settled rest) ≡ comparable (take settled log) theirs
-  decides-own h =
-      same-shorter log rest theirs settled again room (omega (arith, theirs-length))
-      ∙ sym (by-shorter (take settled log) theirs (omega (arith, theirs-length, own-long)))
-
-  pub decides-theirs : k ≤ settled → begins (take k log) (runAt 6 recordAt k rest) ≡ comparable (take settled log) theirs
-  decides-theirs h =
-      ap (λ (j : ℕ). begins (take j log) (runAt 6 recordAt j rest)) (sym theirs-length)
-      ∙ same-longer log rest theirs settled again room (omega (arith, theirs-length))
-      ∙ sym (by-longer (take settled log) theirs (omega (arith, theirs-length, own-long)))
 
 -- what is left of the log where its settled part is not the shorter one, and where it is
 pub keeps : (words rest : List ℕ) (settled k : ℕ) → k ≤ settled → (settled ≡ caughtLength settled (runAt 6 recordAt k rest)) × (words ≡ caughtWords words settled (runAt 6 recordAt k rest))

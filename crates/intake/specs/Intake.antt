@@ -17,7 +17,9 @@ use Rattle.spelling.specs.Reading.{recordAt}
 use Rattle.reading.specs.declared.Reading.{Reading}
 use Rattle.summary.specs.Summary.{summaryAfter}
 use Rattle.summary.specs.declared.Summary.{Summary}
+use Rattle.comparing.specs.FromEnd.{placesFromEnd, compares}
 use Rattle.intake.specs.declared.Merged.{Merged}
+use Rattle.intake.specs.declared.Checked.{Checked}
 
 -- the message that was read: its log records stand in the rest after the head
 abbrev pub messageIn : List ℕ → Reading → Message
@@ -35,6 +37,13 @@ refusalOf n own weights words settled rest m =
     (pick (not (both (eqb (m .n) n) (same (m .weights) weights))) 8
     (pick (eqb (m .sender) own) 9
     (pick (comparable (take settled words) (messageIn rest m .state .log)) 0 10)))
+
+-- the number, and how many places the comparison of the logs needed: "0 on any refusal but 10"
+unfoldable pub checkedOf : ℕ → ℕ → List ℕ → List ℕ → ℕ → List ℕ → Reading → Checked
+checkedOf n own weights words settled rest m = record {
+  number = refusalOf n own weights words settled rest m;
+  places = pick (compares (refusalOf n own weights words settled rest m)) (placesFromEnd (take settled words) (messageIn rest m .state .log)) 0;
+}
 
 -- the office's state after it took the message that was read
 abbrev pub takenIn : List ℕ → ℕ → List Ballot → ℕ → List ℕ → Reading → Office

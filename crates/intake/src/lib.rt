@@ -5,9 +5,8 @@ ghost use Prim.Native.Nat.{_*_, _≤_};
 ghost use lib.ListN.{length, take};
 ghost use Rattle.numbers.specs.Numbers.{runAt};
 ghost use Rattle.spelling.specs.Reading.{recordAt};
-ghost use Rattle.intake.specs.Intake.{takenIn, mergedOf, refusalOf, caughtLength, caughtWords, Ready};
+ghost use Rattle.intake.specs.Intake.{takenIn, mergedOf, checkedOf, caughtLength, caughtWords, Ready};
 ghost use Rattle.ballots.specs.Ballots.{wordsWith};
-ghost use Rattle.protocol.specs.Beginning.{comparable};
 use ballots::Ballot;
 use reading::Reading;
 use summary::Summary;
@@ -19,19 +18,21 @@ pub struct Merged {
     pub ballots: [Ballot; 8],
 }
 
-// Whether one of the two settled logs is a beginning of the other: the log's first words, and the message's k log records.
-fn comparable(log: &[u32], settled: usize, rest: &[u8], k: usize) -> bool
-    requires { ⌜ (settled ≤ length (now log)) × (6 * k ≤ length (now rest)) ⌝ }
-    ensures { λ r. ⌜ r ≡ comparable (take settled (now (log .entry))) (runAt 6 recordAt k (now (rest .entry))) ⌝ }
+// The number of a take, and how many places the comparison of the logs needed.
+pub struct Checked {
+    pub number: u32,
+    pub places: usize,
+}
+
+// The number of a take that came to no comparison.
+fn refused(number: u32) -> Checked
+    ensures { λ r. ⌜ r ≡ record { number = number; places = 0 } ⌝ }
 {
-    if settled <= k {
-        return reading::same_log(log, rest, settled);
-    }
-    reading::same_log(log, rest, k)
+    Checked { number, places: 0 }
 }
 
 // The number of a take on a sound record with these fields, in the order of the definition; m is what the message was read as.
-pub fn refusal(
+pub fn check(
     n: usize,
     own: usize,
     weights: [u16; 8],
@@ -39,27 +40,29 @@ pub fn refusal(
     settled: usize,
     rest: &[u8],
     m: Reading,
-) -> u32
+) -> Checked
     requires { ⌜ (settled ≤ length (now log)) × (6 * m .settled ≤ length (now rest)) ⌝ }
-    ensures { λ r. ⌜ r ≡ refusalOf n own weights (now (log .entry)) settled (now (rest .entry)) m ⌝ }
+    ensures { λ r. ⌜ r ≡ checkedOf n own weights (now (log .entry)) settled (now (rest .entry)) m ⌝ }
 {
     if !m.ok {
-        return 7;
+        return refused(7);
     }
     if m.n != n {
-        return 8;
+        return refused(8);
     }
     let theirs = m.weights;
     if !lists::same_eight(theirs, weights) {
-        return 8;
+        return refused(8);
     }
     if m.sender == own {
-        return 9;
+        return refused(9);
     }
-    if !comparable(log, settled, rest, m.settled) {
-        return 10;
+    let c = comparing::compare(log, settled, rest, m.settled);
+    let places = c.places;
+    if c.differ {
+        return Checked { number: 10, places };
     }
-    0
+    Checked { number: 0, places }
 }
 
 // Where the message's log is the longer, writes the missing entries from the settled length onward; answers the new settled length.

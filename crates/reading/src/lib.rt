@@ -1,4 +1,4 @@
-// Reading a message: what it says, or a refusal; and its settled entries where they stand, compared with a log or written to it.
+// Reading a message: what it says, or a refusal; and its settled entries where they stand, written to a log.
 use ballots::Ballot;
 use ballots::fine;
 use numbers::be16_at;
@@ -12,9 +12,8 @@ use spelling::head_size;
 use spelling::length_place;
 ghost use mathlib.Core.Path.{_≡_};
 ghost use Prim.Native.Nat.{_+_, _*_, _≤_};
-ghost use lib.ListN.{length, take, drop};
+ghost use lib.ListN.{length, drop};
 ghost use lib.Seq.{sets};
-ghost use Rattle.protocol.specs.Beginning.{begins};
 ghost use Rattle.numbers.specs.Numbers.{be16, runAt};
 ghost use Rattle.spelling.specs.Reading.{recordAt, reading};
 ghost use Rattle.reading.specs.Read.{headWithin, logCoding, logWithin, eightWeights, badReading, readingOf};
@@ -181,27 +180,6 @@ pub fn read(msg: &[u8]) -> Reading
     }
 }
 
-// Whether the first k words of a log are the values of the first k log records. Public only for the crate above, which proves that
-// there are as many of both, here and below. So every record is there, but a walk that ends where one is not runs faster.
-pub fn same_log(log: &[u32], rest: &[u8], k: usize) -> bool
-    requires { ⌜ (k ≤ length (now log)) × (6 * k ≤ length (now rest)) ⌝ }
-    ensures { λ r. ⌜ r ≡ begins (take k (now (log .entry))) (runAt 6 recordAt k (now (rest .entry))) ⌝ }
-{
-    let mut at: usize = 0;
-    for i in 0..k {
-        let step = read_entry(rest, at);
-        let ok = step.ok;
-        if !ok {
-            return false;
-        }
-        if log[i] != step.value {
-            return false;
-        }
-        at = step.next;
-    }
-    true
-}
-
 // The values of the k log records from a position on, written to the start of a part of the log.
 fn fill(part: &mut [u32], rest: &[u8], from: usize, k: usize)
     requires { ⌜ (k ≤ length (now part)) × (from + 6 * k ≤ length (now rest)) ⌝ }
@@ -215,7 +193,8 @@ fn fill(part: &mut [u32], rest: &[u8], from: usize, k: usize)
     }
 }
 
-// "Writes the missing entries from its own length onward": those of the message's k log records past the settled length.
+// "Writes the missing entries from its own length onward": those of the message's k log records past the settled length. Public only for the
+// crate above, which proves what it requires.
 pub fn extend(log: &mut [u32], settled: usize, rest: &[u8], k: usize)
     requires { ⌜ (settled ≤ k) × ((k ≤ length (now log)) × (6 * k ≤ length (now rest))) ⌝ }
     ensures { λ _. ⌜ now (log .exit) ≡ sets (now (log .entry)) settled (drop settled (runAt 6 recordAt k (now (rest .entry)))) ⌝ }

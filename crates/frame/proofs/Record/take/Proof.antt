@@ -1,20 +1,32 @@
 -- Soundness first, then the number by what was read; a refused call leaves all as it was.
 use native.Mathlib.Omega.{arith}
-use mathlib.Core.Path.{_≡_, sym, _∙_}
+use mathlib.Core.Path.{_≡_, refl, sym, ap, _∙_}
+use mathlib.Core.Bool.{false}
 use Prim.Native.Nat.{_≤_}
 use lib.ListN.{length, length-drop}
 use borrow.Author.Needs.{needs}
 use borrow.Author.Tests.{not-true, not-false}
 use Rattle.reading.proofs.Answers.{rest-of-message}
 use Rattle.frame.specs.Soundness.{Sound}
-use Rattle.frame.specs.Taking.{takeNumber}
+use Rattle.lists.specs.Tests.{pick}
+use Rattle.comparing.specs.FromEnd.{compares}
+use Rattle.intake.specs.Intake.{checkedOf, refusalOf}
+use Rattle.intake.specs.declared.Checked.{Checked}
+use Rattle.frame.specs.Taking.{takeNumber, takePlaces}
 use Rattle.frame.proofs.Sound.{sound}
-use Rattle.frame.proofs.Take.{not-sound, number-at, head-within, log-within, take-refused, ready, take-made}
+use Rattle.frame.proofs.Take.{not-sound, no-places, number-at, places-at, head-within, log-within, take-refused, ready, take-made}
 use Rattle.frame.proofs.Record.take.Statement.{statement}
 use Rattle.frame.proofs.Record.take.Tie as tie
 
+-- an unsound record's take compares nothing
+not-compared : compares 1 ≡ false
+unfolding compares pick
+not-compared = refl
+
 returns : tie.Need-returns
-returns c = take-refused _ _ _ 1 (sym (not-sound _ _ _ (sym (c .before .sound .ensures) ∙ not-true _ (c .if1 .taken)))) (λ z. omega arith)
+returns c =
+    let one = not-sound _ _ _ (sym (c .before .sound .ensures) ∙ not-true _ (c .if1 .taken)) in
+    take-refused _ _ _ 1 0 (sym one) (no-places _ _ _ (ap compares one ∙ not-compared)) (λ z. omega arith)
 
 -- the places of the code: the call's start, behind the test of soundness, the reading, the number
 abbrev start : tie.Else1 → tie.Start
@@ -26,22 +38,26 @@ sounds c = sound _ _ (sym (c .before .sound .ensures) ∙ not-false _ (c .if1 .l
 abbrev tested : tie.After-read → tie.Else1
 tested c = c .before
 
-abbrev read : tie.After-refusal-arg → tie.After-read
+abbrev read : tie.After-check-arg → tie.After-read
 read c = c .before .before .before
 
 -- the message's head is within it
 within : (c : tie.After-read) → c .read .result .head ≤ length (start (tested c) .args .msg .now)
 within c = head-within _ _ _ (sounds (tested c)) _ (c .read .ensures)
 
-refusal-requires : tie.Need-refusal-requires
-refusal-requires c κs =
+check-requires : tie.Need-check-requires
+check-requires c κs =
     let x = read c in
     let S = sounds (tested x) in
     (omega (arith, S .most, S .room), rw (rest-of-message (start (tested x) .args .msg .now) (x .read .result .head), length-drop) (log-within _ _ _ S _ (x .read .ensures)))
 
--- what is found by the reading is the call's number
-numbered : (c : tie.After-refusal) → let a = start (tested (read (c .before))) .args in c .refusal .result ≡ takeNumber (a .self) (a .log .now) (a .msg .now)
-numbered c = let x = read (c .before) in c .refusal .ensures ∙ number-at _ _ _ (sounds (tested x)) _ (x .read .ensures)
+-- what is found by the reading is the call's number, and its places
+numbered : (c : tie.After-check) → let a = start (tested (read (c .before))) .args in c .check .result .number ≡ takeNumber (a .self) (a .log .now) (a .msg .now)
+unfolding checkedOf
+numbered c = let x = read (c .before) in ap (λ (y : Checked). y .number) (c .check .ensures) ∙ number-at _ _ _ (sounds (tested x)) _ (x .read .ensures)
+
+placed : (c : tie.After-check) → let a = start (tested (read (c .before))) .args in c .check .result .places ≡ takePlaces (a .self) (a .log .now) (a .msg .now)
+placed c = let x = read (c .before) in ap (λ (y : Checked). y .places) (c .check .ensures) ∙ places-at _ _ _ (sounds (tested x)) _ (x .read .ensures)
 
 done : (c : tie.Else2) → let a = start (tested (read (c .before .before))) .args in takeNumber (a .self) (a .log .now) (a .msg .now) ≡ 0
 done c = sym (numbered (c .before)) ∙ c .if2 .left
@@ -53,9 +69,9 @@ returns-3 : tie.Need-returns-3
 returns-3 c =
     let w = c .before .before .before .before in
     let e = w .before .before .before .before in
-    take-made _ _ _ _ (done e) (read (e .before .before) .read .ensures) _ _ (w .take-in .ensures .0) (w .take-in .ensures .1)
+    take-made _ _ _ _ (done e) (read (e .before .before) .read .ensures) _ _ (w .take-in .ensures .0) (w .take-in .ensures .1) _ (placed (e .before))
 
 pub take-spec : {M : Type 1} → statement M
 take-spec =
     tie.close (tie.spec (λ c κs. search needs) (λ c. search needs) returns (λ c κs. search needs) (λ c. omega (arith, within c)) (λ c. let h = within c in search needs) (λ c. search needs)
-    refusal-requires (λ c. search needs) (λ c. take-refused _ _ _ _ (numbered (c .before)) (c .if2 .taken)) take-in-requires (λ c. search needs) returns-3)
+    check-requires (λ c. search needs) (λ c. take-refused _ _ _ _ _ (numbered (c .before)) (placed (c .before)) (c .if2 .taken)) take-in-requires (λ c. search needs) returns-3)
