@@ -1,29 +1,54 @@
--- What founding leaves.
+-- What founding answers, and what it leaves.
+--     found-short, found-unfit, found-made    each way out of the call
 --     found-sound     a done founding makes a sound record, with the fresh state
 --     found-zero      a refused one makes the all-zero record
 -- Assumes nothing.
 use mathlib.Core.Path.{_≡_, refl, sym, ap, subst, _∙_}
 use mathlib.Core.Bool.{Bool, true, false}
 use mathlib.Core.List.{List}
-use Prim.Native.Nat.{ℕ, _≤_}
+use Prim.Native.Nat.{ℕ, _<_, _≤_}
 use native.Mathlib.Omega.{arith}
 use lib.Dec.{leb}
 use lib.ListN.{length, replicate}
-use borrow.Author.Tests.{leb-true}
+use borrow.Author.Tests.{leb-true, le-leb, lt-leb}
 use Rattle.lists.specs.Tests.{pick}
 use Rattle.protocol.specs.Office.{fresh}
 use Rattle.protocol.proofs.Limits as Limits
 use Rattle.protocol.specs.Limits.{headFine, Head}
 use Rattle.ballots.specs.Ballots.{noBallot}
+use Rattle.ballots.specs.declared.Ballot.{Ballot}
 use Rattle.summary.specs.Summary.{startWith}
+use Rattle.summary.specs.declared.Summary.{Summary}
 use Rattle.summary.proofs.Laws.{summary-nil}
 use Rattle.soundness.specs.Soundness.{longEnough}
 use Rattle.frame.specs.State.{heldBy, withHeld, holding, freshRecord, zeroRecord}
 use Rattle.frame.specs.Soundness.{Sound}
 use Rattle.frame.specs.Founding.{foundNumber, foundOf}
 use Rattle.frame.specs.declared.Record.{Record}
+use Rattle.frame.specs.declared.founding.Founded.{Founded}
 use Rattle.frame.proofs.State.{held-by, sound-of}
 
+-- ── each way out of the call ──
+-- with what the code makes of no ballot and of a start
+module _ (n own : ℕ) (ws words : List ℕ) (b : Ballot) (p : b ≡ noBallot) where
+  zero-held : (s : Summary) → s ≡ startWith (replicate 8 0) → withHeld zeroRecord s 0 (replicate 8 b) ≡ zeroRecord
+  zero-held s q = λ i. withHeld zeroRecord (q i) 0 (replicate 8 (p i))
+
+  pub found-short : (s : Summary) → s ≡ startWith (replicate 8 0) → length words < 1024 → _≡_ {A = Founded} (record { number = 1; «record» = withHeld zeroRecord s 0 (replicate 8 b) }) (foundOf n own ws words)
+  unfolding foundOf foundNumber longEnough pick
+  found-short s q h = rw (lt-leb 1024 (length words) h) (λ i. record { number = 1; «record» = zero-held s q i })
+
+  pub found-unfit : (s : Summary) → s ≡ startWith (replicate 8 0) → 1024 ≤ length words → headFine n own ws ≡ false
+      → _≡_ {A = Founded} (record { number = 2; «record» = withHeld zeroRecord s 0 (replicate 8 b) }) (foundOf n own ws words)
+  unfolding foundOf foundNumber longEnough pick
+  found-unfit s q h e = rw (le-leb 1024 (length words) h, e) (λ i. record { number = 2; «record» = zero-held s q i })
+
+  pub found-made : (s : Summary) → s ≡ startWith ws → 1024 ≤ length words → headFine n own ws ≡ true
+      → _≡_ {A = Founded} (record { number = 0; «record» = withHeld (freshRecord n own ws) s 0 (replicate 8 b) }) (foundOf n own ws words)
+  unfolding foundOf foundNumber longEnough pick
+  found-made s q h e = rw (le-leb 1024 (length words) h, e) (λ i. record { number = 0; «record» = withHeld (freshRecord n own ws) (q i) 0 (replicate 8 (p i)) })
+
+-- ── what it leaves ──
 -- what a done founding found, and the record that it made
 pub record FoundDone (n own : ℕ) (ws words : List ℕ) : Type 0 where
   pub room : 1024 ≤ length words

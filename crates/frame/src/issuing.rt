@@ -30,7 +30,7 @@ impl Record {
             };
         }
         let mut next = self;
-        next.ballots[own] = b.push(entries::pack(own as u8, line as u8, code as u16));
+        next.ballots[own] = issuance::issued(b, own, line, code);
         Issued {
             record: next,
             number: 0,

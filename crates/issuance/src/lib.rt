@@ -1,10 +1,11 @@
-// The number of an issue, by what it is asked of: the offices, the line and the code, the settled length and the own ballot.
+// The number of an issue, by what it is asked of: the offices, the line and the code, the settled length and the own ballot; and the own ballot
+// with the entry. Public only for the crate above, which proves what the functions require.
 ghost use mathlib.Core.Path.{_≡_};
 ghost use Prim.Native.Nat.{_<_, _≤_};
-ghost use Rattle.protocol.specs.Entry.{proper};
+ghost use Rattle.protocol.specs.Entry.{proper, value};
 ghost use Rattle.protocol.specs.Counts.{countIn};
 ghost use Rattle.protocol.specs.Issue.{refusalAt};
-ghost use Rattle.ballots.specs.Ballots.{tailOf};
+ghost use Rattle.ballots.specs.Ballots.{tailOf, pushed};
 use ballots::Ballot;
 
 // The lines of the frame; lines from here on are those of moves. And the codes.
@@ -28,8 +29,7 @@ fn proper(n: usize, line: u32, code: u32) -> bool
     ((line - LINES) as usize) < n
 }
 
-// The number of an issue by office `own` of n, on a sound record with this settled length and this own ballot. Public only for the crate above,
-// which proves what it requires.
+// The number of an issue by office `own` of n, on a sound record with this settled length and this own ballot.
 pub fn refusal(n: usize, own: usize, line: u32, code: u32, settled: usize, b: Ballot) -> u32
     requires { ⌜ (1 ≤ n) × ((own < 8) × ((settled ≤ 1024) × (b .len ≤ 32))) ⌝ }
     ensures { λ r. ⌜ r ≡ refusalAt n line code settled (b .len) (countIn own (tailOf b)) ⌝ }
@@ -47,4 +47,12 @@ pub fn refusal(n: usize, own: usize, line: u32, code: u32, settled: usize, b: Ba
         return 11;
     }
     0
+}
+
+// The ballot with the entry of this office, line and code.
+pub fn issued(b: Ballot, office: usize, line: u32, code: u32) -> Ballot
+    requires { ⌜ (office < 256) × (line < 256) × (code < 65536) ⌝ }
+    ensures { λ r. ⌜ r ≡ pushed b (value office line code) ⌝ }
+{
+    b.push(entries::pack(office as u8, line as u8, code as u16))
 }

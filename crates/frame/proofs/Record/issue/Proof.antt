@@ -1,11 +1,9 @@
 -- A sound record's own lengths give the number. Where it is 0, the own ballot has room for the entry, and the answer holds the record with it;
 -- else the record as it was.
 use native.Mathlib.Omega.{arith}
-use mathlib.Core.Path.{_≡_, sym, ap, _∙_}
-use lib.ListN.{getD}
+use mathlib.Core.Path.{_≡_, sym, _∙_}
 use borrow.Author.Tests.{not-true, not-false}
 use borrow.Author.Needs.{needs}
-use Rattle.ballots.specs.Ballots.{offEnd, pushed}
 use Rattle.frame.specs.Soundness.{Sound}
 use Rattle.frame.specs.Issuing.{issueNumber}
 use Rattle.frame.proofs.Sound.{sound}
@@ -35,10 +33,7 @@ refusal-requires : tie.Need-refusal-requires
 refusal-requires c κs = let s = sounds (c .before) in let F = ballot _ _ s (start (c .before) .args .t1 .own) (omega arith) in (omega arith, (omega arith, (omega arith, omega arith)))
 
 returns-3 : tie.Need-returns-3
-returns-3 c =
-    let e = c .before .before in
-    let r = start (tested e) .args .t1 in
-    issue-done _ _ _ _ (sym (numbered (e .before)) ∙ e .if2 .left) _ (c .push .ensures ∙ ap (pushed (getD (r .ballots) (r .own) offEnd)) (c .before .pack .ensures))
+returns-3 c = let e = c .before in issue-done _ _ _ _ (sym (numbered (e .before)) ∙ e .if2 .left) _ (c .issued .ensures)
 
 pub issue-spec : {M : Type 1} → statement M
 issue-spec =
@@ -46,5 +41,5 @@ issue-spec =
     (tie.spec (λ c κs. search needs) (λ c. issue-refused _ _ _ _ 1 (number-unsound _ _ _ _ (sym (c .before .sound .ensures) ∙ not-true _ (c .if1 .taken))) (λ z. omega arith))
     (λ c. let s = sounds c in omega arith) (λ c. let s = sounds c in omega arith) refusal-requires
     (λ c. issue-refused _ _ _ _ _ (numbered (c .before)) (c .if2 .taken))
-    (λ c. let A = may c in omega arith) (λ c. let A = may c in omega arith) (λ c. let A = may c in omega arith) (λ c κs. search needs)
-    (λ c κs. search needs) (λ c. search needs) (λ c. let A = may (c .before .before) in omega arith) returns-3)
+    (λ c κs. let A = may c in let P = A .limits in (omega arith, omega arith, omega arith)) (λ c. let A = may (c .before) in omega arith)
+    (λ c. let A = may (c .before) in omega arith) returns-3)
