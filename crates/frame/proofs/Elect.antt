@@ -18,10 +18,10 @@ use Rattle.protocol.proofs.Vote.{NamesVoted}
 use Rattle.protocol.proofs.Limits as Limits
 use Rattle.protocol.proofs.Elect.{elect-log, elect-stops}
 use Rattle.ballots.specs.Ballots.{wordsWith}
-use Rattle.elections.specs.Elections.{stateOf}
+use Rattle.elections.specs.Elections.{stateOf, electedIn}
 use Rattle.elections.specs.declared.State.{State}
 use Rattle.elections.proofs.Run as Run
-use Rattle.frame.specs.State.{heldBy, withHeld, holding}
+use Rattle.frame.specs.State.{heldBy, stateIn, withState, holding}
 use Rattle.frame.specs.Soundness.{soundB, Sound}
 use Rattle.frame.specs.Electing.{ruleOf, electedOf, electOf, electWords, winnerOf}
 use Rattle.frame.specs.declared.Record.{Record}
@@ -38,21 +38,25 @@ pub elect-unsound : (r : Record) (words : List ℕ) → soundB r words ≡ false
 unfolding electOf electWords pick
 elect-unsound r words e = (simp e, simp e)
 
-module _ (r : Record) (words : List ℕ) (e : soundB r words ≡ true) (x : State) (p : x ≡ stateOf (r .weights) (electedOf r words)) where
+-- x is what elections make of the record's state s
+module _ (r : Record) (words : List ℕ) (e : soundB r words ≡ true) (s : State) (q : s ≡ stateIn r) (x : State) (p : x ≡ stateOf (r .weights) (electedIn (r .weights) s words)) where
+  elected : x ≡ stateOf (r .weights) (electedOf r words)
+  elected = p ∙ ap (λ (y : State). stateOf (r .weights) (electedIn (r .weights) y words)) q
+
   -- the settled length has not become less
   pub elect-longer : r .settled ≤ x .settled
   elect-longer =
       let g = elect-log (ruleOf r) (heldBy r words) in
-      omega (arith, ap (λ (y : State). y .settled) p, ap length (g .1), length-append (heldBy r words .log) (g .0), log-length r words (sound r words e))
+      omega (arith, ap (λ (y : State). y .settled) elected, ap length (g .1), length-append (heldBy r words .log) (g .0), log-length r words (sound r words e))
 
-  pub elect-made : (last : List ℕ) → last ≡ wordsWith (electedOf r words .log) words
-      → (_≡_ {A = Elected} (record { «record» = withHeld r (x .summary) (x .settled) (x .ballots); number = 0; count = x .settled - r .settled }) (electOf r words)) × (last ≡ electWords r words)
+  pub elect-made : (next : Record) → next ≡ withState r x → (last : List ℕ) → last ≡ wordsWith (electedIn (r .weights) s words .log) words
+      → (_≡_ {A = Elected} (record { «record» = next; number = 0; count = x .settled - r .settled }) (electOf r words)) × (last ≡ electWords r words)
   unfolding electOf electWords pick
-  elect-made last q =
-      (rw e (λ i. record { «record» = withHeld r (p i .summary) (p i .settled) (p i .ballots); number = 0; count = count i }), rw e q)
+  elect-made next n last w =
+      (rw e (λ i. record { «record» = (n ∙ ap (withState r) elected) i; number = 0; count = count i }), rw e (w ∙ ap (λ (y : State). wordsWith (electedIn (r .weights) y words .log) words) q))
     where
       count : x .settled - r .settled ≡ electCount (ruleOf r) (heldBy r words)
-      count = ap₂ (λ (a b : ℕ). a - b) (ap (λ (y : State). y .settled) p) (sym (log-length r words (sound r words e)))
+      count = ap₂ (λ (a b : ℕ). a - b) (ap (λ (y : State). y .settled) elected) (sym (log-length r words (sound r words e)))
 
 -- ── what elect leaves ──
 pub elect-zero : (r : Record) (words : List ℕ) → soundB r words ≡ true → electOf r words .number ≡ 0

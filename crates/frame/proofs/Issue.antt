@@ -23,7 +23,7 @@ use Rattle.protocol.proofs.Moves.{Proper, proper-true}
 use Rattle.ballots.specs.Ballots.{tailOf, ballotOf, offEnd, pushed, wordsWith}
 use Rattle.ballots.specs.declared.Ballot.{Ballot}
 use Rattle.ballots.proofs.Laws as B
-use Rattle.frame.specs.State.{heldBy, withHeld}
+use Rattle.frame.specs.State.{heldBy, withHeld, ownBallot, withOwn}
 use Rattle.frame.specs.Soundness.{soundB, Sound}
 use Rattle.frame.specs.Issuing.{issueNumber, issuedRecord, issueOf}
 use Rattle.frame.specs.declared.Record.{Record}
@@ -71,9 +71,11 @@ module _ (r : Record) (words : List ℕ) (S : Sound r words) (line code : ℕ) w
   tail-is = tail-length r words S (r .own) (omega arith)
 
   -- the number by the record's own length and ballot
-  pub number-at : (k : ℕ) → k ≡ refusalAt (r .n) line code (r .settled) len (countIn (r .own) (tailOf mine)) → k ≡ issueNumber r words line code
+  pub number-at : (b : Ballot) → b ≡ ownBallot r → (k : ℕ) → k ≡ refusalAt (r .n) line code (r .settled) (b .len) (countIn (r .own) (tailOf b)) → k ≡ issueNumber r words line code
   unfolding refuseIssue
-  number-at k q = number-sound k (q ∙ λ i. refusalAt (r .n) line code (sym (log-length r words S) i) (sym tail-is i) (countIn (r .own) (sym (tail-at r words (r .own)) i)))
+  number-at b p k q =
+      number-sound k (q ∙ ap (λ (x : Ballot). refusalAt (r .n) line code (r .settled) (x .len) (countIn (r .own) (tailOf x))) p
+      ∙ λ i. refusalAt (r .n) line code (sym (log-length r words S) i) (sym tail-is i) (countIn (r .own) (sym (tail-at r words (r .own)) i)))
 
 issued-words : (r : Record) (words : List ℕ) (S : Sound r words) (line code : ℕ) → wordsWith (withIssue (r .own) (value (r .own) line code) (heldBy r words) .log) words ≡ words
 unfolding withIssue
@@ -149,11 +151,12 @@ allowed r words line code q =
       short = omega arith;
     }
 
-pub issue-done : (r : Record) (words : List ℕ) (line code : ℕ) → issueNumber r words line code ≡ 0 → (b : Ballot) → b ≡ pushed (getD (r .ballots) (r .own) offEnd) (value (r .own) line code)
-    → _≡_ {A = Issued} (record { number = 0; «record» = withHeld r (r .summary) (r .settled) (set (r .ballots) (r .own) b) }) (issueOf r words line code)
+pub issue-done : (r : Record) (words : List ℕ) (line code : ℕ) → issueNumber r words line code ≡ 0
+    → (b : Ballot) → b ≡ ownBallot r → (x : Ballot) → x ≡ pushed b (value (r .own) line code) → (y : Record) → y ≡ withOwn r x
+    → _≡_ {A = Issued} (record { number = 0; «record» = y }) (issueOf r words line code)
 unfolding issueOf
-issue-done r words line code q b p =
+issue-done r words line code q b o x p y n =
     let A = allowed r words line code q in
     let made = issue-made r words line code q .made in
-    let held = issue-held r words (A .was) line code b p (A .short) in
-    λ i. record { number = sym q i; «record» = (held ∙ sym made) i }
+    let held = issue-held r words (A .was) line code x (p ∙ ap (λ (z : Ballot). pushed z (value (r .own) line code)) o) (A .short) in
+    λ i. record { number = sym q i; «record» = (n ∙ held ∙ sym made) i }

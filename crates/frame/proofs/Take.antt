@@ -34,19 +34,19 @@ use Rattle.spelling.proofs.Laws.{reading-valid, reading-log, reading-room}
 use Rattle.reading.specs.Read.{readingOf, badReading, eightWeights, ballotsOf}
 use Rattle.reading.specs.declared.Reading.{Reading}
 use Rattle.comparing.specs.FromEnd.{compares, placesFromEnd}
-use Rattle.intake.specs.Intake.{messageIn, mergedOf, refusalOf, checkedOf, Ready}
-use Rattle.intake.specs.declared.Merged.{Merged}
+use Rattle.intake.specs.Intake.{messageIn, takenIn, mergedOf, refusalOf, checkedOf, Ready}
+use Rattle.elections.specs.declared.State.{State}
 use Rattle.reading.proofs.Answers.{read-some, read-none, rest-of-message}
 use Rattle.summary.specs.Summary.{startWith, summaryAfter}
 use Rattle.summary.specs.declared.Summary.{Summary}
 use Rattle.summary.proofs.Laws.{summary-append}
-use Rattle.frame.specs.State.{withHeld, heldBy, doneBy, holding}
+use Rattle.frame.specs.State.{stateIn, withHeld, withState, heldBy, doneBy, holding}
 use Rattle.frame.specs.Soundness.{soundB, Sound}
 use Rattle.frame.specs.Taking.{sameOffices, onReading, takeNumber, takePlaces, takenOffice, takeOf, takeWords}
 use Rattle.frame.specs.declared.Record.{Record}
 use Rattle.frame.specs.declared.taking.Taken.{Taken}
 use Rattle.frame.proofs.Sound.{sound, sound-true}
-use Rattle.frame.proofs.State as State
+use Rattle.frame.proofs.State as Held
 
 pub take-refused : (r : Record) (words s : List ℕ) (x p : ℕ) → x ≡ takeNumber r words s → p ≡ takePlaces r words s → (x ≡ 0 → ⊥)
     → (_≡_ {A = Taken} (record { number = x; places = p; «record» = r }) (takeOf r words s)) × (words ≡ takeWords r words s)
@@ -318,11 +318,22 @@ module _ (r : Record) (words s : List ℕ) (m : Reading) (e : takeNumber r words
         theirs-held = ap (map ballotOf) held-tails ∙ sym (says-it .ballots);
       }
 
+  -- the same of the state that the code makes
+  pub ready-in : (x : State) → x ≡ stateIn r → Ready words (x .settled) (x .ballots) (r .own) (restOf m s) m
+  ready-in x q = subst (λ (y : State). Ready words (y .settled) (y .ballots) (r .own) (restOf m s) m) (sym q) ready
+
   abbrev next : Office
   next = withTake (r .own) (messageIn (restOf m s) m) (heldBy r words)
 
   -- what is made of the message: its log and ballots, what the log has done, and the words with that log in front
-  module _ (q : Merged) (ws : List ℕ) (eq : q ≡ mergedOf (r .summary) (r .settled) next) (ew : ws ≡ wordsWith (next .log) words) where
+  module _ (x : State) (is-state : x ≡ stateIn r) (q : State) (ws : List ℕ) (eq : q ≡ mergedOf x (takenIn words (x .settled) (x .ballots) (r .own) (restOf m s) m))
+      (ew : ws ≡ wordsWith (takenIn words (x .settled) (x .ballots) (r .own) (restOf m s) m .log) words) where
+    made : q ≡ mergedOf (stateIn r) next
+    made = eq ∙ ap (λ (y : State). mergedOf y (takenIn words (y .settled) (y .ballots) (r .own) (restOf m s) m)) is-state
+
+    written : ws ≡ wordsWith (next .log) words
+    written = ew ∙ ap (λ (y : State). wordsWith (takenIn words (y .settled) (y .ballots) (r .own) (restOf m s) m .log) words) is-state
+
     abbrev log : List ℕ
     log = take (r .settled) words
 
@@ -332,17 +343,17 @@ module _ (r : Record) (words s : List ℕ) (m : Reading) (e : takeNumber r words
 
     grown : log ++ more ≡ next .log
     grown =
-        ap (λ (k : ℕ). log ++ drop k (next .log)) (sym (State.log-length r words (taken .sounds)))
+        ap (λ (k : ℕ). log ++ drop k (next .log)) (sym (Held.log-length r words (taken .sounds)))
         ∙ ⊑-rest log (next .log) (take-grows (r .own) (messageIn (restOf m s) m) (heldBy r words))
 
     after : summaryAfter (r .summary) more ≡ doneBy r (next .log)
     after = ap (λ (x : Summary). summaryAfter x more) (taken .sounds .done) ∙ sym (summary-append (startWith (r .weights)) log more) ∙ ap (doneBy r) grown
 
-    pub take-made : (p : ℕ) → p ≡ takePlaces r words s → (_≡_ {A = Taken} (record { number = 0; places = p; «record» = withHeld r (q .summary) (q .settled) (q .ballots) }) (takeOf r words s)) × (ws ≡ takeWords r words s)
-    take-made p l =
+    pub take-made : (l : ℕ) → l ≡ takePlaces r words s → (y : Record) → y ≡ withState r q → (_≡_ {A = Taken} (record { number = 0; places = l; «record» = y }) (takeOf r words s)) × (ws ≡ takeWords r words s)
+    take-made l m y p =
         let o : next ≡ takenOffice r words s = ap (λ (y : Message). withTake (r .own) y (heldBy r words)) is-message ∙ sym (taken-office r words s taken) in
         let d = take-done-is r words s e in
-        let held = ap (λ (y : Merged). withHeld r (y .summary) (y .settled) (y .ballots)) eq ∙ ap (λ (z : Summary). withHeld r z (length (next .log)) (map ballotOf (next .tails))) after in (
-          take-answer r words s _ p e l (held ∙ ap (holding r) o ∙ sym (d .0)),
-          ew ∙ ap (λ (y : Office). wordsWith (y .log) words) o ∙ sym (d .1),
+        let held = p ∙ ap (withState r) made ∙ ap (λ (z : Summary). withHeld r z (length (next .log)) (map ballotOf (next .tails))) after in (
+          take-answer r words s _ l e m (held ∙ ap (holding r) o ∙ sym (d .0)),
+          written ∙ ap (λ (y : Office). wordsWith (y .log) words) o ∙ sym (d .1),
         )

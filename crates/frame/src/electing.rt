@@ -2,7 +2,6 @@
 ghost use mathlib.Core.Path.{_≡_};
 ghost use Rattle.frame.specs.Electing.{electOf, electWords};
 use crate::Record;
-use elections::State;
 
 #[repr(C)]
 pub struct Elected {
@@ -24,23 +23,11 @@ impl Record {
             };
         }
         let weights = self.weights;
-        let summary = self.summary;
         let settled = self.settled;
-        let ballots = self.ballots;
-        let state = State {
-            summary,
-            settled,
-            ballots,
-        };
+        let state = self.state();
         let after = state.elect(self.n, weights, log);
-        let done = after.summary;
-        let end = after.settled;
-        let left = after.ballots;
-        let mut next = self;
-        next.summary = done;
-        next.settled = end;
-        next.ballots = left;
-        let count = end - settled;
+        let count = after.settled - settled;
+        let next = self.with_state(after);
         Elected {
             record: next,
             number: 0,

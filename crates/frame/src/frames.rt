@@ -60,8 +60,7 @@ impl Record {
         let summary = self.summary;
         let codes = summary.codes;
         let base = codes[line as usize];
-        let own = self.own;
-        let b = self.ballots[own];
+        let b = self.own_ballot();
         let len = b.len;
         let cells = b.cells;
         let code = entries::last_code(&cells[..len], line, base);

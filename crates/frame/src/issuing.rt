@@ -21,7 +21,7 @@ impl Record {
             };
         }
         let own = self.own;
-        let b = self.ballots[own];
+        let b = self.own_ballot();
         let number = issuance::refusal(self.n, own, line, code, self.settled, b);
         if number != 0 {
             return Issued {
@@ -29,8 +29,8 @@ impl Record {
                 number,
             };
         }
-        let mut next = self;
-        next.ballots[own] = issuance::issued(b, own, line, code);
+        let longer = issuance::issued(b, own, line, code);
+        let next = self.with_own(longer);
         Issued {
             record: next,
             number: 0,

@@ -1,8 +1,11 @@
 // An office's record, and the calls of the shared coding frame on it. A call takes the record by value and its log as a lent slice;
 // its answer has the paper's number, 0 when it is done, behind the next record where there is one.
 ghost use mathlib.Core.Path.{_≡_};
+ghost use Prim.Native.Nat.{_<_};
 ghost use Rattle.frame.specs.Soundness.{soundB};
+ghost use Rattle.frame.specs.State.{stateIn, withState, ownBallot, withOwn};
 use ballots::Ballot;
+use elections::State;
 use summary::Summary;
 
 pub mod electing;
@@ -54,5 +57,47 @@ impl Record {
             ballots,
             log,
         )
+    }
+    // What takes and elections change of the record, and the record with that changed.
+    fn state(self) -> State
+        ensures { λ r. ⌜ r ≡ stateIn self ⌝ }
+    {
+        let summary = self.summary;
+        let ballots = self.ballots;
+        State {
+            summary,
+            settled: self.settled,
+            ballots,
+        }
+    }
+
+    fn with_state(self, state: State) -> Record
+        ensures { λ r. ⌜ r ≡ withState self state ⌝ }
+    {
+        let summary = state.summary;
+        let ballots = state.ballots;
+        let mut next = self;
+        next.summary = summary;
+        next.settled = state.settled;
+        next.ballots = ballots;
+        next
+    }
+
+    // The own ballot, and the record with another one.
+    fn own_ballot(self) -> Ballot
+        requires { ⌜ self .own < 8 ⌝ }
+        ensures { λ r. ⌜ r ≡ ownBallot self ⌝ }
+    {
+        self.ballots[self.own]
+    }
+
+    fn with_own(self, b: Ballot) -> Record
+        requires { ⌜ self .own < 8 ⌝ }
+        ensures { λ r. ⌜ r ≡ withOwn self b ⌝ }
+    {
+        let own = self.own;
+        let mut next = self;
+        next.ballots[own] = b;
+        next
     }
 }

@@ -39,15 +39,9 @@ impl Record {
                 places,
             };
         }
-        let summary = self.summary;
-        let ballots = self.ballots;
-        let merged = intake::take_in(log, summary, settled, ballots, own, rest, m);
-        let after = merged.summary;
-        let left = merged.ballots;
-        let mut next = self;
-        next.summary = after;
-        next.settled = merged.settled;
-        next.ballots = left;
+        let state = self.state();
+        let merged = intake::take_in(log, state, own, rest, m);
+        let next = self.with_state(merged);
         Taken {
             record: next,
             number: 0,

@@ -26,7 +26,7 @@ use Rattle.reading.specs.declared.Reading.{Reading}
 use Rattle.summary.specs.Summary.{summaryAfter}
 use Rattle.summary.specs.declared.Summary.{Summary}
 use Rattle.intake.specs.Intake.{messageIn, takenIn, mergedOf, caughtLength, caughtWords, Ready}
-use Rattle.intake.specs.declared.Merged.{Merged}
+use Rattle.elections.specs.declared.State.{State}
 use Rattle.intake.proofs.Caught.{Caught, caught, part, Comparable, Longer, longer-end}
 
 getD-any : {A : Type 0} (l : List A) (i : ℕ) (a b : A) → i < length l → getD l i a ≡ getD l i b
@@ -106,7 +106,7 @@ module _ (words : List ℕ) (settled : ℕ) (ballots : List Ballot) (own : ℕ) 
     added = take-from settled k ws ∙ ap (drop settled) (ap₂ take length-made words-made ∙ take-append-seam (taken .log) (drop (length (taken .log)) words))
 
     pub merged : (bs : List Ballot) → bs ≡ adoptedBy ws k → (s x : Summary) → x ≡ summaryAfter s (part ws settled k)
-        → (_≡_ {A = Merged} (record { summary = x; settled = k; ballots = bs }) (mergedOf s settled taken)) × (ws ≡ wordsWith (taken .log) words)
+        → (_≡_ {A = State} (record { summary = x; settled = k; ballots = bs }) (mergedOf (record { summary = s; settled = settled; ballots = ballots }) taken)) × (ws ≡ wordsWith (taken .log) words)
     merged bs eb s x ex = (
       (λ i. record { summary = (ex ∙ ap (summaryAfter s) added) i; settled = length-made i; ballots = (eb ∙ ap₂ adoptedBy ew ek ∙ sym ballots-made) i }),
       words-made,

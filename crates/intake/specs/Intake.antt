@@ -16,18 +16,17 @@ use Rattle.numbers.specs.Numbers.{runAt}
 use Rattle.spelling.specs.Reading.{recordAt}
 use Rattle.reading.specs.declared.Reading.{Reading}
 use Rattle.summary.specs.Summary.{summaryAfter}
-use Rattle.summary.specs.declared.Summary.{Summary}
 use Rattle.comparing.specs.FromEnd.{placesFromEnd, compares}
-use Rattle.intake.specs.declared.Merged.{Merged}
+use Rattle.elections.specs.declared.State.{State}
 use Rattle.intake.specs.declared.Checked.{Checked}
 
 -- the message that was read: its log records stand in the rest after the head
 abbrev pub messageIn : List ℕ → Reading → Message
 messageIn rest m = record { sender = m .sender; state = record { log = runAt 6 recordAt (m .settled) rest; tails = map tailOf (m .ballots) } }
 
--- the settled length and the ballots that hold a state, and what its log has done: what the log of this settled length had, and the entries behind it
-abbrev pub mergedOf : Summary → ℕ → Office → Merged
-mergedOf summary settled o = record { summary = summaryAfter summary (drop settled (o .log)); settled = length (o .log); ballots = map ballotOf (o .tails) }
+-- what holds a state that a take made: what the log had done, and the entries behind it
+abbrev pub mergedOf : State → Office → State
+mergedOf s o = record { summary = summaryAfter (s .summary) (drop (s .settled) (o .log)); settled = length (o .log); ballots = map ballotOf (o .tails) }
 
 -- the number of a take on a sound record with these fields. 7: "message not of the layout, .."; 8: "message's n or weights differ from the
 -- record's"; 9: the own message; 10: logs that are not comparable

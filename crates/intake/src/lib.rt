@@ -7,16 +7,8 @@ ghost use Rattle.numbers.specs.Numbers.{runAt};
 ghost use Rattle.spelling.specs.Reading.{recordAt};
 ghost use Rattle.intake.specs.Intake.{takenIn, mergedOf, checkedOf, caughtLength, caughtWords, Ready};
 ghost use Rattle.ballots.specs.Ballots.{wordsWith};
-use ballots::Ballot;
+use elections::State;
 use reading::Reading;
-use summary::Summary;
-
-// What a settled log has done, its length and the ballots beside it.
-pub struct Merged {
-    pub summary: Summary,
-    pub settled: usize,
-    pub ballots: [Ballot; 8],
-}
 
 // The number of a take, and how many places the comparison of the logs needed.
 pub struct Checked {
@@ -79,19 +71,14 @@ fn catch_up(log: &mut [u32], settled: usize, rest: &[u8], k: usize) -> usize
 
 // Takes a message whose log is comparable with the settled one: the log catches up, every ballot is brought past the entries that this
 // settled, and each is offered the message's ballot of its office, the own one the sender's; the summary follows. Later words keep their contents.
-pub fn take_in(
-    log: &mut [u32],
-    summary: Summary,
-    settled: usize,
-    ballots: [Ballot; 8],
-    own: usize,
-    rest: &[u8],
-    m: Reading,
-) -> Merged
-    requires { ⌜ Ready (now log) settled ballots own (now rest) m ⌝ }
-    ensures merged { λ r. ⌜ r ≡ mergedOf summary settled (takenIn (now (log .entry)) settled ballots own (now (rest .entry)) m) ⌝ }
-    ensures words { λ _. ⌜ now (log .exit) ≡ wordsWith (takenIn (now (log .entry)) settled ballots own (now (rest .entry)) m .log) (now (log .entry)) ⌝ }
+pub fn take_in(log: &mut [u32], state: State, own: usize, rest: &[u8], m: Reading) -> State
+    requires { ⌜ Ready (now log) (state .settled) (state .ballots) own (now rest) m ⌝ }
+    ensures state { λ r. ⌜ r ≡ mergedOf state (takenIn (now (log .entry)) (state .settled) (state .ballots) own (now (rest .entry)) m) ⌝ }
+    ensures words { λ _. ⌜ now (log .exit) ≡ wordsWith (takenIn (now (log .entry)) (state .settled) (state .ballots) own (now (rest .entry)) m .log) (now (log .entry)) ⌝ }
 {
+    let summary = state.summary;
+    let settled = state.settled;
+    let ballots = state.ballots;
     let theirs = m.settled;
     let sender = m.sender;
     let offers = m.ballots;
@@ -105,7 +92,7 @@ pub fn take_in(
         &log[theirs..end],
     );
     let after = summary.after(&log[settled..end]);
-    Merged {
+    State {
         summary: after,
         settled: end,
         ballots: next,

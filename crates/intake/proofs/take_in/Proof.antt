@@ -9,13 +9,13 @@ use Rattle.intake.proofs.take_in.Tie as tie
 
 -- the places of the code: the start, and where the log has caught up
 abbrev start : tie.After-catch-up-arg → tie.Start
-start c = c .before .before .before .before
+start c = c .before .before .before .before .before .before
 
 abbrev caught : tie.After-merge → tie.After-slice-known2
 caught c = c .before .before .before .before
 
 -- the settled length that the log catches up to is past both lengths, and within the words
-past-both : (c : tie.After-slice-known2) → let u = c .before .before in let a = start (u .before) .args in (a .settled ≤ u .catch-up .result) × (a .m .settled ≤ u .catch-up .result)
+past-both : (c : tie.After-slice-known2) → let u = c .before .before in let a = start (u .before) .args in (a .state .settled ≤ u .catch-up .result) × (a .m .settled ≤ u .catch-up .result)
 past-both c =
     let u = c .before .before in
     let L = longer _ _ _ _ _ _ (start (u .before) .pre) in

@@ -14,7 +14,7 @@ use Rattle.intake.specs.Intake.{checkedOf, refusalOf}
 use Rattle.intake.specs.declared.Checked.{Checked}
 use Rattle.frame.specs.Taking.{takeNumber, takePlaces}
 use Rattle.frame.proofs.Sound.{sound}
-use Rattle.frame.proofs.Take.{not-sound, no-places, number-at, places-at, head-within, log-within, take-refused, ready, take-made}
+use Rattle.frame.proofs.Take.{not-sound, no-places, number-at, places-at, head-within, log-within, take-refused, ready-in, take-made}
 use Rattle.frame.proofs.Record.take.Statement.{statement}
 use Rattle.frame.proofs.Record.take.Tie as tie
 
@@ -63,15 +63,16 @@ done : (c : tie.Else2) → let a = start (tested (read (c .before .before))) .ar
 done c = sym (numbered (c .before)) ∙ c .if2 .left
 
 take-in-requires : tie.Need-take-in-requires
-take-in-requires c κs = let e = c .before .before .before in ready _ _ _ _ (done e) (read (e .before .before) .read .ensures)
+take-in-requires c κs = let e = c .before .before in ready-in _ _ _ _ (done e) (read (e .before .before) .read .ensures) _ (c .before .state .ensures)
 
 returns-3 : tie.Need-returns-3
 returns-3 c =
-    let w = c .before .before .before .before in
-    let e = w .before .before .before .before in
-    take-made _ _ _ _ (done e) (read (e .before .before) .read .ensures) _ _ (w .take-in .ensures .0) (w .take-in .ensures .1) _ (placed (e .before))
+    let w = c .before .before .before in
+    let x = w .before .before in
+    let e = x .before in
+    take-made _ _ _ _ (done e) (read (e .before .before) .read .ensures) _ (x .state .ensures) _ _ (w .take-in .ensures .0) (w .take-in .ensures .1) _ (placed (e .before)) _ (c .with-state .ensures)
 
 pub take-spec : {M : Type 1} → statement M
 take-spec =
     tie.close (tie.spec (λ c κs. search needs) (λ c. search needs) returns (λ c κs. search needs) (λ c. omega (arith, within c)) (λ c. let h = within c in search needs) (λ c. search needs)
-    check-requires (λ c. search needs) (λ c. take-refused _ _ _ _ _ (numbered (c .before)) (placed (c .before)) (c .if2 .taken)) take-in-requires (λ c. search needs) returns-3)
+    check-requires (λ c. search needs) (λ c. take-refused _ _ _ _ _ (numbered (c .before)) (placed (c .before)) (c .if2 .taken)) (λ c κs. search needs) take-in-requires (λ c κs. search needs) (λ c. search needs) returns-3)
