@@ -80,5 +80,7 @@ pub unsafe extern "C" fn elect(record: Record, log: *mut u32, words: usize) -> A
 
 #[inline(never)]
 pub unsafe extern "C" fn take(record: Record, log: *mut u32, words: usize, message: *const u8, bytes: usize) -> Answer {
-    Answer::of(second::take::take(record, from_raw_parts_mut(log, words), from_raw_parts(message, bytes)))
+    let log = from_raw_parts_mut(log, words);
+    let (number, count, record) = second::take::take(record, log, from_raw_parts(message, bytes));
+    Answer { record, number, count }
 }

@@ -208,7 +208,8 @@ impl Trial<'_> {
         let message = self.message(family);
         let mut log = self.log.clone();
         let engine = engine::take(&self.record, log.part_mut(), &message);
-        let answer = second::take::take(self.record, self.log.part_mut(), &message);
+        let (number, _, after) = second::take::take(self.record, self.log.part_mut(), &message);
+        let answer = (number, after);
         self.count(8, answer.0);
         self.tally.grown += u64::from(answer.1.settled > self.record.settled);
         self.tally.taken_weight += u64::from(answer.1.present != self.record.present);

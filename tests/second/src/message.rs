@@ -34,7 +34,7 @@ impl<'a> Message<'a> {
     }
 
     /// The settled log.
-    pub fn log(&self) -> impl ExactSizeIterator<Item = u32> + 'a {
+    pub fn log(&self) -> impl ExactSizeIterator<Item = u32> + DoubleEndedIterator + 'a {
         self.settled.chunks_exact(SETTLED_SIZE).map(|part| word(&part[2..]))
     }
 

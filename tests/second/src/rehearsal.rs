@@ -118,7 +118,7 @@ impl World {
             Command::Send(k, m) => self.send(k, m),
             Command::Take(k, m) => {
                 let (office, slot) = (self.offices.get_mut(k)?, self.slots.get(m)?);
-                let (number, record) = take(office.record, &mut office.log, slot.message());
+                let (number, _, record) = take(office.record, &mut office.log, slot.message());
                 office.record = record;
                 Some(Answer::new(b't', number, &[]))
             }

@@ -99,7 +99,7 @@ impl Survey {
             return;
         };
         let Office { mut record, mut log } = *office;
-        if refusal(&record, &log, &message) != DONE {
+        if refusal(&record, &log, &message).0 != DONE {
             return;
         }
         let before = record;

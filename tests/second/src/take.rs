@@ -3,35 +3,37 @@
 use crate::message::{read, Message};
 use crate::record::*;
 
-/// The record after the message in the bytes.
-pub fn take(mut record: Record, log: &mut [u32], bytes: &[u8]) -> (u32, Record) {
+/// How many places of the logs were compared, and the record after the message in the bytes.
+pub fn take(mut record: Record, log: &mut [u32], bytes: &[u8]) -> (u32, usize, Record) {
     if !sound(&record, log) {
-        return (UNSOUND, record);
+        return (UNSOUND, 0, record);
     }
     let Some(message) = read(bytes) else {
-        return (NO_MESSAGE, record);
+        return (NO_MESSAGE, 0, record);
     };
-    let number = refusal(&record, log, &message);
+    let (number, places) = refusal(&record, log, &message);
     if number == DONE {
         grow(&mut record, log, &message);
         adopt_all(&mut record, log, &message);
     }
-    (number, record)
+    (number, places, record)
 }
 
-/// The number that a message of the layout is refused with, or done.
-pub(crate) fn refusal(record: &Record, log: &[u32], message: &Message) -> u32 {
+/// The number that a message of the layout is refused with, or done, and how many places of the logs were compared.
+pub(crate) fn refusal(record: &Record, log: &[u32], message: &Message) -> (u32, usize) {
     if message.n != record.n || message.weights != record.weights {
-        return OTHER_WEIGHTS;
+        return (OTHER_WEIGHTS, 0);
     }
     if message.sender == record.own {
-        return OWN_MESSAGE;
+        return (OWN_MESSAGE, 0);
     }
-    let settled = &log[..record.settled];
-    if !message.log().zip(settled).all(|(theirs, &ours)| theirs == ours) {
-        return LOGS_PART;
+    // From the last shared place back to the first, up to and including the first difference met.
+    let shared = record.settled.min(message.settled());
+    let mut pairs = message.log().take(shared).zip(&log[..shared]);
+    match pairs.rposition(|(theirs, &ours)| theirs != ours) {
+        Some(at) => (LOGS_PART, shared - at),
+        None => (DONE, shared),
     }
-    DONE
 }
 
 /// Writes the entries that the message's log has beyond the settled log, moves the weights and stores the codes that

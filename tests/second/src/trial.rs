@@ -173,9 +173,9 @@ impl State {
             }
             (b'H', 0) => self.sheet(),
             (b'T', 0) => {
-                let (number, record) = take(self.record, &mut self.log, &self.message);
+                let (number, places, record) = take(self.record, &mut self.log, &self.message);
                 self.record = record;
-                vec![number.into()]
+                vec![number.into(), places as u64]
             }
             _ => return None,
         };

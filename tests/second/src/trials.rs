@@ -11,6 +11,7 @@ mod damaged;
 mod layout;
 mod moves;
 mod parts;
+mod places;
 mod product;
 mod random;
 mod sheets;
@@ -196,6 +197,7 @@ pub fn script(kind: &str, seed: u64, count: usize) -> Option<Vec<u8>> {
             codes::write(&mut trials);
             ties::write(&mut trials);
             parts::write(&mut trials);
+            places::write(&mut trials);
         }
         "elections" => product::elections(&mut trials),
         "takes" => product::takes(&mut trials),

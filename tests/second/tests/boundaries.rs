@@ -10,7 +10,6 @@ use second::elect::{elect, elect_step};
 use second::message::send;
 use second::record::*;
 use second::samples::in_turn;
-use second::take::take;
 
 #[test]
 fn layout() {

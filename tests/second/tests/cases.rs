@@ -5,7 +5,6 @@ mod common;
 use common::*;
 use second::elect::{elect, elect_step};
 use second::record::*;
-use second::take::take;
 
 /// Elects from an empty log: the count, the settled log, and the record's ballots.
 fn elected(weights: &[u16], ballots: &[(usize, &[u32])]) -> (usize, Vec<u32>, Record) {

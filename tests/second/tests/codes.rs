@@ -6,7 +6,6 @@ use common::*;
 use second::calls::*;
 use second::elect::elect;
 use second::record::*;
-use second::take::take;
 
 /// Codes of the lines given, 0 for all others.
 fn codes(given: &[(usize, u32)]) -> Codes {

@@ -5,7 +5,6 @@ mod common;
 use common::*;
 use second::record::*;
 use second::samples::in_turn;
-use second::take::take;
 
 /// The number that office 1 of the paper's three, with an empty log, gives for the message.
 fn given(bytes: &[u8]) -> u32 {

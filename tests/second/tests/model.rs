@@ -151,6 +151,20 @@ impl Lists {
     }
 }
 
+/// The places that are compared from the last shared place back to the first: up to and including the first difference
+/// met, every shared place if none differs.
+fn places_from_the_end(theirs: &[u32], ours: &[u32]) -> usize {
+    let shared = theirs.len().min(ours.len());
+    let mut places = 0;
+    while places < shared {
+        places += 1;
+        if theirs[shared - places] != ours[shared - places] {
+            break;
+        }
+    }
+    places
+}
+
 /// Whether all the words past the settled log are as they were.
 fn rest_kept(before: &Sample, after: &Sample) -> bool {
     before.log.len() == after.log.len() && before.log[after.record.settled..] == after.log[after.record.settled..]
@@ -168,9 +182,13 @@ fn takes_are_what_the_paper_says() {
         let message = sender.message();
         assert_eq!(message, lists(&sender).message());
         let mut after = before.clone();
-        let (number, record) = take(after.record, &mut after.log, &message);
+        let (number, places, record) = take(after.record, &mut after.log, &message);
         after.record = record;
         let mut expected = lists(&before);
+        assert_eq!(
+            places,
+            if matches!(number, 0 | 10) { places_from_the_end(&lists(&sender).log, &expected.log) } else { 0 }
+        );
         assert_eq!(number, expected.take(&lists(&sender)));
         assert_eq!(lists(&after), expected);
         assert!(sound(&after.record, &after.log) && rest_kept(&before, &after));

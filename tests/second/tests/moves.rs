@@ -6,7 +6,6 @@ use common::*;
 use second::calls::*;
 use second::elect::elect;
 use second::record::*;
-use second::take::take;
 
 /// A move of weight from one office to another.
 fn move_entry(from: usize, to: u32, code: u32) -> u32 {

@@ -9,7 +9,6 @@ use second::message::{read, send};
 use second::random::Random;
 use second::record::*;
 use second::samples::{in_turn, Family, Sample};
-use second::take::take;
 
 /// 32 / n, rounded down.
 const PARTS: [(usize, usize); 8] = [(1, 32), (2, 16), (3, 10), (4, 8), (5, 6), (6, 5), (7, 4), (8, 4)];

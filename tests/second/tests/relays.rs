@@ -12,7 +12,7 @@ use second::take::take;
 /// The office after the message, if it accepts it.
 fn taken(office: &Sample, message: &[u8]) -> Option<Sample> {
     let Sample { record, mut log } = office.clone();
-    let (number, record) = take(record, &mut log, message);
+    let (number, _, record) = take(record, &mut log, message);
     (number == DONE).then_some(Sample { record, log })
 }
 

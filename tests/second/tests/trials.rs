@@ -151,12 +151,16 @@ fn every_number_is_shown() {
         "S 1 0 ",
         "S 6 0 ",
         "S 0 7032 ",
-        "T 0 ",
-        "T 1 ",
-        "T 7 ",
-        "T 8 ",
-        "T 9 ",
-        "T 10 ",
+        "T 0 0 ",
+        "T 0 1 ",
+        "T 0 1024 ",
+        "T 1 0 ",
+        "T 7 0 ",
+        "T 8 0 ",
+        "T 9 0 ",
+        "T 10 1 ",
+        "T 10 2 ",
+        "T 10 1024 ",
     ] {
         assert!(shown(&answers, beginning), "{beginning}");
     }

@@ -44,3 +44,9 @@ pub fn message(record: &Record, log: &[u32]) -> Vec<u8> {
     assert!(!sent.is_empty());
     sent
 }
+
+/// Takes the message: the number and the record after it.
+pub fn take(record: Record, log: &mut [u32], bytes: &[u8]) -> (u32, Record) {
+    let (number, _, after) = second::take::take(record, log, bytes);
+    (number, after)
+}
