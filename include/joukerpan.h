@@ -138,6 +138,7 @@ typedef struct {
 typedef struct {
     joukerpan_record record;
     uint32_t number;
+    size_t places;  /* places of the two settled logs that were compared: see take; 0 on any refusal but 10 */
 } joukerpan_taken;
 
 /* A row of a sheet: a class, which is a settled code, and the weights of the households under it. */
@@ -213,6 +214,11 @@ joukerpan_sent joukerpan_send(joukerpan_record record, const uint32_t *log, size
  * Works in another office's message, any bytes: first the settled entries that this office misses, with
  * the weights that they move and the codes that they set, then every ballot whose path extends the known
  * one. Refused: 1, 7, 8, 9, 10.
+ *
+ * The settled logs are compared from the last place that both have back to the first, and `places` says
+ * how many that needed: done, all that both have; refused with 10, up to and including the first
+ * difference met. So with `shared` the shorter length, 10 means that place shared - places (the first is
+ * 0) differs and those behind it do not; those before it were not looked at.
  */
 joukerpan_taken joukerpan_take(joukerpan_record record, uint32_t *log, size_t log_len,
                                const uint8_t *message, size_t message_len);
@@ -224,7 +230,7 @@ joukerpan_taken joukerpan_take(joukerpan_record record, uint32_t *log, size_t lo
  * sheets. Refused: 1, 12.
  */
 joukerpan_tabulated joukerpan_sheet(joukerpan_record record, const uint32_t *log, size_t log_len,
-                                       const uint8_t *households, size_t households_len);
+                                    const uint8_t *households, size_t households_len);
 
 #ifdef __cplusplus
 }
@@ -261,8 +267,9 @@ JOUKERPAN_ASSERT(offsetof(joukerpan_elected, number) == 1400, "joukerpan_elected
 JOUKERPAN_ASSERT(offsetof(joukerpan_elected, count) == 1408, "joukerpan_elected: count");
 JOUKERPAN_ASSERT(sizeof(joukerpan_sent) == 16, "joukerpan_sent: size");
 JOUKERPAN_ASSERT(offsetof(joukerpan_sent, length) == 8, "joukerpan_sent: length");
-JOUKERPAN_ASSERT(sizeof(joukerpan_taken) == 1408, "joukerpan_taken: size");
+JOUKERPAN_ASSERT(sizeof(joukerpan_taken) == 1416, "joukerpan_taken: size");
 JOUKERPAN_ASSERT(offsetof(joukerpan_taken, number) == 1400, "joukerpan_taken: number");
+JOUKERPAN_ASSERT(offsetof(joukerpan_taken, places) == 1408, "joukerpan_taken: places");
 JOUKERPAN_ASSERT(sizeof(joukerpan_row) == 16, "joukerpan_row: size");
 JOUKERPAN_ASSERT(offsetof(joukerpan_row, total) == 8, "joukerpan_row: total");
 JOUKERPAN_ASSERT(sizeof(joukerpan_tabulated) == 1040, "joukerpan_tabulated: size");

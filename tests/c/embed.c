@@ -1,6 +1,6 @@
 /*
  * The engine through its C calls: the paper's rehearsal, some lettered cases, moves of weight, the frame whole, a
- * household sheet, each refusal once, the parts of a tail.
+ * household sheet, each refusal once, the parts of a tail, logs compared from their ends.
  */
 #include <stdio.h>
 #include <stdlib.h>
@@ -63,11 +63,17 @@ static uint32_t issue(office *of, uint32_t line, uint32_t code) {
     return answer.number;
 }
 
+/* Places of the logs that the last take compared. */
+static size_t places;
+
 static uint32_t take(office *of, const uint8_t *message, size_t length) {
     joukerpan_taken answer = joukerpan_take(of->record, of->log, WORDS, message, length);
     expect("a refused take leaves the record",
            answer.number == JOUKERPAN_DONE || same(&answer.record, &of->record), true);
+    expect("a place compared, or none",
+           answer.number == JOUKERPAN_OTHER_LOG ? answer.places > 0 : answer.number == JOUKERPAN_DONE || answer.places == 0, true);
     of->record = answer.record;
+    places = answer.places;
     return answer.number;
 }
 
@@ -138,6 +144,7 @@ static void cases(void) {
     founded(&x, 2, WEIGHTS, 3), founded(&y, 1, WEIGHTS, 3);
     settle(&x, a), put(&y, 1, b);
     expect("I: take", take(&y, message, send(&x, message, sizeof message)), JOUKERPAN_DONE);
+    expect("I: places", places, 0);
     expect("I: settled", y.record.settled, 1);
     expect("I: the entry", y.log[0], a);
     expect("I: own ballot", y.record.ballots[1].len, 0);
@@ -156,6 +163,42 @@ static void cases(void) {
     settle(&x, b), settle(&y, a);
     expect("L", take(&y, message, send(&x, message, sizeof message)), JOUKERPAN_OTHER_LOG);
     expect("L: log", y.log[0], a);
+    expect("L: places", places, 1);
+}
+
+/*
+ * A take at office 1, which has settled the first `own` of 1,024 entries, of the message of an office that has settled
+ * the first `sent` of them, with another entry at two places. A place of 1,024 is none.
+ */
+static uint32_t compared(size_t own, size_t sent, size_t at, size_t also) {
+    static office x, y;
+    static uint8_t message[JOUKERPAN_MESSAGE];
+    founded(&x, 0, WEIGHTS, 3), founded(&y, 1, WEIGHTS, 3);
+    for (uint32_t i = 0; i < own; i++) {
+        settle(&y, entry(2, i % 64, i));
+    }
+    for (uint32_t i = 0; i < sent; i++) {
+        settle(&x, entry(i == at || i == also ? 0 : 2, i % 64, i));
+    }
+    return take(&y, message, send(&x, message, sizeof message));
+}
+
+/* The settled logs are compared from the last place that both have back to the first. */
+static void compared_logs(void) {
+    static const size_t lengths[] = {0, 1, 2, 700, 1023, JOUKERPAN_LOG};
+    enum { LENGTHS = sizeof lengths / sizeof *lengths, NONE = JOUKERPAN_LOG };
+    for (int i = 0; i < LENGTHS * LENGTHS; i++) {
+        size_t own = lengths[i / LENGTHS], sent = lengths[i % LENGTHS], shared = own < sent ? own : sent;
+        expect("alike", compared(own, sent, NONE, NONE), JOUKERPAN_DONE);
+        expect("every shared place", places, shared);
+        const size_t differ[] = {0, shared / 2, shared - 1};
+        for (int j = 0; j < (shared ? 3 : 0); j++) {
+            expect("not alike", compared(own, sent, differ[j], NONE), JOUKERPAN_OTHER_LOG);
+            expect("up to the first difference met", places, shared - differ[j]);
+            expect("nor at two places", compared(own, sent, differ[j], 0), JOUKERPAN_OTHER_LOG);
+            expect("the first met counts", places, shared - differ[j]);
+        }
+    }
 }
 
 /* Whether the office has these present weights, and the founding ones of all offices here. */
@@ -434,6 +477,7 @@ static void longest_message(void) {
 int main(void) {
     rehearsal();
     cases();
+    compared_logs();
     moves();
     whole_frame();
     household_sheet();

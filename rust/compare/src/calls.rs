@@ -13,11 +13,23 @@ use crate::breaks::{break_clause, CLAUSES};
 use crate::engine;
 use crate::forge::{any_bytes, damaged, forged};
 use crate::samples::{any_sample, huge, Family};
+use crate::sheets;
 
 /// The calls, in the order of the tally.
-const CALLS: [&str; 10] =
-    ["found", "sound", "issue", "settled", "settled frame", "tentative frame", "elect", "send", "take", "all lines"];
-const NUMBERS: usize = 12;
+const CALLS: [&str; 11] = [
+    "found",
+    "sound",
+    "issue",
+    "settled",
+    "settled frame",
+    "tentative frame",
+    "elect",
+    "send",
+    "take",
+    "all lines",
+    "sheet",
+];
+const NUMBERS: usize = 13;
 /// Elements on both sides of a lent buffer that no call may touch.
 const GUARD: usize = 16;
 /// Calls on one record, one after the other.
@@ -37,6 +49,9 @@ struct Tally {
     taken_weight: u64,
     taken_code: u64,
     adopted: u64,
+    compared_all: u64,
+    compared_some: u64,
+    rows: u64,
     long_logs: u64,
 }
 
@@ -61,7 +76,7 @@ impl<T: Copy + Default> Lent<T> {
 }
 
 /// Says where two values part, if they do.
-fn same<T: PartialEq + Debug>(what: &str, engine: T, second: T) -> Result<(), String> {
+pub(crate) fn same<T: PartialEq + Debug>(what: &str, engine: T, second: T) -> Result<(), String> {
     if engine == second {
         return Ok(());
     }
@@ -208,16 +223,25 @@ impl Trial<'_> {
         let message = self.message(family);
         let mut log = self.log.clone();
         let engine = engine::take(&self.record, log.part_mut(), &message);
-        let (number, _, after) = second::take::take(self.record, self.log.part_mut(), &message);
-        let answer = (number, after);
-        self.count(8, answer.0);
-        self.tally.grown += u64::from(answer.1.settled > self.record.settled);
-        self.tally.taken_weight += u64::from(answer.1.present != self.record.present);
-        self.tally.taken_code += u64::from(answer.1.codes != self.record.codes);
-        self.tally.adopted += u64::from(answer.1.ballots != self.record.ballots);
+        let answer = second::take::take(self.record, self.log.part_mut(), &message);
+        let (number, places, after) = answer;
+        self.count(8, number);
+        self.tally.grown += u64::from(after.settled > self.record.settled);
+        self.tally.taken_weight += u64::from(after.present != self.record.present);
+        self.tally.taken_code += u64::from(after.codes != self.record.codes);
+        self.tally.adopted += u64::from(after.ballots != self.record.ballots);
+        self.tally.compared_all += u64::from(number == DONE && places > 0);
+        self.tally.compared_some += u64::from(number != DONE && places > 1);
         same(&format!("take of {message:02X?}"), engine, answer)?;
         same_lent("take's log", &log, &self.log)?;
-        self.record = answer.1;
+        self.record = after;
+        Ok(())
+    }
+
+    fn sheet(&mut self) -> Result<(), String> {
+        let (number, rows) = sheets::any(self.random, &self.record, self.log.part())?;
+        self.count(10, number);
+        self.tally.rows += rows as u64;
         Ok(())
     }
 
@@ -247,7 +271,7 @@ impl Trial<'_> {
 
     /// One call of any kind.
     fn call(&mut self, family: &Family) -> Result<(), String> {
-        match self.random.below(13) {
+        match self.random.below(14) {
             0 => self.found(),
             1 => self.sound(),
             2 | 3 => self.issue(),
@@ -256,6 +280,7 @@ impl Trial<'_> {
             6 => self.all_lines(),
             7 | 8 => self.elect(),
             9 => self.send(),
+            10 => self.sheet(),
             _ => self.take(family),
         }
     }
@@ -290,6 +315,10 @@ pub fn compare(seed: u64, rounds: u64) -> io::Result<bool> {
     let mut output = stdout().lock();
     let mut random = Random::new(seed);
     let mut tally = Tally::default();
+    if let Err(difference) = sheets::compare_layouts(&mut random) {
+        writeln!(output, "seed {seed}: {difference}")?;
+        return Ok(false);
+    }
     for round in 0..rounds {
         let family = Family::new(&mut random);
         let Sample { record, log } = sample(&mut random, &mut tally, &family);
@@ -327,6 +356,12 @@ impl Tally {
         writeln!(output, "\nmoves of weight issued {}", self.issued_moves)?;
         writeln!(output, "elections of one entry {}, of more {}", self.elected_one, self.elected_more)?;
         writeln!(output, "takes that grew the log {}, that changed a ballot {}", self.grown, self.adopted)?;
+        writeln!(
+            output,
+            "takes with all shared places alike {}, with a difference met behind others {}",
+            self.compared_all, self.compared_some
+        )?;
+        writeln!(output, "rows of sheets {}", self.rows)?;
         writeln!(output, "elections that moved weight {}, takes {}", self.elected_weight, self.taken_weight)?;
         writeln!(output, "elections that changed a code {}, takes {}", self.elected_code, self.taken_code)?;
         writeln!(output, "logs above {LOG} words {}", self.long_logs)?;

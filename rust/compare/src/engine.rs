@@ -5,6 +5,7 @@ use std::mem::{offset_of, size_of, transmute};
 use joukerpan_sys as engine;
 use joukerpan_sys::Weights;
 use second::record::{Codes, Record, OFFICES};
+use second::sheet::Row;
 
 const _: () = {
     assert!(size_of::<Record>() == size_of::<engine::Record>());
@@ -75,9 +76,18 @@ pub fn send(record: &Record, log: &[u32], output: &mut [u8]) -> (u32, usize) {
     (answer.number, answer.length)
 }
 
-pub fn take(record: &Record, log: &mut [u32], message: &[u8]) -> (u32, Record) {
+pub fn take(record: &Record, log: &mut [u32], message: &[u8]) -> (u32, usize, Record) {
     let record = to_engine(record);
     let answer =
         unsafe { engine::joukerpan_take(record, log.as_mut_ptr(), log.len(), message.as_ptr(), message.len()) };
-    (answer.number, from_engine(answer.record))
+    (answer.number, answer.places, from_engine(answer.record))
+}
+
+/// The sheet with its rows, those past its count included.
+pub fn sheet(record: &Record, log: &[u32], households: &[u8]) -> (u32, usize, Vec<Row>) {
+    let record = to_engine(record);
+    let answer =
+        unsafe { engine::joukerpan_sheet(record, log.as_ptr(), log.len(), households.as_ptr(), households.len()) };
+    let rows = answer.rows.iter().map(|row| Row { class: row.class, total: row.total });
+    (answer.number, answer.count, rows.collect())
 }

@@ -11,6 +11,7 @@ mod engine;
 mod forge;
 mod households;
 mod samples;
+mod sheets;
 mod stack;
 
 const USAGE: &str = "usage:

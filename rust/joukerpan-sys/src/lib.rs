@@ -152,6 +152,9 @@ pub struct Taken {
     pub record: Record,
     /// 0, or the refusal's number.
     pub number: u32,
+    /// Places of the two settled logs that were compared, from the last that both have back to the first: up
+    /// to and including the first difference met, all of them if none differs; 0 on any refusal but 10.
+    pub places: usize,
 }
 
 /// A row of a household sheet.
@@ -242,7 +245,7 @@ const _: () = {
     assert!(size_of::<Lines>() == 260 && offset_of!(Lines, codes) == 4 && align_of::<Lines>() == 4);
     assert!(size_of::<Elected>() == 1416 && offset_of!(Elected, number) == 1400 && offset_of!(Elected, count) == 1408);
     assert!(size_of::<Sent>() == 16 && offset_of!(Sent, length) == 8);
-    assert!(size_of::<Taken>() == 1408 && offset_of!(Taken, number) == 1400);
+    assert!(size_of::<Taken>() == 1416 && offset_of!(Taken, number) == 1400 && offset_of!(Taken, places) == 1408);
     assert!(size_of::<Row>() == 16 && offset_of!(Row, total) == 8);
     assert!(size_of::<Sheet>() == 1040 && offset_of!(Sheet, count) == 8 && offset_of!(Sheet, rows) == 16);
 };

@@ -387,7 +387,7 @@ impl Office {
 
     /// Works in another office's message: the settled entries that are missing here, with the weights that
     /// they move and the codes that they set, then every ballot that is more than what is known. The same
-    /// message again changes nothing.
+    /// message again changes nothing. [`Office::take_with_places`] also says how far the logs were compared.
     ///
     /// # Errors
     ///
@@ -403,12 +403,47 @@ impl Office {
     /// # Ok::<(), Refused>(())
     /// ```
     pub fn take(&mut self, message: &[u8]) -> Result<(), Refused> {
+        self.take_with_places(message).0
+    }
+
+    /// [`Office::take`], and beside its answer how many places of the two settled logs were compared.
+    ///
+    /// They are compared from the last place that both have back to the first, as operators check a disputed
+    /// message on paper. A done take has compared every place that both have. One that is refused with
+    /// [`Refused::OtherLog`] has compared up to and including the first difference met, so the places behind
+    /// that one are the same in both logs, and nothing is known of those before it. Any other refusal has
+    /// compared none, 0. The same message again may need more places than at first, since the log has grown.
+    ///
+    /// ```
+    /// use joukerpan::{Office, Refused};
+    ///
+    /// fn settled(codes: &[u32]) -> Result<Office, Refused> {
+    ///     let mut office = Office::found(0, &[1, 0])?;
+    ///     for &code in codes {
+    ///         office.issue(5, code)?;
+    ///         office.elect();
+    ///     }
+    ///     Ok(office)
+    /// }
+    ///
+    /// let sender = settled(&[120, 130, 140, 150])?;
+    /// let mut other = Office::found(1, &[1, 0])?;
+    /// assert_eq!(other.take_with_places(&sender.message()), (Ok(()), 0)); // no place that both have
+    /// assert_eq!(other.take_with_places(&sender.message()), (Ok(()), 4));
+    /// assert_eq!(other.take_with_places(b"no message"), (Err(Refused::NoMessage), 0));
+    ///
+    /// // An office 0 founded again, as none should be: its third place differs, and so does its first.
+    /// let again = settled(&[7, 130, 8, 150])?;
+    /// assert_eq!(other.take_with_places(&again.message()), (Err(Refused::OtherLog), 2));
+    /// # Ok::<(), Refused>(())
+    /// ```
+    pub fn take_with_places(&mut self, message: &[u8]) -> (Result<(), Refused>, usize) {
         // SAFETY: log and message name their elements for as long as the call lasts; the log, which
         // the engine writes, is this office's own.
         let taken =
             unsafe { engine::joukerpan_take(self.record, self.log.as_mut_ptr(), LOG, message.as_ptr(), message.len()) };
         self.record = taken.record;
-        Refused::check(taken.number)
+        (Refused::check(taken.number), taken.places)
     }
 }
 

@@ -90,7 +90,44 @@ fn l_neither_log_begins_the_other() {
     let before = one.clone();
     let message = office(0, &WEIGHTS, &[B], &[]).message();
     assert_eq!(one.take(&message), Err(Refused::OtherLog));
+    assert_eq!(one.take_with_places(&message), (Err(Refused::OtherLog), 1));
     assert_eq!(one, before);
+}
+
+#[test]
+fn logs_are_compared_from_their_ends() {
+    let path: Vec<Entry> = (0..LOG).map(|at| any(at % 3, at)).collect();
+    let lengths = [0, 1, 2, 700, LOG - 1, LOG];
+    for (own, sent) in lengths.iter().flat_map(|own| lengths.map(|sent| (*own, sent))) {
+        let shared = own.min(sent);
+        let one = office(1, &WEIGHTS, &path[..own], &[]);
+        let message = office(0, &WEIGHTS, &path[..sent], &[]).message();
+        assert_eq!(one.clone().take_with_places(&message), (Ok(()), shared), "{own} {sent}");
+        let mut again = one.clone();
+        again.take(&message).unwrap();
+        assert_eq!(again.take_with_places(&message), (Ok(()), sent), "once more");
+        for at in [0, shared / 2, shared.saturating_sub(1)].into_iter().filter(|&at| at < shared) {
+            let mut other = path[..sent].to_vec();
+            for differ in [at, 0] {
+                other[differ].code = 9999; // the one nearer to the end is met
+                let message = office(0, &WEIGHTS, &other, &[]).message();
+                let met = (Err(Refused::OtherLog), shared - at);
+                assert_eq!(one.clone().take_with_places(&message), met, "{own} {sent} {at}");
+            }
+        }
+    }
+}
+
+#[test]
+fn no_place_is_compared_on_any_other_refusal() {
+    let mut one = office(1, &WEIGHTS, &[A, D], &[]);
+    let message = office(0, &WEIGHTS, &[A, B], &[]).message();
+    assert_eq!(one.take_with_places(&message), (Err(Refused::OtherLog), 1));
+    assert_eq!(one.take_with_places(&message[1..]), (Err(Refused::NoMessage), 0));
+    let message = office(0, &[40, 35, 26], &[A, B], &[]).message();
+    assert_eq!(one.take_with_places(&message), (Err(Refused::OtherOffices), 0));
+    let message = office(1, &WEIGHTS, &[A, B], &[]).message();
+    assert_eq!(one.take_with_places(&message), (Err(Refused::OwnMessage), 0));
 }
 
 #[test]
