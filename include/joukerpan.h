@@ -199,7 +199,8 @@ joukerpan_framed joukerpan_tentative_frame(joukerpan_record record, const uint32
 /*
  * Settles entries, one a step, until none wins, and answers how many. Each winner is written to the log
  * behind the settled words; other words keep their contents. A step counts by the present weights that
- * the step before left. Refused: 1.
+ * the step before left; a tie goes to the entry whose office has fewer settled entries then, and then to
+ * the lower value. Refused: 1.
  */
 joukerpan_elected joukerpan_elect(joukerpan_record record, uint32_t *log, size_t log_len);
 

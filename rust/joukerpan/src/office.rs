@@ -343,7 +343,8 @@ impl Office {
     }
 
     /// Settles the entries that have won, and answers how many: 0 where none has. Each is counted by the
-    /// present weights that those before it have left.
+    /// present weights that those before it have left; a tie goes to the entry whose office has fewer settled
+    /// entries then, and then to the lower value.
     pub fn elect(&mut self) -> usize {
         // SAFETY: the log names its words, which nothing else does, for as long as the call lasts.
         let elected = unsafe { engine::joukerpan_elect(self.record, self.log.as_mut_ptr(), LOG) };
