@@ -34,8 +34,13 @@ impl<'a> Message<'a> {
     }
 
     /// The settled log.
-    pub fn log(&self) -> impl ExactSizeIterator<Item = u32> + DoubleEndedIterator + 'a {
+    pub fn log(&self) -> impl ExactSizeIterator<Item = u32> + 'a {
         self.settled.chunks_exact(SETTLED_SIZE).map(|part| word(&part[2..]))
+    }
+
+    /// The first settled entries, so many of them, from the last of these back to the first.
+    pub fn log_back(&self, count: usize) -> impl Iterator<Item = u32> + 'a {
+        self.settled[..SETTLED_SIZE * count].rchunks_exact(SETTLED_SIZE).map(|part| word(&part[2..]))
     }
 
     /// An office's tail; empty where the message has no ballot of it.

@@ -29,9 +29,9 @@ pub(crate) fn refusal(record: &Record, log: &[u32], message: &Message) -> (u32, 
     }
     // From the last shared place back to the first, up to and including the first difference met.
     let shared = record.settled.min(message.settled());
-    let mut pairs = message.log().take(shared).zip(&log[..shared]);
-    match pairs.rposition(|(theirs, &ours)| theirs != ours) {
-        Some(at) => (LOGS_PART, shared - at),
+    let mut pairs = message.log_back(shared).zip(log[..shared].iter().rev());
+    match pairs.position(|(theirs, &ours)| theirs != ours) {
+        Some(before) => (LOGS_PART, before + 1),
         None => (DONE, shared),
     }
 }
