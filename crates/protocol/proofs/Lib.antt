@@ -10,6 +10,7 @@ pub mod Vote
 pub mod Office
 pub mod Elect
 pub mod Moves
+pub mod Frames
 pub mod Codes
 pub mod Counts
 pub mod Quieter
