@@ -1,4 +1,4 @@
 -- Laws that belong to no one function.
 pub mod Carries
-pub mod LastCode
+pub mod LastEdit
 pub mod Word

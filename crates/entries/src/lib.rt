@@ -3,7 +3,8 @@ ghost use mathlib.Core.Path.{_≡_};
 ghost use lib.Dec.{eqb, leb};
 ghost use Rattle.lists.specs.Tests.{allB, pick};
 ghost use Rattle.protocol.specs.Entry.{value, lineOf, isEntry};
-ghost use Rattle.protocol.specs.Frames.{lastCode};
+ghost use Rattle.protocol.specs.Codes.{cell, ofCell};
+ghost use Rattle.protocol.specs.Frames.{editAfter};
 ghost use Rattle.entries.specs.Carries.{isCoding, raised, noCarry};
 
 // The value of the entry (office, line, code).
@@ -84,10 +85,11 @@ fn is_for(word: u32, line: u32) -> bool
     word / 65536 % 256 == line
 }
 
-// The code of the last entry for the line, or the code given where there is none. The newest entry is the likeliest, so the walk is from the
-// end; four words at a time are passed over while none of them is for the line, which runs on vectors.
-pub fn last_code(words: &[u32], line: u32, code: u32) -> u32
-    ensures { λ r. ⌜ r ≡ lastCode line code (now (words .entry)) ⌝ }
+// The last edit of the line as it is stored (0 for no edit yet, else the code + 1), or the one before where no entry is for the line. The newest
+// entry is the likeliest, so the walk is from the end; four words at a time are passed over while none of them is for the line, which runs on
+// vectors.
+pub fn last_edit(words: &[u32], line: u32, before: u32) -> u32
+    ensures { λ r. ⌜ r ≡ cell (editAfter line (ofCell before) (now (words .entry))) ⌝ }
 {
     let mut end = words.len();
     while end >= 4 {
@@ -103,9 +105,9 @@ pub fn last_code(words: &[u32], line: u32, code: u32) -> u32
     while end > 0 {
         let word = words[end - 1];
         if is_for(word, line) {
-            return word % 65536;
+            return word % 65536 + 1;
         }
         end = end - 1;
     }
-    code
+    before
 }

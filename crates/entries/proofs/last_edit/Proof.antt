@@ -1,62 +1,65 @@
--- A walk from the end: no word past `end` is for the line, so the words before it give the code.
+-- A walk from the end: no word past `end` is for the line, so the words before it give the edit.
 use borrow.Author.Needs.{needs}
 use mathlib.Core.Path.{_≡_, sym, _∙_, ap}
 use Prim.Native.Nat.{ℕ, _-_, _≤_}
+use native.Mathlib.Numerals.{add-one}
 use native.Mathlib.Omega.{arith}
 use lib.ListN.{length, take}
 use lib.Seq.{take-length}
-use Rattle.protocol.specs.Frames.{lastCode}
-use Rattle.entries.proofs.LastCode.{four-past, word-here, word-past}
-use Rattle.entries.proofs.last_code.Statement.{statement}
-use Rattle.entries.proofs.last_code.Tie as tie
+use Rattle.protocol.specs.Codes.{cell, ofCell}
+use Rattle.protocol.specs.Frames.{editAfter}
+use Rattle.protocol.proofs.Codes.{cell-of}
+use Rattle.entries.proofs.LastEdit.{four-past, word-here, word-past}
+use Rattle.entries.proofs.last_edit.Statement.{statement}
+use Rattle.entries.proofs.last_edit.Tie as tie
 
 abbrev Inv-loop : tie.InvT-loop
-Inv-loop words line code end₀ end = (end ≤ length words) × (lastCode line code words ≡ lastCode line code (take end words))
+Inv-loop words line before end₀ end = (end ≤ length words) × (editAfter line (ofCell before) words ≡ editAfter line (ofCell before) (take end words))
 
 abbrev μ-loop : tie.MeasureT-loop
-μ-loop words line code end₀ end = end
+μ-loop words line before end₀ end = end
 
 -- the same when four words at a time are not passed over any more
 abbrev Inv-loop2 : tie.InvT-loop2
-Inv-loop2 words line code end₀ end = Inv-loop words line code end₀ end
+Inv-loop2 words line before end₀ end = Inv-loop words line before end₀ end
 
 abbrev μ-loop2 : tie.MeasureT-loop2
-μ-loop2 words line code end₀ end = end
+μ-loop2 words line before end₀ end = end
 
 loop-holds : tie.Need-loop-holds Inv-loop μ-loop Inv-loop2 μ-loop2
-loop-holds c = let a = c .before .args in (search needs, ap (lastCode (a .line) (a .code)) (sym (take-length (a .words .now))))
+loop-holds c = let a = c .before .args in (search needs, ap (editAfter (a .line) (ofCell (a .before))) (sym (take-length (a .words .now))))
 
 loop-again : tie.Need-loop-again Inv-loop μ-loop Inv-loop2 μ-loop2
 loop-again c =
     let l = c .before .before .before .before .before .before .before .before .before .before .loop in
     let a = c .before .before .before .before .before .before .before .before .before .before .before .before .args in
     let words = a .words .now in
-    (search needs, l .inv .1 ∙ four-past (a .line) (a .code) words (l .end) (omega arith) (omega arith) _ _ _ _ (c .before .before .before .before .before .before .before .is-for .ensures) (c .before .before .before .before .before .is-for2 .ensures) (c .before .before .before .is-for3 .ensures) (c .before .is-for4 .ensures) (c .if1 .left))
+    (search needs, l .inv .1 ∙ four-past (a .line) (ofCell (a .before)) words (l .end) (omega arith) (omega arith) _ _ _ _ (c .before .before .before .before .before .before .before .is-for .ensures) (c .before .before .before .before .before .is-for2 .ensures) (c .before .before .before .is-for3 .ensures) (c .before .is-for4 .ensures) (c .if1 .left))
 
 returns : tie.Need-returns Inv-loop μ-loop Inv-loop2 μ-loop2
 returns c =
     let l = c .before .before .before .before .loop2 in
     let a = c .before .before .before .before .before .before .before .before .args in
-    sym (l .inv .1 ∙ word-here (a .line) (a .code) (a .words .now) (l .end) (omega arith) (omega arith) _ (c .before .is-for5 .ensures) (c .if2 .taken))
+    add-one _ ∙ sym (ap cell (l .inv .1 ∙ word-here (a .line) (ofCell (a .before)) (a .words .now) (l .end) (omega arith) (omega arith) _ (c .before .is-for5 .ensures) (c .if2 .taken)))
 
 loop2-again : tie.Need-loop2-again Inv-loop μ-loop Inv-loop2 μ-loop2
 loop2-again c =
     let l = c .before .before .before .before .loop2 in
     let a = c .before .before .before .before .before .before .before .before .args in
-    (search needs, l .inv .1 ∙ word-past (a .line) (a .code) (a .words .now) (l .end) (l .end - 1) (omega arith) (omega arith) _ (c .before .is-for5 .ensures) (c .if2 .left))
+    (search needs, l .inv .1 ∙ word-past (a .line) (ofCell (a .before)) (a .words .now) (l .end) (l .end - 1) (omega arith) (omega arith) _ (c .before .is-for5 .ensures) (c .if2 .left))
 
 returns-2 : tie.Need-returns-2 Inv-loop μ-loop Inv-loop2 μ-loop2
-unfolding lastCode
+unfolding editAfter
 returns-2 c =
     let l = c .before .loop2 in
     let a = c .before .before .before .before .before .args in
     let e : l .end ≡ 0 = search needs in
-    sym (l .inv .1 ∙ ap (λ (k : ℕ). lastCode (a .line) (a .code) (take k (a .words .now))) e)
+    sym (ap cell (l .inv .1 ∙ ap (λ (k : ℕ). editAfter (a .line) (ofCell (a .before)) (take k (a .words .now))) e) ∙ cell-of (a .before))
 
-pub last-code-spec : {M : Type 1} → statement M
-last-code-spec =
+pub last-edit-spec : {M : Type 1} → statement M
+last-edit-spec =
     tie.close (tie.spec Inv-loop μ-loop Inv-loop2 μ-loop2 loop-holds (λ c. search needs) (λ c. search needs) (λ c. search needs)
     (λ c κs. search needs) (λ c. search needs) (λ c. search needs) (λ c. search needs) (λ c κs. search needs) (λ c. search needs)
     (λ c. search needs) (λ c. search needs) (λ c κs. search needs) (λ c. search needs) (λ c. search needs) (λ c κs. search needs)
     (λ c. search needs) loop-again (λ c. c .before .loop .inv) (λ c. search needs) (λ c. search needs) (λ c. search needs)
-    (λ c κs. search needs) returns (λ c. search needs) (λ c. search needs) loop2-again returns-2)
+    (λ c κs. search needs) (λ c. omega arith) returns (λ c. search needs) (λ c. search needs) loop2-again returns-2)
