@@ -5,7 +5,7 @@
 use mathlib.Core.Path.{_≡_, refl, sym, ap, _∙_}
 use mathlib.Core.Bool.{Bool, true, false, _&&_}
 use mathlib.Core.List.{List, [], _∷_, _++_, foldl}
-use Prim.Native.Nat.{ℕ, _+_, _<_, _≤_}
+use Prim.Native.Nat.{ℕ, suc, _+_, _<_, _≤_}
 use native.Mathlib.Omega.{arith}
 use lib.Dec.{eqb, ltb}
 use lib.ListN.{length, getD, drop, take, set, replicate, drop-of-length-le, length-set, length-append, length-replicate}
@@ -27,7 +27,7 @@ front-set k l i a h = go (ltb i k) refl
 codes-front : (k : ℕ) (l log : List ℕ) → k ≤ length l → take k (foldl coded l log) ≡ foldl coded (take k l) log
 codes-front k l [] h = refl
 codes-front k l (v ∷ log) h =
-    codes-front k (coded l v) log (rw (length-set l (lineOf v) (codeOf v)) h) ∙ ap (λ (s : List ℕ). foldl coded s log) (front-set k l (lineOf v) (codeOf v) h)
+    codes-front k (coded l v) log (rw (length-set l (lineOf v) (suc (codeOf v))) h) ∙ ap (λ (s : List ℕ). foldl coded s log) (front-set k l (lineOf v) (suc (codeOf v)) h)
 
 pub codes-made : (codes start made log : List ℕ) → length codes ≡ 64 → start ≡ codes ++ replicate 192 0 → made ≡ foldl coded start log → take 64 made ≡ codesAfter codes log
 unfolding codesAfter

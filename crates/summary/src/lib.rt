@@ -1,15 +1,16 @@
-// What the entries of a settled log have done, as a record holds it: the weights after its moves, and the code of each line.
+// What the entries of a settled log have done, as a record holds it: the weights after its moves, and the last edit of each line.
 ghost use mathlib.Core.Path.{_≡_};
 ghost use Prim.Native.Nat.{_<_, _≤_};
 ghost use mathlib.Core.List.{_++_};
+ghost use mathlib.Core.Option.{some};
 ghost use lib.ListN.{length, replicate, take};
 ghost use Rattle.lists.specs.Tests.{allB, same};
 ghost use Rattle.protocol.specs.Entry.{officeOf, lineOf, codeOf};
-ghost use Rattle.protocol.specs.Codes.{coded, codesAfter};
+ghost use Rattle.protocol.specs.Codes.{cell, coded, codesAfter};
 ghost use Rattle.protocol.specs.Moves.{move, weightsAfter};
 ghost use Rattle.summary.specs.Summary.{noMove, startWith, summaryAfter, summaryNext, sameSummary};
 
-// The present weights, and the settled codes of the 64 lines.
+// The present weights, and the settled codes of the 64 lines: 0 for a line with no edit yet, else the code + 1.
 #[repr(C)]
 pub struct Summary {
     pub present: [u16; 8],
@@ -35,6 +36,13 @@ fn code_of(word: u32) -> u16
     (word % 65536) as u16
 }
 
+// What is stored for the entry's line: its code + 1, since 0 is no edit yet.
+fn cell_of(word: u32) -> u32
+    ensures { λ r. ⌜ r ≡ cell (some (codeOf word)) ⌝ }
+{
+    word % 65536 + 1
+}
+
 // The code of the entry's line is its code. A move is for no line.
 fn settle_code(codes: &mut [u32; 64], word: u32)
     requires { ⌜ length (now codes) ≡ 64 ⌝ }
@@ -42,7 +50,7 @@ fn settle_code(codes: &mut [u32; 64], word: u32)
 {
     let line = line_of(word);
     if line < 64 {
-        codes[line] = word % 65536;
+        codes[line] = cell_of(word);
     }
 }
 
@@ -77,7 +85,7 @@ fn codes_after(codes: [u32; 64], words: &[u32]) -> [u32; 64]
     let mut wide = widened(codes);
     for i in 0..words.len() {
         let word = words[i];
-        wide[line_of(word)] = word % 65536;
+        wide[line_of(word)] = cell_of(word);
     }
     narrowed(wide)
 }
@@ -161,7 +169,7 @@ fn weights_after(weights: [u16; 8], words: &[u32]) -> [u16; 8]
 }
 
 impl Summary {
-    // Of an empty log: the founding weights, and no codes.
+    // Of an empty log: the founding weights, and no edit of any line.
     pub fn start(founding: [u16; 8]) -> Summary
         ensures { λ r. ⌜ r ≡ startWith founding ⌝ }
     {

@@ -1,12 +1,11 @@
--- Nothing to walk, or a walk that stores each word's code at its line, over 256 cells.
+-- Nothing to walk, or a walk that stores what each word says of its line there, over 256 cells.
 use borrow.Author.Needs.{needs}
 use native.Mathlib.Omega.{arith}
-use mathlib.Core.Path.{_≡_, refl, sym, ap, _∙_}
+use mathlib.Core.Path.{_≡_, refl, sym, ap, ap₂, _∙_}
 use mathlib.Core.List.{List, [], _∷_}
 use Prim.Native.Nat.{ℕ, _-_, _≤_}
-use lib.ListN.{length, getD, set}
+use lib.ListN.{length, set}
 use Rattle.lists.proofs.Fold.{Folded, fold-next, fold-done}
-use Rattle.protocol.specs.Entry.{codeOf}
 use Rattle.protocol.specs.Codes.{coded, codesAfter}
 use Rattle.summary.proofs.Cells.{codes-made}
 use Rattle.summary.proofs.codes_after.Statement.{statement}
@@ -23,9 +22,9 @@ loop-holds c = (search needs, refl)
 
 loop-again : tie.Need-loop-again Inv-loop μ-loop
 loop-again c =
-    let l = c .before .before .before .loop in
-    let words = c .before .before .before .before .before .before .before .args .words .now in
-    (search needs, fold-next coded (c .before .before .before .before .widened .result) words (l .wide) (l .i) (l .inv .1) (search needs) _ (ap (λ (k : ℕ). set (l .wide) k (codeOf (getD words (l .i) 0))) (c .line-of .ensures .0)))
+    let l = c .before .before .before .before .loop in
+    let words = c .before .before .before .before .before .before .before .before .args .words .now in
+    (search needs, fold-next coded (c .before .before .before .before .before .widened .result) words (l .wide) (l .i) (l .inv .1) (search needs) _ (ap₂ (set (l .wide)) (c .line-of .ensures .0) (c .before .cell-of .ensures)))
 
 returns : tie.Need-returns Inv-loop μ-loop
 unfolding codesAfter
@@ -45,4 +44,4 @@ returns-2 c =
 
 pub codes-after-spec : {M : Type 1} → statement M
 codes-after-spec =
-    tie.close (tie.spec Inv-loop μ-loop returns (λ c κs. search needs) loop-holds (λ c. search needs) (λ c. search needs) (λ c κs. search needs) (λ c. search needs) (λ c. search needs) (λ c. search needs) (λ c. search needs) loop-again (λ c κs. search needs) returns-2)
+    tie.close (tie.spec Inv-loop μ-loop returns (λ c κs. search needs) loop-holds (λ c. search needs) (λ c. search needs) (λ c κs. search needs) (λ c κs. search needs) (λ c. search needs) (λ c. search needs) (λ c. search needs) (λ c. search needs) loop-again (λ c κs. search needs) returns-2)
