@@ -1,11 +1,12 @@
 -- The promise to the two users. The supervisor: "an edit shows in its office's tentative frame when made". The tabulator: the settled frame
 -- is changed by no issue, done or refused. (Send hands back no record and writes no log; so only take and elect change a settled frame.)
---     edit-shows          after a done issue of (line, code), the line one of the frame, the tentative frame of the line answers the code
+--     edit-shows          after a done issue of (line, code), the line one of the frame, the tentative frame of the line shows the code
 --     settled-stays       after any issue the settled frame of every line is as it was
 -- Assumes nothing.
 use mathlib.Core.Path.{_≡_, refl, sym, ap, ap₂, _∙_}
 use mathlib.Core.Bool.{Bool, true, false}
 use mathlib.Core.List.{List, [], _∷_, _++_, append-assoc}
+use mathlib.Core.Option.{none, some}
 use Prim.Native.Nat.{ℕ, _<_, _≤_}
 use native.Mathlib.Omega.{arith}
 use lib.Dec.{eqb}
@@ -16,15 +17,16 @@ use Rattle.lists.specs.Tests.{pick}
 use Rattle.protocol.specs.Entry.{value, lineOf, codeOf}
 use Rattle.protocol.specs.Office.{Office, tail, path}
 use Rattle.protocol.specs.Issue.{withIssue}
-use Rattle.protocol.specs.Frames.{lastCode}
+use Rattle.protocol.specs.Frames.{editAfter, lastEdit}
+use Rattle.protocol.proofs.Frames.{edit-append}
 use Rattle.protocol.proofs.Limits as Limits
 use Rattle.protocol.proofs.Moves.{proper-true}
-use Rattle.entries.proofs.LastCode.{last-append}
 use Rattle.frame.specs.State.{heldBy}
 use Rattle.frame.specs.Soundness.{soundB}
 use Rattle.frame.specs.Issuing.{issueOf}
-use Rattle.frame.specs.Frames.{frameOf, shownIn, settledFrameOf, tentativeFrameOf}
+use Rattle.frame.specs.Frames.{editIs, refusedFrame, frameOf, shownIn, settledFrameOf, tentativeFrameOf}
 use Rattle.frame.specs.declared.Record.{Record}
+use Rattle.frame.specs.declared.frames.Edit.the-variants.{Code}
 use Rattle.frame.proofs.Sound.{sound-true}
 use Rattle.frame.proofs.Shown.{frame-shown, shown-done}
 use Rattle.frame.proofs.State.{held-fine}
@@ -34,16 +36,16 @@ own-path : (k e : ℕ) (o : Office) → k < length (o .tails) → path (withIssu
 unfolding withIssue
 own-path k e o h = ap (λ (t : List ℕ). o .log ++ t) (getD-set-same (o .tails) k (tail o k ++ (e ∷ [])) [] h) ∙ sym (append-assoc (o .log) (tail o k) (e ∷ []))
 
-last-issued : (office line code : ℕ) (p : List ℕ) → line ≤ 63 → code ≤ 9999 → lastCode line 0 (p ++ (value office line code ∷ [])) ≡ code
-unfolding lastCode pick
+last-issued : (office line code : ℕ) (p : List ℕ) → line ≤ 63 → code ≤ 9999 → lastEdit line (p ++ (value office line code ∷ [])) ≡ some code
+unfolding editAfter pick
 last-issued office line code p l c =
     let here : lineOf (value office line code) ≡ line = omega arith in
     let shown : codeOf (value office line code) ≡ code = omega arith in
-    last-append line 0 p (value office line code ∷ []) ∙
-    ap (λ (b : Bool). pick b (codeOf (value office line code)) (lastCode line 0 p)) (eq-eqb (lineOf (value office line code)) line here) ∙ shown
+    edit-append line none p (value office line code ∷ []) ∙
+    ap (λ (b : Bool). pick b (some (codeOf (value office line code))) (lastEdit line p)) (eq-eqb (lineOf (value office line code)) line here) ∙ ap some shown
 
 pub edit-shows : (r : Record) (words : List ℕ) (line code : ℕ) → line ≤ 63 → issueOf r words line code .number ≡ 0
-    → tentativeFrameOf (issueOf r words line code .«record») words line ≡ record { number = 0; code = code }
+    → tentativeFrameOf (issueOf r words line code .«record») words line ≡ record { number = 0; edit = Code code }
 edit-shows r words line code low q =
     let D = issue-made r words line code q in
     let S = D .was in
@@ -55,12 +57,12 @@ edit-shows r words line code low q =
     let own : r' .own ≡ r .own = ap (λ (x : Record). x .own) (D .made) in
     let shown : path (heldBy r' words) (r' .own) ≡ path (heldBy r words) (r .own) ++ (e ∷ []) =
     ap₂ path (issue-state r words line code q) own ∙ own-path (r .own) e (heldBy r words) (omega (arith, F .eight, H .member, H .most)) in
-    sym (shown-done line (path (heldBy r' words) (r' .own)) low code (sym (ap (lastCode line 0) shown ∙ last-issued (r .own) line code (path (heldBy r words) (r .own)) low (I .code-ok)))
+    sym (shown-done line (path (heldBy r' words) (r' .own)) low (Code code) (sym (ap (λ (p : List ℕ). editIs (lastEdit line p)) shown ∙ ap editIs (last-issued (r .own) line code (path (heldBy r words) (r .own)) low (I .code-ok))))
     ∙ frame-shown r' words line (path (heldBy r' words) (r' .own)) (sound-true r' words (issue-sound r words line code q)))
 
 frame-same : (r r' : Record) (words : List ℕ) (line : ℕ) (p p' : List ℕ) → soundB r' words ≡ soundB r words → p' ≡ p → frameOf r' words line p' ≡ frameOf r words line p
 unfolding frameOf
-frame-same r r' words line p p' s e = ap₂ (λ (b : Bool) (x : List ℕ). pick b (shownIn line x) (record { number = 1; code = 0 })) s e
+frame-same r r' words line p p' s e = ap₂ (λ (b : Bool) (x : List ℕ). pick b (shownIn line x) (refusedFrame 1)) s e
 
 log-same : (k e : ℕ) (o : Office) → withIssue k e o .log ≡ o .log
 unfolding withIssue

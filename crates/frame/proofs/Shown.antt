@@ -1,41 +1,51 @@
--- What both frames answer, in the order of the numbers: 1, 3, and the last code in the entries p.
+-- What both frames answer, in the order of the numbers: 1, 3, and the last edit in the entries p.
+--     code-said                    a stored code that is not 0 is a code + 1
 --     shown-past, shown-done       of the entries
 --     frame-unsound, frame-shown   of the record
---     stored-code                  the code that a sound record holds for a line
+--     stored-code, stored-shown    the code that a sound record holds for a line, and what it says
+--     behind-shown                 the last edit in the tail behind it
 --     lines-unsound, lines-shown   all lines
---     lines-frames                 "one new frame call answers all 64 lines": each is the line's settled frame
+--     lines-frames                 "one new frame call answers all 64 lines": each says what the line's settled frame shows
 -- Assumes nothing.
-use mathlib.Core.Path.{_≡_, ap, _∙_}
+use mathlib.Core.Path.{_≡_, sym, ap, _∙_}
 use mathlib.Core.Bool.{Bool, true, false}
-use mathlib.Core.List.{List}
-use Prim.Native.Nat.{ℕ, _<_, _≤_}
+use mathlib.Core.List.{List, _++_}
+use mathlib.Core.Option.{Option, none}
+use Prim.Native.Nat.{ℕ, zero, suc, _-_, _<_, _≤_}
+use native.Mathlib.Nat.{not-suc-le-zero}
 use native.Mathlib.Omega.{arith}
 use lib.ListN.{getD, take}
 use borrow.Author.Tests.{le-leb, lt-leb}
 use Rattle.lists.specs.Tests.{pick}
-use Rattle.protocol.specs.Frames.{lastCode}
-use Rattle.frame.specs.Soundness.{soundB}
 use Rattle.lists.proofs.Tests.{getD-replicate}
-use Rattle.protocol.specs.Codes.{noCodes, codesAfter}
-use Rattle.protocol.proofs.Codes.{codes-at}
+use Rattle.protocol.specs.Frames.{editAfter, lastEdit}
+use Rattle.protocol.specs.Codes.{cell, ofCell, noCodes, codesAfter}
+use Rattle.protocol.proofs.Frames.{edit-append}
+use Rattle.protocol.proofs.Codes.{cell-back, codes-at}
 use Rattle.summary.specs.declared.Summary.{Summary}
-use Rattle.frame.specs.Soundness.{Sound}
-use Rattle.frame.specs.Frames.{frameOf, shownIn, settledFrameOf, allLinesOf}
+use Rattle.frame.specs.Soundness.{Sound, soundB}
+use Rattle.frame.specs.Frames.{editIs, storedEdit, refusedFrame, frameOf, shownIn, settledFrameOf, allLinesOf}
 use Rattle.frame.specs.declared.Record.{Record}
+use Rattle.frame.specs.declared.frames.Edit.{Edit}
+use Rattle.frame.specs.declared.frames.Edit.the-variants.{Code, NotYet}
 use Rattle.frame.specs.declared.frames.Framed.{Framed}
 use Rattle.frame.specs.declared.frames.Lines.{Lines}
 
+pub code-said : (stored : ℕ) → 0 < stored → Code (stored - 1) ≡ storedEdit stored
+code-said zero h = absurd (not-suc-le-zero h)
+code-said (suc code) h = ap Code (omega arith)
+
 module _ (line : ℕ) (p : List ℕ) where
-  pub shown-past : 63 < line → _≡_ {A = Framed} (record { number = 3; code = 0 }) (shownIn line p)
+  pub shown-past : 63 < line → refusedFrame 3 ≡ shownIn line p
   unfolding shownIn pick
   shown-past l = rw (lt-leb line 63 l)
 
-  pub shown-done : line ≤ 63 → (code : ℕ) → code ≡ lastCode line 0 p → _≡_ {A = Framed} (record { number = 0; code = code }) (shownIn line p)
+  pub shown-done : line ≤ 63 → (edit : Edit) → edit ≡ editIs (lastEdit line p) → _≡_ {A = Framed} (record { number = 0; edit = edit }) (shownIn line p)
   unfolding shownIn pick
-  shown-done l code e = rw (le-leb line 63 l) (λ i. record { number = 0; code = e i })
+  shown-done l edit e = rw (le-leb line 63 l) (λ i. record { number = 0; edit = e i })
 
 module _ (r : Record) (words : List ℕ) where
-  pub frame-unsound : (line : ℕ) (p : List ℕ) → soundB r words ≡ false → _≡_ {A = Framed} (record { number = 1; code = 0 }) (frameOf r words line p)
+  pub frame-unsound : (line : ℕ) (p : List ℕ) → soundB r words ≡ false → refusedFrame 1 ≡ frameOf r words line p
   unfolding frameOf pick
   frame-unsound line p e = rw e
 
@@ -44,12 +54,24 @@ module _ (r : Record) (words : List ℕ) where
   frame-shown line p e = rw e
 
 -- ── the stored codes ──
-code-at : (log : List ℕ) (line : ℕ) → line ≤ 63 → getD (codesAfter noCodes log) line 0 ≡ lastCode line 0 log
-code-at log line h = codes-at noCodes log line (omega arith) ∙ ap (λ (x : ℕ). lastCode line x log) (getD-replicate 64 0 line)
+code-at : (log : List ℕ) (line : ℕ) → line ≤ 63 → getD (codesAfter noCodes log) line 0 ≡ cell (lastEdit line log)
+code-at log line h = codes-at noCodes log line (omega arith) ∙ ap (λ (x : ℕ). cell (editAfter line (ofCell x) log)) (getD-replicate 64 0 line)
 
-pub stored-code : (r : Record) (words : List ℕ) → Sound r words → (line : ℕ) → line ≤ 63 → getD (r .summary .codes) line 0 ≡ lastCode line 0 (take (r .settled) words)
+pub stored-code : (r : Record) (words : List ℕ) → Sound r words → (line : ℕ) → line ≤ 63 → getD (r .summary .codes) line 0 ≡ cell (lastEdit line (take (r .settled) words))
 stored-code r words S line h = ap (λ (x : Summary). getD (x .codes) line 0) (S .done) ∙ code-at (take (r .settled) words) line h
 
+cell-said : (stored : ℕ) (o : Option ℕ) → stored ≡ cell o → storedEdit stored ≡ editIs o
+cell-said stored o e = ap storedEdit e ∙ ap editIs (cell-back o)
+
+pub stored-shown : (r : Record) (words : List ℕ) → Sound r words → (line : ℕ) → line ≤ 63 → storedEdit (getD (r .summary .codes) line 0) ≡ editIs (lastEdit line (take (r .settled) words))
+stored-shown r words S line h = cell-said (getD (r .summary .codes) line 0) (lastEdit line (take (r .settled) words)) (stored-code r words S line h)
+
+pub behind-shown : (line base last : ℕ) (x t : List ℕ) → base ≡ cell (lastEdit line x) → last ≡ cell (editAfter line (ofCell base) t) → storedEdit last ≡ editIs (lastEdit line (x ++ t))
+behind-shown line base last x t eb el =
+    cell-said last (editAfter line (ofCell base) t) el ∙
+    ap (λ (o : Option ℕ). editIs (editAfter line o t)) (ap ofCell eb ∙ cell-back (lastEdit line x)) ∙ ap editIs (sym (edit-append line none x t))
+
+-- ── all lines ──
 pub lines-unsound : (r : Record) (words : List ℕ) → soundB r words ≡ false → _≡_ {A = Lines} (record { number = 1; codes = noCodes }) (allLinesOf r words)
 unfolding allLinesOf pick
 lines-unsound r words e = rw e
@@ -59,7 +81,7 @@ unfolding allLinesOf pick
 lines-shown r words e S = rw e (λ i. record { number = 0; codes = S .done i .codes })
 
 pub lines-frames : (r : Record) (words : List ℕ) (line : ℕ) → line ≤ 63
-    → _≡_ {A = Framed} (record { number = allLinesOf r words .number; code = getD (allLinesOf r words .codes) line 0 }) (settledFrameOf r words line)
+    → _≡_ {A = Framed} (record { number = allLinesOf r words .number; edit = storedEdit (getD (allLinesOf r words .codes) line 0) }) (settledFrameOf r words line)
 unfolding allLinesOf frameOf pick
 lines-frames r words line h = go (soundB r words)
   where
@@ -69,6 +91,6 @@ lines-frames r words line h = go (soundB r words)
     answer : Bool → Lines
     answer t = pick t (record { number = 0; codes = codesAfter noCodes (take (r .settled) words) }) (record { number = 1; codes = noCodes })
 
-    go : (t : Bool) → _≡_ {A = Framed} (record { number = answer t .number; code = getD (answer t .codes) line 0 }) (pick t (shownIn line (take (r .settled) words)) (record { number = 1; code = 0 }))
-    go true = shown-done line log h (getD (codesAfter noCodes log) line 0) (code-at log line h)
-    go false = λ i. record { number = 1; code = getD-replicate 64 0 line i }
+    go : (t : Bool) → _≡_ {A = Framed} (record { number = answer t .number; edit = storedEdit (getD (answer t .codes) line 0) }) (pick t (shownIn line (take (r .settled) words)) (refusedFrame 1))
+    go true = shown-done line log h (storedEdit (getD (codesAfter noCodes log) line 0)) (cell-said (getD (codesAfter noCodes log) line 0) (lastEdit line log) (code-at log line h))
+    go false = λ i. record { number = 1; edit = storedEdit (getD-replicate 64 0 line i) }

@@ -1,22 +1,46 @@
 // The settled and the tentative frame of a line, and the settled frame of all lines.
 ghost use mathlib.Core.Path.{_≡_};
-ghost use Rattle.frame.specs.Frames.{settledFrameOf, tentativeFrameOf, allLinesOf};
+ghost use Rattle.frame.specs.Frames.{storedEdit, refusedFrame, settledFrameOf, tentativeFrameOf, allLinesOf};
 use crate::Record;
 
-#[repr(C)]
-pub struct Framed {
-    pub number: u32,
-    pub code: u32,
+// What a frame shows for a line.
+pub enum Edit {
+    Code(u32),
+    NotYet,
 }
 
+pub struct Framed {
+    pub number: u32,
+    pub edit: Edit,
+}
+
+// The settled codes as they are stored.
 #[repr(C)]
 pub struct Lines {
     pub number: u32,
     pub codes: [u32; 64],
 }
 
+// What a stored code says: 0 is for no edit yet, any other number for the code below it.
+pub fn stored_edit(stored: u32) -> Edit
+    ensures { λ r. ⌜ r ≡ storedEdit stored ⌝ }
+{
+    if stored == 0 {
+        return Edit::NotYet;
+    }
+    Edit::Code(stored - 1)
+}
+
+// A refused frame shows no edit.
+fn refused(number: u32) -> Framed
+    ensures { λ r. ⌜ r ≡ refusedFrame number ⌝ }
+{
+    let edit = Edit::NotYet;
+    Framed { number, edit }
+}
+
 impl Record {
-    // The settled frame of all 64 lines: the codes that the record holds, once it is found sound; 0 for each where it is refused.
+    // The settled frame of all 64 lines: the codes that the record holds, once it is found sound; no edit yet for each where it is refused.
     pub fn all_lines(self, log: &[u32]) -> Lines
         ensures { λ r. ⌜ r ≡ allLinesOf self (now (log .entry)) ⌝ }
     {
@@ -31,31 +55,31 @@ impl Record {
         Lines { number: 0, codes }
     }
 
-    // The code of the last entry for the line in the settled log; 0 if none.
+    // The code of the last entry for the line in the settled log.
     pub fn settled_frame(self, log: &[u32], line: u32) -> Framed
         ensures { λ r. ⌜ r ≡ settledFrameOf self (now (log .entry)) line ⌝ }
     {
         if !self.sound(log) {
-            return Framed { number: 1, code: 0 };
+            return refused(1);
         }
         if line >= Record::LINES {
-            return Framed { number: 3, code: 0 };
+            return refused(3);
         }
         let summary = self.summary;
         let codes = summary.codes;
-        let code = codes[line as usize];
-        Framed { number: 0, code }
+        let edit = stored_edit(codes[line as usize]);
+        Framed { number: 0, edit }
     }
 
-    // The code of the last entry for the line in the own path; 0 if none.
+    // The code of the last entry for the line in the own path.
     pub fn tentative_frame(self, log: &[u32], line: u32) -> Framed
         ensures { λ r. ⌜ r ≡ tentativeFrameOf self (now (log .entry)) line ⌝ }
     {
         if !self.sound(log) {
-            return Framed { number: 1, code: 0 };
+            return refused(1);
         }
         if line >= Record::LINES {
-            return Framed { number: 3, code: 0 };
+            return refused(3);
         }
         let summary = self.summary;
         let codes = summary.codes;
@@ -63,7 +87,8 @@ impl Record {
         let b = self.own_ballot();
         let len = b.len;
         let cells = b.cells;
-        let code = entries::last_code(&cells[..len], line, base);
-        Framed { number: 0, code }
+        let last = entries::last_edit(&cells[..len], line, base);
+        let edit = stored_edit(last);
+        Framed { number: 0, edit }
     }
 }
