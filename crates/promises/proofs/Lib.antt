@@ -1,2 +1,3 @@
 -- The proofs of what is claimed of every sound record.
 pub mod Parts
+pub mod Edits

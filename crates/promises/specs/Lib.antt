@@ -1,2 +1,3 @@
 -- What is claimed of every sound record.
 pub mod Parts
+pub mod Edits
