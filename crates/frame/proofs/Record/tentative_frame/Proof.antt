@@ -8,7 +8,8 @@ use lib.ListN.{getD, take}
 use lib.Seq.{length-take-le}
 use borrow.Author.Tests.{not-true, not-false}
 use borrow.Author.Needs.{needs}
-use Rattle.protocol.specs.Frames.{lastEdit}
+use Rattle.protocol.specs.Codes.{cell, ofCell}
+use Rattle.protocol.specs.Frames.{lastEdit, editAfter}
 use Rattle.ballots.specs.Ballots.{tailOf}
 use Rattle.ballots.specs.declared.Ballot.{Ballot}
 use Rattle.ballots.proofs.Laws.{Fine}
@@ -56,7 +57,7 @@ returns-3 c =
     let tail = tailOf (ownBallot r) in
     shown-done (a .line) _ (omega arith) _
     (c .stored-edit .ensures ∙ behind-shown (a .line) _ _ x tail (stored-code r (a .log .now) (sounds e) (a .line) (omega arith))
-    (c .before .last-edit .ensures ∙ ?) ∙
+    (c .before .last-edit .ensures ∙ ap (λ (b : Ballot). cell (editAfter (a .line) (ofCell (getD (r .summary .codes) (a .line) 0)) (tailOf b))) (o .own-ballot .ensures)) ∙
     ap (λ (t : List ℕ). editIs (lastEdit (a .line) (x ++ t))) (sym (tail-at r (a .log .now) (r .own))))
     ∙ frame-shown _ _ (a .line) _ (passed e)
 
