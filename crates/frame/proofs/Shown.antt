@@ -27,7 +27,7 @@ use Rattle.frame.specs.Soundness.{Sound, soundB}
 use Rattle.frame.specs.Frames.{editIs, storedEdit, refusedFrame, frameOf, shownIn, settledFrameOf, allLinesOf}
 use Rattle.frame.specs.declared.Record.{Record}
 use Rattle.frame.specs.declared.frames.Edit.{Edit}
-use Rattle.frame.specs.declared.frames.Edit.the-variants.{Code, NotYet}
+use Rattle.frame.specs.declared.frames.Edit.the-variants.{Code}
 use Rattle.frame.specs.declared.frames.Framed.{Framed}
 use Rattle.frame.specs.declared.frames.Lines.{Lines}
 

@@ -3,14 +3,12 @@
 use mathlib.Core.Path.{_≡_, refl, sym, ap, _∙_}
 use mathlib.Core.Bool.{Bool, true, false}
 use mathlib.Core.List.{List}
-use mathlib.Core.Logic.{_↔_}
 use mathlib.Core.Option.{Option, none, some}
 use Prim.Native.Nat.{ℕ, _≤_}
-use lib.ListN.{getD}
 use Rattle.lists.specs.Tests.{pick}
 use Rattle.lists.proofs.Tests.{getD-replicate}
 use Rattle.protocol.specs.Limits.{headFine}
-use Rattle.protocol.specs.Frames.{lastEdit, NoneFor, LastFor}
+use Rattle.protocol.specs.Frames.{lastEdit}
 use Rattle.protocol.specs.Office.{path}
 use Rattle.protocol.proofs.Frames.{edit-none, edit-some}
 use Rattle.soundness.specs.Soundness.{longEnough}
@@ -37,9 +35,10 @@ back (some code) = refl
 
 shows : (shown : ℕ → Edit) (entries : List ℕ) → ((line : ℕ) → line ≤ 63 → shown line ≡ editIs (lastEdit line entries)) → ShowsEdits shown entries
 shows shown entries e line h =
-    let is : edit (shown line) ≡ lastEdit line entries = ap edit (e line h) ∙ back (lastEdit line entries) in
-    ((λ s. edit-none line entries .0 (sym is ∙ ap edit s), λ n. e line h ∙ ap editIs (edit-none line entries .1 n)),
-    λ code. (λ s. edit-some line entries code .0 (sym is ∙ ap edit s), λ l. e line h ∙ ap editIs (edit-some line entries code .1 l)))
+    let is : edit (shown line) ≡ lastEdit line entries = ap edit (e line h) ∙ back (lastEdit line entries) in (
+      (λ s. edit-none line entries .0 (sym is ∙ ap edit s), λ n. e line h ∙ ap editIs (edit-none line entries .1 n)),
+      λ code. (λ s. edit-some line entries code .0 (sym is ∙ ap edit s), λ l. e line h ∙ ap editIs (edit-some line entries code .1 l)),
+    )
 
 -- ── every sound record ──
 module _ (r : Record) (words : List ℕ) (q : soundB r words ≡ true) where

@@ -2,62 +2,32 @@
 --     say-short      an answer takes at most 65 bytes
 --     says-as, say-found, say-turn, say-nobody      a line by its addressee
 -- Assumes nothing.
-use mathlib.Core.Path.{_≡_, refl}
+use mathlib.Core.Path.{_≡_}
 use mathlib.Core.List.{List, _++_}
 use Prim.Native.Nat.{ℕ, _*_, _≤_}
-use lib.Dec.{ltb}
 use lib.ListN.{length, take, drop}
-use Rattle.lists.proofs.Tests.{pick-cases}
 use Rattle.rehearsal_commands.specs.declared.Command.{Command}
-use Rattle.rehearsal_commands.specs.declared.Command.the-variants.{Found, Issue, Send, Take, Elect, View}
 use Rattle.rehearsal_commands.specs.declared.Line.{Line}
 use Rattle.rehearsal_commands.specs.Command.{lineOf}
 use Rattle.rehearsal_answers.specs.declared.Answer.{Answer}
 use Rattle.rehearsal_answers.specs.Answer.{printedOf}
 use Rattle.rehearsal_answers.proofs.Printing.{printed-short}
-use Rattle.frame.specs.declared.Record.{Record}
 use Rattle.rehearsal_turns.specs.declared.Turn.{Turn}
 use Rattle.rehearsal_turns.specs.Answers.{question}
-use Rattle.rehearsal_turns.specs.Turns.{issueTurn, sendTurn, takeTurn, electTurn, viewTurn, stay, turnAt, turnWords, turnSlots}
-use Rattle.rehearsal_offices.specs.declared.Offices.{Offices}
+use Rattle.rehearsal_turns.specs.Turns.{turnAt, turnWords, turnSlots}
 use Rattle.rehearsal_offices.specs.declared.addressees.Addressee.{Addressee}
 use Rattle.rehearsal_offices.specs.declared.addressees.Addressee.the-variants.{All, One, Nobody}
 use Rattle.rehearsal_offices.specs.declared.founding.Founding.{Founding}
 use Rattle.rehearsal_offices.specs.Addressees.{addresseeOf}
-use Rattle.rehearsal_offices.specs.World.{World, logOf}
+use Rattle.rehearsal_offices.specs.World.{World}
 use Rattle.rehearsal_offices.specs.Founding.{foundOffices}
 use Rattle.rehearsal.specs.Lines.{Answered, foundAnswer, turned, recordAt, answerTo, answerLine, sayLine}
-
--- an answer has room for three numbers
-abbrev Three : Answer → Type 0
-Three a = length (a .numbers) ≡ 3
-
-turn-three : (r : Record) (lengths words slots : List ℕ) (c : Command) → Three (turnAt r lengths words slots c .answer)
-unfolding turnAt issueTurn sendTurn takeTurn electTurn viewTurn
-turn-three r lengths words slots (Found n) = refl
-turn-three r lengths words slots (Issue k line code) = refl
-turn-three r lengths words slots (Send k m) =
-    pick-cases (λ (t : Turn). Three (t .answer)) (ltb m 4) (sendTurn r lengths words slots m) (stay r lengths) (λ e. refl) (λ e. refl)
-turn-three r lengths words slots (Take k m) =
-    pick-cases (λ (t : Turn). Three (t .answer)) (ltb m 4) (takeTurn r lengths words slots m) (stay r lengths) (λ e. refl) (λ e. refl)
-turn-three r lengths words slots (Elect k) = refl
-turn-three r lengths words slots (View k line) = refl
-
-found-three : (offices : Offices) (n : ℕ) (ws logs : List ℕ) → Three (foundOffices offices n ws logs .answer)
-unfolding foundOffices
-found-three offices n ws logs = refl
-
-answer-three : (w : World) (ws : List ℕ) (a : Addressee) → Three (answerTo w ws a .answer)
-unfolding answerTo
-answer-three w ws (All n) = found-three (w .offices) n ws (w .logs)
-answer-three w ws (One k c) = turn-three (recordAt (w .offices) k) (w .offices .lengths) (logOf (w .logs) k) (w .slots) c
-answer-three w ws Nobody = refl
 
 pub say-short : (w : World) (bytes : List ℕ) → length (sayLine w bytes .printed) ≤ 65
 unfolding sayLine answerLine
 say-short w bytes =
     let a = addresseeOf (w .offices .count) (lineOf bytes .parsed) in
-    printed-short (answerTo w (lineOf bytes .weights) a .answer) (answer-three w (lineOf bytes .weights) a)
+    printed-short (answerTo w (lineOf bytes .weights) a .answer)
 
 -- an office's turn on `size` words of its log
 abbrev pub lentAnswer : World → ℕ → ℕ → Turn → List ℕ → List ℕ → Answered

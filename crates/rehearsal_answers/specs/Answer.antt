@@ -1,21 +1,23 @@
--- "Each prints its letter and the number given", then what else it says, and a newline. Assumes nothing.
+-- "Each prints its letter and the number given", then what else it says, and a newline; request (ix): "`v` prints `-`" for no edit yet. Assumes nothing.
 use Prim.Native.Nat.{ℕ}
 use mathlib.Core.List.{List, [], _∷_, _++_}
-use lib.ListN.{take}
 use Rattle.decimal.specs.Printing.{decimalOf}
 use Rattle.rehearsal_answers.specs.declared.Answer.{Answer}
+use Rattle.rehearsal_answers.specs.declared.Item.{Item}
+use Rattle.rehearsal_answers.specs.declared.Item.the-variants.{Number, Dash, Nothing}
 
 -- a number and the space in front of it
 abbrev pub spaced : ℕ → List ℕ
 spaced n = 32 ∷ decimalOf n
 
-unfoldable pub spacedAll : List ℕ → List ℕ
-spacedAll [] = []
-spacedAll (n ∷ ns) = spaced n ++ spacedAll ns
+-- a dash and the space in front of it
+abbrev pub dashed : List ℕ
+dashed = 32 ∷ 45 ∷ []
 
--- the numbers that the answer gives
-abbrev pub numbersOf : Answer → List ℕ
-numbersOf a = take (a .count) (a .numbers)
+abbrev pub spacedItem : Item → List ℕ
+spacedItem (Number n) = spaced n
+spacedItem Dash = dashed
+spacedItem Nothing = []
 
 unfoldable pub printedOf : Answer → List ℕ
-printedOf a = (a .letter ∷ []) ++ (spacedAll (numbersOf a) ++ (10 ∷ []))
+printedOf a = (a .letter ∷ []) ++ (spacedItem (a .first) ++ (spacedItem (a .second) ++ (spacedItem (a .third) ++ (10 ∷ []))))

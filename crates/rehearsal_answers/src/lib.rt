@@ -1,17 +1,24 @@
-// What the rehearsal prints for a line: a letter and numbers, in decimal.
+// What the rehearsal prints for a line: a letter and up to three items, a number in decimal or a dash.
 ghost use mathlib.Core.Path.{_≡_};
 ghost use Prim.Native.Nat.{_+_, _≤_};
-ghost use lib.ListN.{length, take};
+ghost use lib.ListN.{length};
 ghost use lib.Seq.{sets};
-ghost use Rattle.rehearsal_answers.specs.Answer.{spaced, spacedAll, printedOf};
+ghost use Rattle.rehearsal_answers.specs.Answer.{spaced, dashed, spacedItem, printedOf};
 use decimal::put_number;
-use lists::within;
 
-// A letter and up to three numbers after it.
+// A number, a dash where there is none to print, or no item at all.
+pub enum Item {
+    Number(usize),
+    Dash,
+    Nothing,
+}
+
+// A letter and the items after it.
 pub struct Answer {
     pub letter: u8,
-    pub count: usize,
-    pub numbers: [usize; 3],
+    pub first: Item,
+    pub second: Item,
+    pub third: Item,
 }
 
 // Writes a space and the number.
@@ -23,16 +30,26 @@ fn put_spaced(out: &mut [u8], at: usize, n: usize) -> usize
     put_number(out, at + 1, n)
 }
 
-// Writes a space and the number for each of the first `count` numbers.
-fn put_all(out: &mut [u8], at: usize, count: usize, numbers: [usize; 3]) -> usize
-    requires { ⌜ (count ≤ 3) × (at + 63 ≤ length (now out)) ⌝ }
-    ensures { λ r. ⌜ (r ≡ at + length (spacedAll (take count numbers))) × (now (out .exit) ≡ sets (now (out .entry)) at (spacedAll (take count numbers))) ⌝ }
+// Writes a space and a dash.
+fn put_dash(out: &mut [u8], at: usize) -> usize
+    requires { ⌜ at + 21 ≤ length (now out) ⌝ }
+    ensures { λ r. ⌜ (r ≡ at + length dashed) × (now (out .exit) ≡ sets (now (out .entry)) at dashed) ⌝ }
 {
-    let mut next = at;
-    for i in 0..count {
-        next = put_spaced(out, next, numbers[i]);
+    out[at] = b' ';
+    out[at + 1] = b'-';
+    at + 2
+}
+
+// Writes an item.
+fn put_item(out: &mut [u8], at: usize, item: Item) -> usize
+    requires { ⌜ at + 21 ≤ length (now out) ⌝ }
+    ensures { λ r. ⌜ (r ≡ at + length (spacedItem item)) × (now (out .exit) ≡ sets (now (out .entry)) at (spacedItem item)) ⌝ }
+{
+    match item {
+        Item::Number(n) => put_spaced(out, at, n),
+        Item::Dash => put_dash(out, at),
+        Item::Nothing => at,
     }
-    next
 }
 
 // Writes an answer and its newline, and answers the place behind them. An answer takes at most 65 bytes; public for the
@@ -41,10 +58,13 @@ pub fn print(out: &mut [u8], at: usize, answer: Answer) -> usize
     requires { ⌜ at + 65 ≤ length (now out) ⌝ }
     ensures { λ r. ⌜ (r ≡ at + length (printedOf answer)) × (now (out .exit) ≡ sets (now (out .entry)) at (printedOf answer)) ⌝ }
 {
-    let numbers = answer.numbers;
-    let count = within(answer.count, 3);
+    let first = answer.first;
+    let second = answer.second;
+    let third = answer.third;
     out[at] = answer.letter;
-    let next = put_all(out, at + 1, count, numbers);
-    out[next] = b'\n';
-    next + 1
+    let behind = put_item(out, at + 1, first);
+    let next = put_item(out, behind, second);
+    let last = put_item(out, next, third);
+    out[last] = b'\n';
+    last + 1
 }

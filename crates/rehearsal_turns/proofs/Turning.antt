@@ -22,7 +22,7 @@ use Rattle.frame.specs.Electing.{electOf}
 use Rattle.frame.specs.Frames.{settledFrameOf, tentativeFrameOf}
 use Rattle.rehearsal_turns.specs.declared.Turn.{Turn}
 use Rattle.rehearsal_turns.specs.Pieces.{slotOf, messageIn}
-use Rattle.rehearsal_turns.specs.Answers.{saysOne, saysTwo, saysThree}
+use Rattle.rehearsal_turns.specs.Answers.{saysOne, saysTwo, saysFrames}
 use Rattle.rehearsal_turns.specs.Turns.{issueTurn, sentLengths, sendTurn, sendSlots, takeTurn, takeTurnWords, electTurn, viewTurn}
 
 module _ (r : Record) (lengths words : List ℕ) (a : Answer) where
@@ -34,7 +34,7 @@ module _ (r : Record) (lengths words : List ℕ) (a : Answer) where
   unfolding electTurn
   elected-turn e ee ea = rw (ea, ee)
 
-  pub viewed-turn : (line : ℕ) (s t : Framed) → s ≡ settledFrameOf r words line → t ≡ tentativeFrameOf r words line → a ≡ saysThree letterV (s .number) (s .code) (t .code) → _≡_ {A = Turn} (record { «record» = r; lengths = lengths; answer = a }) (viewTurn r lengths words line)
+  pub viewed-turn : (line : ℕ) (s t : Framed) → s ≡ settledFrameOf r words line → t ≡ tentativeFrameOf r words line → a ≡ saysFrames letterV (s .number) (s .edit) (t .edit) → _≡_ {A = Turn} (record { «record» = r; lengths = lengths; answer = a }) (viewTurn r lengths words line)
   unfolding viewTurn
   viewed-turn line s t es et ea = rw (ea, es, et)
 

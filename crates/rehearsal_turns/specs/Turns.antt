@@ -15,7 +15,7 @@ use Rattle.frame.specs.Electing.{electOf, electWords}
 use Rattle.frame.specs.Frames.{settledFrameOf, tentativeFrameOf}
 use Rattle.rehearsal_turns.specs.declared.Turn.{Turn}
 use Rattle.rehearsal_turns.specs.Pieces.{withPiece, slotOf, messageIn}
-use Rattle.rehearsal_turns.specs.Answers.{saysOne, saysTwo, saysThree, question}
+use Rattle.rehearsal_turns.specs.Answers.{saysOne, saysTwo, saysFrames, question}
 
 -- nothing changes
 abbrev pub stay : Record → List ℕ → Turn
@@ -64,7 +64,7 @@ viewTurn r lengths words line =
     record {
       «record» = r;
       lengths = lengths;
-      answer = saysThree letterV (settledFrameOf r words line .number) (settledFrameOf r words line .code) (tentativeFrameOf r words line .code);
+      answer = saysFrames letterV (settledFrameOf r words line .number) (settledFrameOf r words line .edit) (tentativeFrameOf r words line .edit);
     }
 
 -- the office's turn by the command, for "a slot that isn't there" a question mark

@@ -3,11 +3,13 @@ ghost use mathlib.Core.Path.{_≡_};
 ghost use Prim.Native.Nat.{_<_};
 ghost use Rattle.frame.specs.Electing.{electWords};
 ghost use lib.ListN.{length};
-ghost use Rattle.rehearsal_turns.specs.Answers.{saysOne, saysTwo, saysThree, question};
+ghost use Rattle.rehearsal_turns.specs.Answers.{saysOne, saysTwo, itemOf, saysFrames, question};
 ghost use Rattle.rehearsal_turns.specs.Turns.{stay, issueTurn, sentLengths, sendTurn, sendSlots, takeTurn, takeTurnWords, electTurn, viewTurn, turnAt, turnWords, turnSlots};
 use frame::Record;
+use frame::frames::Edit;
 use lists::within;
 use rehearsal_answers::Answer;
+use rehearsal_answers::Item;
 use rehearsal_commands::Command;
 
 // The message slots, and the bytes of one: those of the longest message.
@@ -35,8 +37,9 @@ pub fn says_one(letter: u8, number: u32) -> Answer
 {
     Answer {
         letter,
-        count: 1,
-        numbers: [wide(number), 0, 0],
+        first: Item::Number(wide(number)),
+        second: Item::Nothing,
+        third: Item::Nothing,
     }
 }
 
@@ -46,19 +49,34 @@ fn says_two(letter: u8, number: u32, x: usize) -> Answer
 {
     Answer {
         letter,
-        count: 2,
-        numbers: [wide(number), x, 0],
+        first: Item::Number(wide(number)),
+        second: Item::Number(x),
+        third: Item::Nothing,
     }
 }
 
-// A letter, the number given and two more.
-fn says_three(letter: u8, number: u32, x: u32, y: u32) -> Answer
-    ensures { λ r. ⌜ r ≡ saysThree letter number x y ⌝ }
+// What a frame shows: a code, or a dash for no edit yet.
+fn item_of(edit: Edit) -> Item
+    ensures { λ r. ⌜ r ≡ itemOf edit ⌝ }
 {
+    match edit {
+        Edit::Code(code) => Item::Number(wide(code)),
+        Edit::NotYet => Item::Dash,
+    }
+}
+
+// A letter, the number given and what both frames show.
+fn says_frames(letter: u8, number: u32, settled: Edit, tentative: Edit) -> Answer
+    ensures { λ r. ⌜ r ≡ saysFrames letter number settled tentative ⌝ }
+{
+    let first = Item::Number(wide(number));
+    let second = item_of(settled);
+    let third = item_of(tentative);
     Answer {
         letter,
-        count: 3,
-        numbers: [wide(number), wide(x), wide(y)],
+        first,
+        second,
+        third,
     }
 }
 
@@ -68,8 +86,9 @@ pub fn question() -> Answer
 {
     Answer {
         letter: b'?',
-        count: 0,
-        numbers: [0, 0, 0],
+        first: Item::Nothing,
+        second: Item::Nothing,
+        third: Item::Nothing,
     }
 }
 
@@ -167,7 +186,9 @@ fn view_turn(record: Record, lengths: [usize; 4], log: &[u32], line: u32) -> Tur
 {
     let settled = record.settled_frame(log, line);
     let tentative = record.tentative_frame(log, line);
-    let answer = says_three(b'v', settled.number, settled.code, tentative.code);
+    let now = settled.edit;
+    let soon = tentative.edit;
+    let answer = says_frames(b'v', settled.number, now, soon);
     Turn {
         record,
         lengths,

@@ -1,40 +1,60 @@
--- The letter, the numbers and a newline, each behind the other.
+-- The letter, the three items and a newline, each behind the other. The buffer keeps its length, and an item takes at most 21 bytes, so that there is
+-- room for the next and for the newline.
 use native.Mathlib.Omega.{arith}
-use native.Mathlib.Nat.{min-le-right}
-use mathlib.Core.Path.{_≡_, ap, _∙_}
-use mathlib.Core.List.{List}
-use Prim.Native.Nat.{ℕ, _+_, _<_}
-use lib.ListN.{length, take, set, length-set, length-take}
-use lib.Seq.{sets}
-use Rattle.rehearsal_lines.proofs.Holding.{take-within}
-use Rattle.rehearsal_answers.specs.Answer.{spacedAll, numbersOf}
-use Rattle.rehearsal_answers.proofs.Printing.{all-short, print-whole}
 use borrow.Author.Needs.{needs}
+use mathlib.Core.Path.{_≡_, _∙_}
+use Prim.Native.Nat.{_+_, _<_, _≤_}
+use lib.ListN.{length, length-set}
+use Rattle.rehearsal_answers.proofs.Printing.{item-short, print-whole}
 use Rattle.rehearsal_answers.proofs.print.Statement.{statement}
 use Rattle.rehearsal_answers.proofs.print.Tie as tie
 
-full : (c : tie.Start) → length (c .args .answer .numbers) ≡ 3
-full c = search needs
+abbrev start : tie.After-put-item → tie.Start
+start c = c .before .before .before
 
--- the buffer keeps its length, and the numbers take at most 63 bytes, so that there is room for the newline
-room : (c : tie.After-slice-known2) → (length (c .before .before .put-all .last .0) ≡ length (c .before .before .before .before .before .before .before .args .out .now)) × (c .before .before .put-all .result < length (c .before .before .put-all .last .0))
-room c =
-    let s = c .before .before .before .before .before .before .before in let ns = s .args .answer .numbers in let k = c .before .before .before .before .within .result in let put = c .before .before .put-all in
-    let e : length (put .last .0) ≡ length (s .args .out .now) = put .kept .0 ∙ length-set (s .args .out .now) (s .args .at) (s .args .answer .letter) in
-    (e, omega (arith, put .ensures .0, all-short (take k ns), length-take k ns, full s))
+one : (c : tie.After-put-item) → (length (c .put-item .last .0) ≡ length (start c .args .out .now)) × (c .put-item .result ≤ start c .args .at + 22)
+one c =
+    let a = start c .args in
+    (c .put-item .kept .0 ∙ length-set (a .out .now) (a .at) (a .answer .letter), omega (arith, c .put-item .ensures .0, item-short (a .answer .first)))
+
+room-one : (c : tie.After-put-item) → c .put-item .result + 21 ≤ length (c .put-item .last .0)
+room-one c = omega (arith, one c, start c .good .0 .0)
+
+abbrev first : tie.After-put-item2 → tie.After-put-item
+first c = c .before .before .before .before
+
+two : (c : tie.After-put-item2) → (length (c .put-item2 .last .0) ≡ length (start (first c) .args .out .now)) × (c .put-item2 .result ≤ start (first c) .args .at + 43)
+two c =
+    let a = start (first c) .args in
+    (c .put-item2 .kept .0 ∙ one (first c) .0, omega (arith, c .put-item2 .ensures .0, item-short (a .answer .second), one (first c) .1))
+
+room-two : (c : tie.After-put-item2) → c .put-item2 .result + 21 ≤ length (c .put-item2 .last .0)
+room-two c = omega (arith, two c, start (first c) .good .0 .0)
+
+abbrev second : tie.After-put-item3 → tie.After-put-item2
+second c = c .before .before .before .before
+
+three : (c : tie.After-put-item3) → (length (c .put-item3 .last .0) ≡ length (start (first (second c)) .args .out .now)) × (c .put-item3 .result ≤ start (first (second c)) .args .at + 64)
+three c =
+    let a = start (first (second c)) .args in
+    (c .put-item3 .kept .0 ∙ two (second c) .0, omega (arith, c .put-item3 .ensures .0, item-short (a .answer .third), two (second c) .1))
+
+room-three : (c : tie.After-put-item3) → c .put-item3 .result < length (c .put-item3 .last .0)
+room-three c = omega (arith, three c, start (first (second c)) .good .0 .0)
 
 returns : tie.Need-returns
 returns c =
-    let s = c .before .before .before .before .before .before .before in let a = s .args in let put = c .before .before .put-all in
-    let n : take (c .before .before .before .before .within .result) (a .answer .numbers) ≡ numbersOf (a .answer) =
-    ap (λ (k : ℕ). take k (a .answer .numbers)) (c .before .before .before .before .within .ensures) ∙ take-within (a .answer .count) 3 (a .answer .numbers) (full s) in
-    print-whole (a .answer) (a .out .now) (put .last .0) (a .at) (put .result)
-    (put .ensures .0 ∙ ap (λ (s : List ℕ). a .at + 1 + length (spacedAll s)) n)
-    (put .ensures .1 ∙ ap (λ (s : List ℕ). sets (set (a .out .now) (a .at) (a .answer .letter)) (a .at + 1) (spacedAll s)) n)
+    let p₃ = c .before .before in
+    let p₂ = second p₃ in
+    let p₁ = first p₂ in
+    let a = start p₁ .args in
+    print-whole (a .answer) (a .at) (p₁ .put-item .result) (p₂ .put-item2 .result) (p₃ .put-item3 .result)
+    (a .out .now) (p₁ .put-item .last .0) (p₂ .put-item2 .last .0) (p₃ .put-item3 .last .0)
+    (p₁ .put-item .ensures .0) (p₁ .put-item .ensures .1) (p₂ .put-item2 .ensures .0) (p₂ .put-item2 .ensures .1) (p₃ .put-item3 .ensures .0) (p₃ .put-item3 .ensures .1)
 
 pub print-spec : {M : Type 1} → statement M
 print-spec =
-    tie.close (tie.spec (λ c κs. search needs) (λ c. search needs) (λ c. search needs)
-    (λ c κs. (rw (c .before .within .ensures) (min-le-right (c .before .before .before .before .args .answer .count) 3), simp length-set (omega arith)))
-    (λ c. room c .1) (λ c. omega (arith, room c, c .before .before .before .before .before .before .before .good .0 .0))
-    (λ c. let put = c .before .before .put-all in length-set (put .last .0) (put .result) 10 ∙ room c .0) returns)
+    tie.close (tie.spec (λ c. search needs) (λ c. search needs) (λ c κs. simp length-set (omega arith)) (λ c κs. room-one (c .before .before .before))
+    (λ c κs. room-two (c .before .before .before)) (λ c. room-three (c .before .before))
+    (λ c. let p = c .before .before in omega (arith, three p, start (first (second p)) .good .0 .0))
+    (λ c. let p = c .before .before in length-set (p .put-item3 .last .0) (p .put-item3 .result) 10 ∙ three p .0) returns)
