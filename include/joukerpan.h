@@ -75,7 +75,7 @@ typedef struct {
  */
 typedef struct {
     uint16_t present[JOUKERPAN_OFFICES];  /* present weights, by which elect counts votes; same total */
-    uint32_t codes[JOUKERPAN_LINES];      /* settled code of each line; 0 where it has no entry */
+    uint32_t codes[JOUKERPAN_LINES];      /* of each line: 0 for no edit yet, else its settled code + 1 */
 } joukerpan_summary;
 
 /*
@@ -116,12 +116,13 @@ typedef struct {
 
 typedef struct {
     uint32_t number;
-    uint32_t code;  /* 0 where there is no entry for the line, and where refused */
+    bool coded;     /* whether the line has an edit; false for no edit yet, and where refused */
+    uint32_t code;  /* its code, of which 0 is one like another; 0 where it has no edit */
 } joukerpan_framed;
 
 typedef struct {
     uint32_t number;
-    uint32_t codes[JOUKERPAN_LINES];  /* one a line; 0 where there is no entry for it, and each 0 where refused */
+    uint32_t codes[JOUKERPAN_LINES];  /* one a line: 0 for no edit yet, else the code + 1; each 0 where refused */
 } joukerpan_lines;
 
 typedef struct {
@@ -154,7 +155,7 @@ typedef struct {
 } joukerpan_tabulated;
 
 /*
- * A fresh record: an empty log, no ballots, present weights as founded, codes 0.
+ * A fresh record: an empty log, no ballots, present weights as founded, no edit of any line.
  * Refused: 1 (log size alone), 2.
  */
 joukerpan_founded joukerpan_found(size_t n, size_t own, joukerpan_weights weights,
@@ -162,8 +163,8 @@ joukerpan_founded joukerpan_found(size_t n, size_t own, joukerpan_weights weight
 
 /*
  * Whether the record with its log is sound: a log of 1,024 words or more, every limit kept, the present
- * weights those that follow from the founding weights and the settled log, and each code that of the last
- * entry for its line in the settled log, 0 where there is none.
+ * weights those that follow from the founding weights and the settled log, and each line's code that of the
+ * last entry for it in the settled log, or no edit yet where there is none.
  */
 bool joukerpan_sound(joukerpan_record record, const uint32_t *log, size_t log_len);
 
@@ -182,17 +183,20 @@ joukerpan_issued joukerpan_issue(joukerpan_record record, const uint32_t *log, s
 joukerpan_part joukerpan_settled(joukerpan_record record, const uint32_t *log, size_t log_len);
 
 /*
- * The settled frame whole: for each of the 64 lines the code that joukerpan_settled_frame answers. One call
- * tests the record and its log once, as every call does, so a screen that shows all lines asks this one.
- * Refused: 1.
+ * The settled frame whole: for each of the 64 lines what joukerpan_settled_frame answers, in one number: 0
+ * for no edit yet, else the code + 1. One call tests the record and its log once, as every call does, so a
+ * screen that shows all lines asks this one. Refused: 1.
  */
 joukerpan_lines joukerpan_all_lines(joukerpan_record record, const uint32_t *log, size_t log_len);
 
-/* The code of the last entry for the line in the settled log. Refused: 1, 3. */
+/* The code of the last entry for the line in the settled log, or no edit yet. Refused: 1, 3. */
 joukerpan_framed joukerpan_settled_frame(joukerpan_record record, const uint32_t *log, size_t log_len,
                                          uint32_t line);
 
-/* The code of the last entry for the line in the settled log followed by the own tail. Refused: 1, 3. */
+/*
+ * The code of the last entry for the line in the settled log followed by the own tail, or no edit yet.
+ * Refused: 1, 3.
+ */
 joukerpan_framed joukerpan_tentative_frame(joukerpan_record record, const uint32_t *log, size_t log_len,
                                            uint32_t line);
 
@@ -259,8 +263,9 @@ JOUKERPAN_ASSERT(sizeof(joukerpan_issued) == 1408, "joukerpan_issued: size");
 JOUKERPAN_ASSERT(offsetof(joukerpan_issued, number) == 1400, "joukerpan_issued: number");
 JOUKERPAN_ASSERT(sizeof(joukerpan_part) == 16, "joukerpan_part: size");
 JOUKERPAN_ASSERT(offsetof(joukerpan_part, length) == 8, "joukerpan_part: length");
-JOUKERPAN_ASSERT(sizeof(joukerpan_framed) == 8, "joukerpan_framed: size");
-JOUKERPAN_ASSERT(offsetof(joukerpan_framed, code) == 4, "joukerpan_framed: code");
+JOUKERPAN_ASSERT(sizeof(joukerpan_framed) == 12, "joukerpan_framed: size");
+JOUKERPAN_ASSERT(offsetof(joukerpan_framed, coded) == 4, "joukerpan_framed: coded");
+JOUKERPAN_ASSERT(offsetof(joukerpan_framed, code) == 8, "joukerpan_framed: code");
 JOUKERPAN_ASSERT(sizeof(joukerpan_lines) == 260, "joukerpan_lines: size");
 JOUKERPAN_ASSERT(offsetof(joukerpan_lines, codes) == 4, "joukerpan_lines: codes");
 JOUKERPAN_ASSERT(sizeof(joukerpan_elected) == 1416, "joukerpan_elected: size");

@@ -52,7 +52,7 @@ static void put(office *of, size_t place, uint32_t e) {
 /* Settles an edit, its code with it. */
 static void settle(office *of, uint32_t e) {
     of->log[of->record.settled++] = e;
-    of->record.summary.codes[e / 65536 % 256] = e % 65536;
+    of->record.summary.codes[e / 65536 % 256] = e % 65536 + 1;
 }
 
 static uint32_t issue(office *of, uint32_t line, uint32_t code) {
@@ -113,6 +113,7 @@ static void rehearsal(void) {
     joukerpan_framed settled = joukerpan_settled_frame(of[2].record, of[2].log, WORDS, 5);
     joukerpan_framed tentative = joukerpan_tentative_frame(of[2].record, of[2].log, WORDS, 5);
     expect("settled frame", settled.number, JOUKERPAN_DONE);
+    expect("an edit is settled", settled.coded, true);
     expect("settled frame's code", settled.code, 120);
     expect("tentative frame", tentative.number, JOUKERPAN_DONE);
     expect("tentative frame's code", tentative.code, 120);
@@ -122,7 +123,7 @@ static void rehearsal(void) {
     joukerpan_framed first = joukerpan_tentative_frame(of[1].record, of[1].log, WORDS, 5);
     expect("office 1 sees its own edit", first.code, 130);
     first = joukerpan_settled_frame(of[1].record, of[1].log, WORDS, 5);
-    expect("which is not settled", first.code, 0);
+    expect("which is not settled", first.coded, false);
 }
 
 /* D, G, I, J, K and L of the paper's lettered cases. */
@@ -242,14 +243,15 @@ static void moves(void) {
     expect("issue", issue(&of[1], 5, 120), JOUKERPAN_UNSOUND);
 }
 
-/* Whether all lines in one call are these codes; each must be what the single call answers. */
+/* Whether all lines in one call are these, as they are stored; each must be what the single call answers. */
 static bool shows(const office *of, const uint32_t codes[JOUKERPAN_LINES]) {
     joukerpan_lines lines = joukerpan_all_lines(of->record, of->log, WORDS);
     expect("all lines", lines.number, JOUKERPAN_DONE);
     for (uint32_t line = 0; line < JOUKERPAN_LINES; line++) {
         joukerpan_framed framed = joukerpan_settled_frame(of->record, of->log, WORDS, line);
         expect("a single line", framed.number, JOUKERPAN_DONE);
-        expect("a line of all lines", lines.codes[line], framed.code);
+        expect("a line of all lines", lines.codes[line], framed.coded ? framed.code + 1 : 0);
+        expect("no code without an edit", framed.coded || framed.code == 0, true);
     }
     return memcmp(lines.codes, codes, sizeof lines.codes) == 0;
 }
@@ -257,13 +259,13 @@ static bool shows(const office *of, const uint32_t codes[JOUKERPAN_LINES]) {
 /* The settled frame whole, as edits, a move of weight, an election and a take leave it. */
 static void whole_frame(void) {
     static office of[2];
-    static const uint32_t none[JOUKERPAN_LINES], settled[JOUKERPAN_LINES] = {[0] = 1, [63] = 7};
+    static const uint32_t none[JOUKERPAN_LINES], settled[JOUKERPAN_LINES] = {[0] = 1, [63] = 8};
     const joukerpan_weights weights = {{60, 40}};
     uint8_t message[JOUKERPAN_MESSAGE];
     founded(&of[0], 0, weights, 2), founded(&of[1], 1, weights, 2);
     expect("the codes of a founding", shows(&of[0], none), true);
     expect("an edit", issue(&of[0], 63, 9999), JOUKERPAN_DONE);
-    expect("an edit", issue(&of[0], 0, 1), JOUKERPAN_DONE);
+    expect("an edit to code 0", issue(&of[0], 0, 0), JOUKERPAN_DONE);
     expect("line 63 once more", issue(&of[0], 63, 7), JOUKERPAN_DONE);
     expect("a move to office 1", issue(&of[0], JOUKERPAN_LINES + 1, 10), JOUKERPAN_DONE);
     expect("not settled, not shown", shows(&of[0], none), true);
@@ -423,6 +425,7 @@ static void unsound_records(void) {
     expect("settled frame", framed.number, JOUKERPAN_UNSOUND);
     framed = joukerpan_tentative_frame(x.record, x.log, WORDS, 64);
     expect("tentative frame", framed.number, JOUKERPAN_UNSOUND);
+    expect("no edit yet", framed.coded, false);
     expect("tentative frame's code", framed.code, 0);
 }
 
@@ -446,6 +449,7 @@ static void message_refusals(void) {
     expect("other weights", take(&y, message, send(&x, message, sizeof message)), JOUKERPAN_OTHER_OFFICES);
     joukerpan_framed framed = joukerpan_settled_frame(y.record, y.log, WORDS, 64);
     expect("settled frame of line 64", framed.number, JOUKERPAN_NO_ENTRY);
+    expect("no edit yet", framed.coded, false);
 }
 
 /* The longest message: settled length 992 and eight tails of 32. */
@@ -469,7 +473,7 @@ static void longest_message(void) {
     expect("a full log", y.record.settled, JOUKERPAN_LOG);
     uint32_t codes[JOUKERPAN_LINES];
     for (int line = 0; line < JOUKERPAN_LINES; line++) {
-        codes[line] = line < 32 ? 1 : 9999;
+        codes[line] = line < 32 ? 1 + 1 : 9999 + 1;
     }
     expect("its codes", shows(&y, codes), true);
 }

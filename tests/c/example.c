@@ -26,6 +26,8 @@ int main(void) {
     joukerpan_elected elected = joukerpan_elect(taken.record, log2, JOUKERPAN_LOG);
     office2 = elected.record;
     joukerpan_framed framed = joukerpan_settled_frame(office2, log2, JOUKERPAN_LOG, 5);
-    printf("settled %zu, line 5 is %u\n", elected.count, (unsigned)framed.code);
+    if (framed.coded) {
+        printf("settled %zu, line 5 is %u\n", elected.count, (unsigned)framed.code);
+    }
     return 0;
 }

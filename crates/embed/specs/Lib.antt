@@ -1,2 +1,3 @@
--- The definition that only `embed` has; the others are frame's.
+-- The definitions that only `embed` has; the others are frame's.
 pub mod Part
+pub mod Framed

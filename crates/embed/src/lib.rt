@@ -10,10 +10,12 @@ ghost use Rattle.frame.specs.Sending.{sendOf, sendBytes};
 ghost use Rattle.frame.specs.Taking.{takeOf, takeWords};
 ghost use Rattle.sheet.specs.Sheet.{sheetOf};
 ghost use Rattle.embed.specs.Part.{partOf};
+ghost use Rattle.embed.specs.Framed.{across};
 use frame::Record;
 use frame::electing::Elected;
 use frame::founding::Founded;
-use frame::frames::Framed;
+use frame::frames;
+use frame::frames::Edit;
 use frame::frames::Lines;
 use frame::issuing::Issued;
 use frame::sending::Sent;
@@ -31,6 +33,34 @@ pub struct Weights {
 pub struct Part {
     pub number: u32,
     pub length: usize,
+}
+
+// What a frame answers across C: an enum cannot cross, so a flag does, beside the code, which is 0 where there is no edit yet.
+#[repr(C)]
+pub struct Framed {
+    pub number: u32,
+    pub coded: bool,
+    pub code: u32,
+}
+
+// A frame's answer, across C.
+fn across(framed: frames::Framed) -> Framed
+    ensures { λ r. ⌜ r ≡ across framed ⌝ }
+{
+    let number = framed.number;
+    let edit = framed.edit;
+    match edit {
+        Edit::Code(code) => Framed {
+            number,
+            coded: true,
+            code,
+        },
+        Edit::NotYet => Framed {
+            number,
+            coded: false,
+            code: 0,
+        },
+    }
 }
 
 // A fresh record: an empty log and no ballots.
@@ -69,7 +99,7 @@ pub extern "C" fn joukerpan_settled(office: Record, log: &[u32]) -> Part
     Part { number, length }
 }
 
-// The settled codes of all 64 lines.
+// The settled codes of all 64 lines, as they are stored: 0 for no edit yet, else the code + 1.
 #[no_mangle]
 pub extern "C" fn joukerpan_all_lines(office: Record, log: &[u32]) -> Lines
     ensures { λ r. ⌜ r ≡ allLinesOf office (now (log .entry)) ⌝ }
@@ -80,17 +110,17 @@ pub extern "C" fn joukerpan_all_lines(office: Record, log: &[u32]) -> Lines
 // The code of the last entry for the line in the settled log.
 #[no_mangle]
 pub extern "C" fn joukerpan_settled_frame(office: Record, log: &[u32], line: u32) -> Framed
-    ensures { λ r. ⌜ r ≡ settledFrameOf office (now (log .entry)) line ⌝ }
+    ensures { λ r. ⌜ r ≡ across (settledFrameOf office (now (log .entry)) line) ⌝ }
 {
-    office.settled_frame(log, line)
+    across(office.settled_frame(log, line))
 }
 
 // The code of the last entry for the line in the own path.
 #[no_mangle]
 pub extern "C" fn joukerpan_tentative_frame(office: Record, log: &[u32], line: u32) -> Framed
-    ensures { λ r. ⌜ r ≡ tentativeFrameOf office (now (log .entry)) line ⌝ }
+    ensures { λ r. ⌜ r ≡ across (tentativeFrameOf office (now (log .entry)) line) ⌝ }
 {
-    office.tentative_frame(log, line)
+    across(office.tentative_frame(log, line))
 }
 
 // Election steps until no entry wins.

@@ -42,7 +42,8 @@ pub struct Ballot {
 pub struct Summary {
     /// Present weight of each office, by which elections count: the founding weights after the settled moves.
     pub present: [u16; OFFICES],
-    /// Settled code of each line: that of the last entry for it in the settled log, 0 where there is none.
+    /// Of each line 0 for no edit yet, else one more than its settled code: that of the last entry for it in the
+    /// settled log.
     pub codes: [u32; LINES as usize],
 }
 
@@ -108,7 +109,9 @@ pub struct Part {
 pub struct Framed {
     /// 0, or the refusal's number.
     pub number: u32,
-    /// The line's code; 0 where it has none, and where the call is refused.
+    /// Whether the line has an edit; false for no edit yet, and where the call is refused.
+    pub coded: bool,
+    /// Its code, of which 0 is one like another; 0 where it has no edit.
     pub code: u32,
 }
 
@@ -118,7 +121,7 @@ pub struct Framed {
 pub struct Lines {
     /// 0, or the refusal's number.
     pub number: u32,
-    /// Each line's code; 0 where it has none, and each 0 where the call is refused.
+    /// Of each line 0 for no edit yet, else its code + 1; each 0 where the call is refused.
     pub codes: [u32; LINES as usize],
 }
 
@@ -194,13 +197,13 @@ extern "C" {
     /// How many words at the front of the log are settled.
     pub fn joukerpan_settled(record: Record, log: *const u32, log_len: usize) -> Part;
 
-    /// The code of the last entry for each line in the settled log.
+    /// The code of the last entry for each line in the settled log, or no edit yet.
     pub fn joukerpan_all_lines(record: Record, log: *const u32, log_len: usize) -> Lines;
 
-    /// The code of the last entry for the line in the settled log.
+    /// The code of the last entry for the line in the settled log, or no edit yet.
     pub fn joukerpan_settled_frame(record: Record, log: *const u32, log_len: usize, line: u32) -> Framed;
 
-    /// The code of the last entry for the line in the own path.
+    /// The code of the last entry for the line in the own path, or no edit yet.
     pub fn joukerpan_tentative_frame(record: Record, log: *const u32, log_len: usize, line: u32) -> Framed;
 
     /// The record after election steps until no entry wins.
@@ -241,7 +244,7 @@ const _: () = {
     assert!(size_of::<Founded>() == 1408 && offset_of!(Founded, number) == 1400);
     assert!(size_of::<Issued>() == 1408 && offset_of!(Issued, number) == 1400);
     assert!(size_of::<Part>() == 16 && offset_of!(Part, length) == 8);
-    assert!(size_of::<Framed>() == 8 && offset_of!(Framed, code) == 4);
+    assert!(size_of::<Framed>() == 12 && offset_of!(Framed, coded) == 4 && offset_of!(Framed, code) == 8);
     assert!(size_of::<Lines>() == 260 && offset_of!(Lines, codes) == 4 && align_of::<Lines>() == 4);
     assert!(size_of::<Elected>() == 1416 && offset_of!(Elected, number) == 1400 && offset_of!(Elected, count) == 1408);
     assert!(size_of::<Sent>() == 16 && offset_of!(Sent, length) == 8);

@@ -12,6 +12,9 @@ fn main() -> Result<(), Refused> {
 
     office2.take(&message)?;
     let count = office2.elect();
-    println!("settled {count}, line 5 is {}", office2.settled_frame(5)?);
+    match office2.settled_frame(5)? {
+        Some(code) => println!("settled {count}, line 5 is {code}"),
+        None => println!("settled {count}, line 5 has no edit yet"),
+    }
     Ok(())
 }

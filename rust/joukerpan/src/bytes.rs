@@ -14,7 +14,7 @@ use crate::{Office, Unreadable};
 const MARK: [u8; 4] = *b"JKPN";
 
 /// The versions by name, version 1 first. The last one is written and read, the others are refused.
-pub(crate) const VERSIONS: [&str; 3] = ["fixed weights", "present weights", "settled codes"];
+pub(crate) const VERSIONS: [&str; 4] = ["fixed weights", "present weights", "settled codes", "uncoded lines"];
 
 /// The version that is written and read.
 pub(crate) const VERSION: u32 = VERSIONS.len() as u32;
@@ -111,8 +111,7 @@ impl Office {
     /// # Errors
     ///
     /// [`Unreadable`] for any other bytes. The check sum is against accidents: who can compute it can
-    /// write any sound office. An office that was stored before tails had parts, with more than 32 / n
-    /// entries of one office in a ballot, is [`Unreadable::Unsound`].
+    /// write any sound office.
     ///
     /// ```
     /// use joukerpan::{Office, Unreadable};
@@ -177,6 +176,13 @@ mod tests {
         sealed(2, &numbers)
     }
 
+    /// The bytes that version 3 wrote of the office: a line's code as it is, 0 for no edit yet too.
+    fn of_version_3() -> Vec<u8> {
+        let mut numbers = numbers(&office());
+        numbers[CODES..BALLOTS].iter_mut().for_each(|code| *code = code.saturating_sub(1));
+        sealed(3, &numbers)
+    }
+
     /// The numbers of the office's bytes, without mark, version and check sum.
     fn numbers(office: &Office) -> Vec<u32> {
         let bytes = office.to_bytes();
@@ -196,7 +202,7 @@ mod tests {
     /// Where this fails the layout has changed, and the version has to, too.
     #[test]
     fn a_version_is_one_layout() {
-        assert_eq!((VERSION, layout(&office().to_bytes())), (3, 0xACAA_5213));
+        assert_eq!((VERSION, layout(&office().to_bytes())), (4, 0));
     }
 
     #[test]
@@ -204,19 +210,20 @@ mod tests {
         let earlier = [
             (of_version_1(), 0xCA83_B039, "version 1 (fixed weights)"),
             (of_version_2(), 0xA8BB_308B, "version 2 (present weights)"),
+            (of_version_3(), 0xACAA_5213, "version 3 (settled codes)"),
         ];
         for (version, (bytes, wanted, name)) in (1..).zip(earlier) {
             assert_eq!(layout(&bytes), wanted);
             let refused = Office::from_bytes(&bytes).unwrap_err();
             assert_eq!(refused, Unreadable::OtherVersion(version));
-            let sentence = format!("no office read: the bytes are of {name}; read is version 3 (settled codes)");
+            let sentence = format!("no office read: the bytes are of {name}; read is version 4 (uncoded lines)");
             assert_eq!(refused.to_string(), sentence);
         }
     }
 
     #[test]
     fn other_versions_are_refused() {
-        for version in [0, 1, 2, VERSION + 1, u32::MAX] {
+        for version in [0, 1, 2, 3, VERSION + 1, u32::MAX] {
             let bytes = sealed(version, &numbers(&office()));
             assert_eq!(Office::from_bytes(&bytes), Err(Unreadable::OtherVersion(version)));
         }
@@ -230,7 +237,7 @@ mod tests {
             [(WEIGHTS, 65_536), (WEIGHTS, 41), (PRESENT, 65_536), (PRESENT, 41)],
             [(PRESENT + 1, 60), (PRESENT + 2, 0), (PRESENT + 3, 1), (PRESENT + 7, u32::MAX)],
             [(BALLOTS, 33), (BALLOTS + 1, 1), (SETTLED, 1 << 27), (SETTLED + 1, 0x0142_000B)],
-            [(CODES + 5, 0), (CODES + 5, 65_536 + 130), (CODES + 6, 7), (SETTLED, 0x0105_0083)],
+            [(CODES + 5, 0), (CODES + 5, 65_536 + 131), (CODES + 6, 8), (SETTLED, 0x0105_0083)],
         ];
         for (place, number) in changes.concat() {
             let mut numbers = numbers(&office());
@@ -240,7 +247,7 @@ mod tests {
     }
 
     #[test]
-    fn an_office_with_more_than_a_part_in_a_tail_is_no_longer_sound() {
+    fn an_office_with_more_than_a_part_in_a_tail_is_not_sound() {
         let with_tail = |length: usize| {
             let mut numbers = numbers(&office());
             let own = BALLOTS + 1 + TAIL;
@@ -250,7 +257,7 @@ mod tests {
         };
         assert_eq!(with_tail(10).unwrap().pending().len(), 10); // 32 / 3, rounded down
         for length in [11, TAIL] {
-            assert_eq!(with_tail(length), Err(Unreadable::Unsound)); // engines before read it
+            assert_eq!(with_tail(length), Err(Unreadable::Unsound));
         }
     }
 

@@ -17,14 +17,14 @@
 //! let mut here = Office::found(0, &weights)?;
 //! let mut there = Office::found(2, &weights)?;
 //!
-//! here.issue(5, 120)?;                          // line 5 is counted under 120
-//! assert_eq!(here.tentative_frame(5), Ok(120)); // seen at once by the supervisor
-//! assert_eq!(here.settled_frame(5), Ok(0));     // not yet by the tabulator
+//! here.issue(5, 120)?;                                // line 5 is counted under 120
+//! assert_eq!(here.tentative_frame(5), Ok(Some(120))); // seen at once by the supervisor
+//! assert_eq!(here.settled_frame(5), Ok(None));        // no edit yet for the tabulator
 //!
-//! there.take(&here.message())?;                 // office 2 hears of it and joins: 65 of 100
+//! there.take(&here.message())?;                       // office 2 hears of it and joins: 65 of 100
 //! assert_eq!(there.elect(), 1);
-//! assert_eq!(there.settled_frame(5), Ok(120));
-//! assert_eq!(there.frame()[5], 120);            // all 64 lines in one call
+//! assert_eq!(there.settled_frame(5), Ok(Some(120)));
+//! assert_eq!(there.frame()[5], Some(120));            // all 64 lines in one call
 //! # Ok::<(), Refused>(())
 //! ```
 //!

@@ -156,7 +156,7 @@ impl Office {
     ///
     /// office.take(&third.message())?;  // done, and the edit is lost
     /// assert_eq!(office.pending(), []);
-    /// assert_eq!((office.settled_frame(5), office.tentative_frame(5)), (Ok(0), Ok(0)));
+    /// assert_eq!((office.settled_frame(5), office.tentative_frame(5)), (Ok(None), Ok(None)));
     /// # Ok::<(), Refused>(())
     /// ```
     pub fn pending(&self) -> Vec<Entry> {
@@ -252,7 +252,8 @@ impl Office {
         &self.log[..part.length]
     }
 
-    /// The settled frame whole, a code for each of the 64 lines: what [`Office::settled_frame`] answers for it.
+    /// The settled frame whole, a code or `None` for each of the 64 lines: what [`Office::settled_frame`] answers
+    /// for it.
     ///
     /// The record holds these codes, and take and elect keep them true; the engine tests them against the log
     /// once, for all lines together. So a screen that shows every line asks this, and not 64 times for one.
@@ -262,45 +263,45 @@ impl Office {
     /// use joukerpan::{Office, Refused};
     ///
     /// let mut office = Office::found(0, &[1])?;
-    /// assert_eq!(office.frame(), [0; 64]);
+    /// assert_eq!(office.frame(), [None; 64]);
     /// office.issue(5, 120)?;
-    /// office.issue(63, 7)?;
+    /// office.issue(63, 0)?;
     /// office.elect();
     ///
     /// let frame = office.frame();
-    /// assert_eq!((frame[5], frame[6], frame[63]), (120, 0, 7));
+    /// assert_eq!((frame[5], frame[6], frame[63]), (Some(120), None, Some(0)));
     /// # Ok::<(), Refused>(())
     /// ```
-    pub fn frame(&self) -> [u32; LINES as usize] {
+    pub fn frame(&self) -> [Option<u32>; LINES as usize] {
         // SAFETY: the log names its words for as long as the call lasts; the engine only reads them.
         let lines = unsafe { engine::joukerpan_all_lines(self.record, self.log.as_ptr(), LOG) };
         debug_assert_eq!(lines.number, 0, "an office is sound");
-        lines.codes
+        lines.codes.map(|stored| stored.checked_sub(1)) // 0 is no edit yet
     }
 
-    /// The line's code in the settled frame, which the tabulator prints from; 0 if it has none.
-    /// [`Office::frame`] gives all lines at once.
+    /// The line's code in the settled frame, which the tabulator prints from; `None` for no edit yet. Code 0 is
+    /// a class like another. [`Office::frame`] gives all lines at once.
     ///
     /// # Errors
     ///
     /// [`Refused::NoEntry`] for a line above 63.
-    pub fn settled_frame(&self, line: u32) -> Result<u32, Refused> {
+    pub fn settled_frame(&self, line: u32) -> Result<Option<u32>, Refused> {
         // SAFETY: the log names its words for as long as the call lasts; the engine only reads them.
         let framed = unsafe { engine::joukerpan_settled_frame(self.record, self.log.as_ptr(), LOG, line) };
         Refused::check(framed.number)?;
-        Ok(framed.code)
+        Ok(framed.coded.then_some(framed.code))
     }
 
-    /// The line's code in the tentative frame, which the supervisor reads; 0 if it has none.
+    /// The line's code in the tentative frame, which the supervisor reads; `None` for no edit yet.
     ///
     /// # Errors
     ///
     /// [`Refused::NoEntry`] for a line above 63.
-    pub fn tentative_frame(&self, line: u32) -> Result<u32, Refused> {
+    pub fn tentative_frame(&self, line: u32) -> Result<Option<u32>, Refused> {
         // SAFETY: the log names its words for as long as the call lasts; the engine only reads them.
         let framed = unsafe { engine::joukerpan_tentative_frame(self.record, self.log.as_ptr(), LOG, line) };
         Refused::check(framed.number)?;
-        Ok(framed.code)
+        Ok(framed.coded.then_some(framed.code))
     }
 
     /// The household sheet: the weights of the households pooled under the settled codes of their lines, a

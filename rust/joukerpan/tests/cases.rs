@@ -19,7 +19,7 @@ fn office(own: usize, weights: &[u16], settled: &[Entry], ballots: &[(usize, &[E
     record.settled = settled.len();
     log[..settled.len()].copy_from_slice(&words(settled));
     for edit in settled {
-        record.summary.codes[usize::from(edit.line)] = edit.code.into();
+        record.summary.codes[usize::from(edit.line)] = u32::from(edit.code) + 1;
     }
     for &(place, tail) in ballots {
         let ballot = &mut record.ballots[place];
@@ -50,8 +50,8 @@ fn the_rehearsal() {
     assert_eq!(message.len(), 22);
     two.take(&message).unwrap();
     assert_eq!(two.elect(), 1);
-    assert_eq!((two.settled_frame(5), two.tentative_frame(5)), (Ok(120), Ok(120)));
-    assert_eq!((one.settled_frame(5), one.tentative_frame(5)), (Ok(0), Ok(130)));
+    assert_eq!((two.settled_frame(5), two.tentative_frame(5)), (Ok(Some(120)), Ok(Some(120))));
+    assert_eq!((one.settled_frame(5), one.tentative_frame(5)), (Ok(None), Ok(Some(130))));
 }
 
 #[test]
@@ -219,7 +219,7 @@ fn a_full_log() {
     office.issue(0, 1).unwrap();
     assert_eq!(office.issue(0, 2), Err(Refused::LogFull));
     assert_eq!(office.elect(), 1);
-    assert_eq!((office.settled().len(), office.settled_frame(0)), (LOG, Ok(1)));
+    assert_eq!((office.settled().len(), office.settled_frame(0)), (LOG, Ok(Some(1))));
     assert_eq!(office.issue(0, 2), Err(Refused::LogFull));
 }
 
@@ -260,13 +260,14 @@ fn messages_that_are_refused() {
 #[test]
 fn parts_that_are_not_sound() {
     let sound = office(1, &WEIGHTS, &[A], &[(1, &[D])]);
-    let breaks: [fn(&mut Record); 12] = [
+    let breaks: [fn(&mut Record); 13] = [
         |record| record.n = 9,
         |record| record.own = 3,
         |record| record.weights = [0; OFFICES],
         |record| record.summary.present[0] += 1,
         |record| record.summary.present.swap(0, 2),
         |record| record.summary.codes[5] -= 1,
+        |record| record.summary.codes[5] = 0,
         |record| record.summary.codes[63] = 1,
         |record| record.summary.codes.swap(5, 6),
         |record| record.settled = 2,
@@ -293,5 +294,5 @@ fn an_office_goes_to_another_thread() {
         office.issue(5, 120).unwrap();
         office
     });
-    assert_eq!(office.join().unwrap().tentative_frame(5), Ok(120));
+    assert_eq!(office.join().unwrap().tentative_frame(5), Ok(Some(120)));
 }

@@ -40,7 +40,7 @@ fn an_adopted_entry_is_not_an_own_edit() {
     let [mut zero, _, mut two] = offices();
     zero.issue(5, 120).unwrap();
     two.take(&zero.message()).unwrap();
-    assert_eq!(two.tentative_frame(5), Ok(120));
+    assert_eq!(two.tentative_frame(5), Ok(Some(120)));
     assert!(two.pending().is_empty());
     two.issue(6, 7).unwrap();
     assert_eq!(two.pending(), [Entry { office: 2, line: 6, code: 7 }]);
@@ -65,7 +65,7 @@ fn a_rival_on_another_line_takes_the_place() {
     zero.issue(6, 7).unwrap();
     assert!(hears(&mut two, &zero).is_empty());
     assert_eq!(hears(&mut one, &two), [Entry { office: 1, line: 5, code: 130 }, Entry { office: 1, line: 7, code: 1 }]);
-    assert_eq!(one.tentative_frame(5), Ok(0));
+    assert_eq!(one.tentative_frame(5), Ok(None));
 }
 
 #[test]
@@ -79,10 +79,10 @@ fn the_first_settles_and_the_second_is_lost() {
     one.issue(7, 1).unwrap(); // and so does office 1
     hears(&mut two, &zero);
     assert_eq!(hears(&mut one, &two), [Entry { office: 1, line: 7, code: 1 }]);
-    assert_eq!((one.settled_frame(5), one.settled_frame(7), one.tentative_frame(7)), (Ok(130), Ok(0), Ok(0)));
+    assert_eq!((one.settled_frame(5), one.settled_frame(7), one.tentative_frame(7)), (Ok(Some(130)), Ok(None), Ok(None)));
     one.issue(7, 1).unwrap(); // made again, now with office 0's edit in view
     assert!(hears(&mut two, &one).is_empty());
-    assert_eq!(two.settled_frame(7), Ok(1));
+    assert_eq!(two.settled_frame(7), Ok(Some(1)));
 }
 
 #[test]
@@ -93,7 +93,7 @@ fn an_edit_can_lose_in_the_own_offices_election() {
     two.issue(5, 140).unwrap();
     assert!(hears(&mut one, &two).is_empty());
     assert_eq!(hears(&mut one, &zero), [Entry { office: 1, line: 5, code: 130 }]);
-    assert_eq!((one.settled_frame(5), one.tentative_frame(5)), (Ok(120), Ok(120)));
+    assert_eq!((one.settled_frame(5), one.tentative_frame(5)), (Ok(Some(120)), Ok(Some(120))));
 }
 
 /// The words of the office's own path: the settled log, then its own ballot.

@@ -6,10 +6,10 @@ mod dice;
 use dice::Dice;
 use joukerpan::{Entry, EntryKind, Office, Refused, LINES, TAIL};
 
-type Frame = [u32; LINES as usize];
+type Frame = [Option<u32>; LINES as usize];
 
 const WEIGHTS: [u16; 3] = [40, 35, 25];
-const NONE: Frame = [0; LINES as usize];
+const NONE: Frame = [None; LINES as usize];
 
 /// The settled frame line by line.
 fn single_lines(office: &Office) -> Frame {
@@ -17,12 +17,12 @@ fn single_lines(office: &Office) -> Frame {
     NONE.map(|_| office.settled_frame(lines.next().unwrap()).unwrap())
 }
 
-/// The codes that a log gives, by the sentences of document 01 and request (ii).
+/// The codes that a log gives, by the sentences of document 01 and requests (ii) and (ix).
 fn codes_of(log: &[u32]) -> Frame {
     let mut codes = NONE;
     for entry in log.iter().map(|&word| Entry::from(word)) {
         if let EntryKind::Edit { line, code } = entry.kind() {
-            codes[usize::from(line)] = code.into();
+            codes[usize::from(line)] = Some(code.into());
         }
     }
     codes
@@ -33,14 +33,14 @@ fn frame(office: &Office) -> Frame {
     let frame = office.frame();
     assert_eq!(frame, single_lines(office));
     assert_eq!(frame, codes_of(office.settled()));
-    assert_eq!(frame, office.record().summary.codes);
+    assert_eq!(frame.map(|code| code.map_or(0, |code| code + 1)), office.record().summary.codes);
     frame
 }
 
 /// A frame with these codes alone.
 fn with(codes: &[(usize, u32)]) -> Frame {
     let mut frame = NONE;
-    codes.iter().for_each(|&(line, code)| frame[line] = code);
+    codes.iter().for_each(|&(line, code)| frame[line] = Some(code));
     frame
 }
 
@@ -50,10 +50,10 @@ fn edits_show_once_they_are_settled() {
     assert_eq!(frame(&zero), NONE);
     zero.issue(5, 120).unwrap();
     zero.issue(63, 9999).unwrap();
-    assert_eq!((frame(&zero), zero.tentative_frame(63)), (NONE, Ok(9999)));
+    assert_eq!((frame(&zero), zero.tentative_frame(63)), (NONE, Ok(Some(9999))));
 
     two.take(&zero.message()).unwrap();
-    assert_eq!((frame(&two), two.tentative_frame(63)), (NONE, Ok(9999))); // heard, not settled
+    assert_eq!((frame(&two), two.tentative_frame(63)), (NONE, Ok(Some(9999)))); // heard, not settled
     assert_eq!(two.elect(), 2);
     assert_eq!(frame(&two), with(&[(5, 120), (63, 9999)]));
 
@@ -66,16 +66,31 @@ fn edits_show_once_they_are_settled() {
 #[test]
 fn the_last_edit_of_a_line_counts() {
     let mut office = Office::found(0, &[1]).unwrap();
-    for (code, wanted) in [(120, 120), (9999, 9999), (1, 1), (0, 0), (256, 256)] {
+    for code in [120, 9999, 1, 0, 256, 0] {
         office.issue(0, code).unwrap();
         office.issue(1, 7).unwrap();
         assert_eq!(office.elect(), 2);
-        assert_eq!(frame(&office), with(&[(0, wanted), (1, 7)]));
+        assert_eq!(frame(&office), with(&[(0, code), (1, 7)]));
     }
     office.issue(0, 5).unwrap();
     office.issue(0, 6).unwrap();
     assert_eq!(office.elect(), 2);
     assert_eq!(frame(&office), with(&[(0, 6), (1, 7)]));
+}
+
+#[test]
+fn code_0_is_a_code_like_another() {
+    let mut office = Office::found(0, &[1]).unwrap();
+    assert_eq!((office.settled_frame(5), office.tentative_frame(5)), (Ok(None), Ok(None)));
+    office.issue(5, 0).unwrap();
+    assert_eq!((office.settled_frame(5), office.tentative_frame(5)), (Ok(None), Ok(Some(0))));
+    assert_eq!(office.elect(), 1);
+    assert_eq!((office.settled_frame(5), office.tentative_frame(5)), (Ok(Some(0)), Ok(Some(0))));
+    assert_eq!((frame(&office), office.tentative_frame(6)), (with(&[(5, 0)]), Ok(None)));
+
+    let (mut record, log) = office.into_parts();
+    record.summary.codes[5] = 0; // no edit yet, which is not what the log says
+    assert_eq!(Office::from_parts(record, log), Err(Refused::Unsound));
 }
 
 #[test]
@@ -87,7 +102,7 @@ fn a_move_sets_no_code() {
         for weight in [1, 5, 9999] {
             office.move_weight(to, weight).unwrap(); // it takes effect or it does not
             assert_eq!(office.elect(), 1);
-            assert_eq!(frame(&office), with(&[(0, 120)]));
+            assert_eq!((frame(&office), office.tentative_frame(to as u32 + 1)), (with(&[(0, 120)]), Ok(None)));
         }
     }
     let mut one = Office::found(1, &[60, 40]).unwrap();
@@ -102,9 +117,9 @@ fn every_line_of_a_full_log() {
         office.issue(place % LINES, place).unwrap();
         assert_eq!(office.elect(), 1);
     }
-    assert!((960..1024).eq(frame(&office)));
+    assert!((960..1024).map(Some).eq(frame(&office)));
     assert_eq!(office.issue(0, 1), Err(Refused::LogFull));
-    assert!((960..1024).eq(frame(&office)));
+    assert!((960..1024).map(Some).eq(frame(&office)));
     assert_eq!(frame(&Office::from_bytes(&office.to_bytes()).unwrap()), frame(&office));
 }
 

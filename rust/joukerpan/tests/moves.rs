@@ -58,7 +58,7 @@ fn an_office_hands_its_weight_on_before_it_closes() {
     two.move_weight(0, 25).unwrap();
     assert_eq!(two.pending(), [Entry { office: 2, line: 7, code: 300 }, a_move(2, 0, 25)]);
     assert_eq!(hears(&mut zero, &two), 2); // 65 above the unheard 35
-    assert_eq!((zero.present(), zero.settled_frame(7)), (&[65, 35, 0][..], Ok(300)));
+    assert_eq!((zero.present(), zero.settled_frame(7)), (&[65, 35, 0][..], Ok(Some(300))));
 
     assert_eq!(one.present(), WEIGHTS); // it has not heard
     hears(&mut one, &zero);
@@ -167,11 +167,12 @@ fn a_move_changes_no_frame() {
     let mut office = Office::found(0, &[1]).unwrap();
     office.issue(0, 120).unwrap();
     office.move_weight(0, 7).unwrap();
+    let frame: Vec<Option<u32>> = (0..LINES).map(|line| (line == 0).then_some(120)).collect();
     for _ in 0..2 {
-        assert_eq!((0..LINES).map(|line| office.tentative_frame(line).unwrap()).sum::<u32>(), 120);
+        assert_eq!((0..LINES).map(|line| office.tentative_frame(line).unwrap()).collect::<Vec<_>>(), frame);
         office.elect();
     }
-    assert_eq!((0..LINES).map(|line| office.settled_frame(line).unwrap()).sum::<u32>(), 120);
+    assert_eq!((0..LINES).map(|line| office.settled_frame(line).unwrap()).collect::<Vec<_>>(), frame);
 }
 
 #[test]

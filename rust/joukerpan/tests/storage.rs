@@ -28,7 +28,7 @@ fn an_older_state_makes_two_offices_settle_differently() {
     let mut two = Office::from_bytes(&backup).unwrap(); // the harm: it has forgotten its vote,
     assert_eq!(hears(&mut two, &one.message()), 1); // and votes for 130
     assert_eq!(hears(&mut zero, &sent), 1);
-    assert_eq!((zero.settled_frame(5), two.settled_frame(5)), (Ok(120), Ok(130)));
+    assert_eq!((zero.settled_frame(5), two.settled_frame(5)), (Ok(Some(120)), Ok(Some(130))));
 
     assert_eq!(zero.take(&two.message()), Err(Refused::OtherLog));
     assert_eq!(two.take(&zero.message()), Err(Refused::OtherLog));
@@ -41,7 +41,7 @@ fn two_copies_make_two_offices_settle_differently() {
     copy.take(&zero.message()).unwrap();
     other.take(&one.message()).unwrap();
     assert_eq!((hears(&mut zero, &copy.message()), hears(&mut one, &other.message())), (1, 1));
-    assert_eq!((zero.settled_frame(5), one.settled_frame(5)), (Ok(120), Ok(130)));
+    assert_eq!((zero.settled_frame(5), one.settled_frame(5)), (Ok(Some(120)), Ok(Some(130))));
 }
 
 #[test]
@@ -51,7 +51,7 @@ fn a_number_founded_again_makes_two_offices_settle_differently() {
     assert_eq!(hears(&mut zero, &two.message()), 1);
     let mut again = Office::found(2, &WEIGHTS).unwrap();
     assert_eq!(hears(&mut again, &one.message()), 1);
-    assert_eq!((zero.settled_frame(5), again.settled_frame(5)), (Ok(120), Ok(130)));
+    assert_eq!((zero.settled_frame(5), again.settled_frame(5)), (Ok(Some(120)), Ok(Some(130))));
 }
 
 #[test]
@@ -63,7 +63,7 @@ fn an_altered_message_makes_two_offices_settle_differently() {
     let code = message.len() - 3; // before the end mark
     message[code] ^= 1;
     assert_eq!(hears(&mut two, &message), 1);
-    assert_eq!((one.settled_frame(5), two.settled_frame(5)), (Ok(120), Ok(121)));
+    assert_eq!((one.settled_frame(5), two.settled_frame(5)), (Ok(Some(120)), Ok(Some(121))));
     assert_eq!(zero.take(&one.message()), Ok(()));
     assert_eq!(zero.take(&two.message()), Err(Refused::OtherLog));
 }
@@ -78,7 +78,7 @@ fn the_state_of_the_last_message_keeps_them_alike() {
     let mut two = Office::from_bytes(&stored).unwrap();
     assert_eq!(hears(&mut two, &one.message()), 1);
     assert_eq!(hears(&mut zero, &sent), 1);
-    assert_eq!((zero.settled_frame(5), two.settled_frame(5)), (Ok(120), Ok(120)));
+    assert_eq!((zero.settled_frame(5), two.settled_frame(5)), (Ok(Some(120)), Ok(Some(120))));
 }
 
 #[test]
@@ -90,7 +90,7 @@ fn a_call_that_was_neither_sent_nor_shown_may_be_forgotten() {
     let mut two = Office::from_bytes(&stored).unwrap();
     assert_eq!(hears(&mut two, &one.message()), 1);
     assert_eq!(hears(&mut one, &two.message()), 0);
-    assert_eq!((one.settled(), one.settled_frame(5)), (two.settled(), Ok(130)));
+    assert_eq!((one.settled(), one.settled_frame(5)), (two.settled(), Ok(Some(130))));
 }
 
 #[test]
@@ -118,7 +118,7 @@ fn an_office_that_has_handed_its_weight_on_may_fall_silent() {
     zero.issue(5, 120).unwrap();
     one.issue(5, 130).unwrap();
     assert_eq!(hears(&mut one, &zero.message()), 1); // 65 above 35, and nothing is unheard
-    assert_eq!((one.settled_frame(5), one.present()), (Ok(120), &[65, 35, 0][..]));
+    assert_eq!((one.settled_frame(5), one.present()), (Ok(Some(120)), &[65, 35, 0][..]));
 }
 
 #[test]
@@ -129,9 +129,9 @@ fn a_reader_takes_and_neither_elects_nor_sends() {
 
     let mut reader = Office::found(2, &WEIGHTS).unwrap(); // office 2's disk is lost
     reader.take(&one.message()).unwrap(); // an election here would settle 130
-    assert_eq!(reader.settled_frame(5), Ok(0));
+    assert_eq!(reader.settled_frame(5), Ok(None));
     reader.take(&zero.message()).unwrap();
-    assert_eq!((reader.settled(), reader.settled_frame(5)), (zero.settled(), Ok(120)));
+    assert_eq!((reader.settled(), reader.settled_frame(5)), (zero.settled(), Ok(Some(120))));
 }
 
 #[test]
