@@ -55,14 +55,14 @@ pub fn all_lines(record: &Record, log: &[u32]) -> (u32, Codes) {
     (answer.number, answer.codes)
 }
 
-pub fn settled_frame(record: &Record, log: &[u32], line: u32) -> (u32, u32) {
+pub fn settled_frame(record: &Record, log: &[u32], line: u32) -> (u32, Option<u32>) {
     let answer = unsafe { engine::joukerpan_settled_frame(to_engine(record), log.as_ptr(), log.len(), line) };
-    (answer.number, answer.code)
+    (answer.number, answer.coded.then_some(answer.code))
 }
 
-pub fn tentative_frame(record: &Record, log: &[u32], line: u32) -> (u32, u32) {
+pub fn tentative_frame(record: &Record, log: &[u32], line: u32) -> (u32, Option<u32>) {
     let answer = unsafe { engine::joukerpan_tentative_frame(to_engine(record), log.as_ptr(), log.len(), line) };
-    (answer.number, answer.code)
+    (answer.number, answer.coded.then_some(answer.code))
 }
 
 pub fn elect(record: &Record, log: &mut [u32]) -> (u32, usize, Record) {
