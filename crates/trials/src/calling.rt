@@ -5,6 +5,7 @@ use crate::book::SAID;
 use crate::digest;
 use crate::record;
 use frame::Record;
+use frame::frames::Edit;
 use lists::within;
 
 // Prints a space and a number.
@@ -54,14 +55,24 @@ fn settled(book: &Book, log: &[u32]) {
     print(part_digest(part));
 }
 
+// What a frame shows, as codes are stored: 0 for no edit yet, else the code + 1.
+fn stored(edit: Edit) -> u64 {
+    match edit {
+        Edit::Code(code) => code as u64 + 1,
+        Edit::NotYet => 0,
+    }
+}
+
 // `V line`
 fn frames(book: &Book, log: &[u32]) {
     let settled = record::of(book).settled_frame(log, word(book[SAID]));
     let tentative = record::of(book).tentative_frame(log, word(book[SAID]));
+    let now = settled.edit;
+    let soon = tentative.edit;
     print(settled.number as u64);
-    print(settled.code as u64);
+    print(stored(now));
     print(tentative.number as u64);
-    print(tentative.code as u64);
+    print(stored(soon));
 }
 
 // `A`
