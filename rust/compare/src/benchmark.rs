@@ -8,7 +8,7 @@ use joukerpan_sys as engine;
 use joukerpan_sys::Weights;
 use second::calls as plain;
 use second::message::LONGEST;
-use second::record::{entry, sound, Ballot, Record, LINES, LOG, OFFICES, TAIL};
+use second::record::{entry, sound, stored, Ballot, Record, LINES, LOG, OFFICES, TAIL};
 use second::samples::Sample;
 
 use crate::by_value;
@@ -279,7 +279,7 @@ fn all_lines_cases(of: State, cases: &mut Vec<Case>) {
         each_line(move |line| unsafe {
             engine::joukerpan_settled_frame(*black_box(&proved), a.as_ptr(), LOG, line).code
         }),
-        each_line(move |line| plain::settled_frame(black_box(&record), &b, line).1),
+        each_line(move |line| stored(plain::settled_frame(black_box(&record), &b, line).1)),
         each_line(move |line| unsafe { by_value::settled_frame(*black_box(&record), c.as_ptr(), LOG, line) }),
     );
 }

@@ -5,7 +5,7 @@ use std::slice::{from_raw_parts, from_raw_parts_mut};
 
 use joukerpan_sys::Weights;
 use second::calls as plain;
-use second::record::{Codes, Record};
+use second::record::{stored, Codes, Record};
 
 /// An answer that holds a record; the record comes first, as in the engine's.
 #[repr(C)]
@@ -54,12 +54,12 @@ pub unsafe extern "C" fn all_lines(record: Record, log: *const u32, words: usize
 
 #[inline(never)]
 pub unsafe extern "C" fn settled_frame(record: Record, log: *const u32, words: usize, line: u32) -> u32 {
-    plain::settled_frame(&record, from_raw_parts(log, words), line).1
+    stored(plain::settled_frame(&record, from_raw_parts(log, words), line).1)
 }
 
 #[inline(never)]
 pub unsafe extern "C" fn tentative_frame(record: Record, log: *const u32, words: usize, line: u32) -> u32 {
-    plain::tentative_frame(&record, from_raw_parts(log, words), line).1
+    stored(plain::tentative_frame(&record, from_raw_parts(log, words), line).1)
 }
 
 #[inline(never)]

@@ -42,7 +42,7 @@ pub fn settled<'a>(record: &Record, log: &'a [u32]) -> (u32, &'a [u32]) {
     (DONE, &log[..record.settled])
 }
 
-/// The code of the last entry for each line in the settled log.
+/// The stored code of the last entry for each line in the settled log.
 pub fn settled_codes(record: &Record, log: &[u32]) -> (u32, Codes) {
     if !sound(record, log) {
         return (UNSOUND, Record::ZERO.codes);
@@ -50,24 +50,24 @@ pub fn settled_codes(record: &Record, log: &[u32]) -> (u32, Codes) {
     (DONE, record.codes)
 }
 
-/// The code of the last entry for the line in the settled log.
-pub fn settled_frame(record: &Record, log: &[u32], line: u32) -> (u32, u32) {
+/// The code of the last entry for the line in the settled log; nothing for no edit yet.
+pub fn settled_frame(record: &Record, log: &[u32], line: u32) -> (u32, Option<u32>) {
     if !sound(record, log) {
-        return (UNSOUND, 0);
+        return (UNSOUND, None);
     }
     if line >= LINES {
-        return (NO_ENTRY, 0);
+        return (NO_ENTRY, None);
     }
-    (DONE, record.codes[line as usize])
+    (DONE, coded(record.codes[line as usize]))
 }
 
-/// The code of the last entry for the line in the own path.
-pub fn tentative_frame(record: &Record, log: &[u32], line: u32) -> (u32, u32) {
+/// The code of the last entry for the line in the own path; nothing for no edit yet.
+pub fn tentative_frame(record: &Record, log: &[u32], line: u32) -> (u32, Option<u32>) {
     let (number, settled) = settled_frame(record, log, line);
     if number != DONE {
-        return (number, 0);
+        return (number, None);
     }
-    (DONE, last_code(record.ballots[record.own].tail(), line).unwrap_or(settled))
+    (DONE, last_code(record.ballots[record.own].tail(), line).or(settled))
 }
 
 /// The code of the last of the entries for the line, if there is one.

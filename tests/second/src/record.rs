@@ -49,7 +49,7 @@ pub struct Ballot {
     pub cells: [u32; TAIL],
 }
 
-/// A code for each line of the frame.
+/// A stored code for each line of the frame: 0 for no edit yet, one more than the code otherwise.
 pub type Codes = [u32; LINES as usize];
 
 /// What one office knows, apart from its log.
@@ -64,7 +64,7 @@ pub struct Record {
     pub weights: [u16; OFFICES],
     /// Weight of each office after the moves of the settled log.
     pub present: [u16; OFFICES],
-    /// Code of the last entry for each line in the settled log, 0 where there is none.
+    /// Stored code of the last entry for each line in the settled log.
     pub codes: Codes,
     /// Settled words of the log.
     pub settled: usize,
@@ -167,10 +167,20 @@ pub(crate) fn weights_after(mut weights: [u16; OFFICES], entries: &[u32]) -> [u1
     weights
 }
 
+/// How a code is stored, or that there is no edit yet.
+pub fn stored(code: Option<u32>) -> u32 {
+    code.map_or(0, |code| code + 1)
+}
+
+/// The code that is stored as this number; nothing for no edit yet.
+pub fn coded(number: u32) -> Option<u32> {
+    number.checked_sub(1)
+}
+
 /// Stores the code of an entry that is settled; a move has none.
 pub(crate) fn set_code(codes: &mut Codes, word: u32) {
     if let Some(code) = codes.get_mut(line_of(word) as usize) {
-        *code = code_of(word);
+        *code = stored(Some(code_of(word)));
     }
 }
 
@@ -179,7 +189,7 @@ pub(crate) fn codes_after(codes: &Codes, entries: &[u32]) -> Codes {
     let mut places = [0; 256];
     places[..codes.len()].copy_from_slice(codes);
     for &word in entries {
-        places[line_of(word) as usize] = code_of(word);
+        places[line_of(word) as usize] = stored(Some(code_of(word)));
     }
     std::array::from_fn(|line| places[line])
 }

@@ -50,26 +50,26 @@ impl Command {
     }
 }
 
-/// What a line prints: its letter, the number given, and up to two values.
+/// What a line prints: its letter, the number given, and up to two values, some of which may be missing.
 #[derive(Clone, Copy, Debug, PartialEq, Eq)]
 pub struct Answer {
     /// The command's letter.
     pub letter: u8,
     /// The number given.
     pub number: u32,
-    values: [usize; 2],
+    values: [Option<usize>; 2],
     count: usize,
 }
 
 impl Answer {
-    fn new(letter: u8, number: u32, values: &[usize]) -> Answer {
-        let mut answer = Answer { letter, number, values: [0; 2], count: values.len() };
+    fn new(letter: u8, number: u32, values: &[Option<usize>]) -> Answer {
+        let mut answer = Answer { letter, number, values: [None; 2], count: values.len() };
         answer.values[..values.len()].copy_from_slice(values);
         answer
     }
 
     /// The values after the number.
-    pub fn values(&self) -> &[usize] {
+    pub fn values(&self) -> &[Option<usize>] {
         &self.values[..self.count]
     }
 }
@@ -126,13 +126,13 @@ impl World {
                 let office = self.offices.get_mut(k)?;
                 let (number, count, record) = elect(office.record, &mut office.log);
                 office.record = record;
-                Some(Answer::new(b'e', number, &[count]))
+                Some(Answer::new(b'e', number, &[Some(count)]))
             }
             Command::View(k, line) => {
                 let office = self.offices.get(k)?;
                 let (number, settled) = settled_frame(&office.record, &office.log, line);
                 let (_, tentative) = tentative_frame(&office.record, &office.log, line);
-                Some(Answer::new(b'v', number, &[settled as usize, tentative as usize]))
+                Some(Answer::new(b'v', number, &[settled, tentative].map(|code| code.map(|code| code as usize))))
             }
         }
     }
@@ -155,7 +155,7 @@ impl World {
         if number == DONE {
             slot.length = length;
         }
-        Some(Answer::new(b's', number, &[length]))
+        Some(Answer::new(b's', number, &[Some(length)]))
     }
 
     /// Appends to the output what a line prints.
@@ -167,7 +167,10 @@ impl World {
         output.push(answer.letter);
         push_number(output, u64::from(answer.number));
         for &value in answer.values() {
-            push_number(output, value as u64);
+            match value {
+                Some(value) => push_number(output, value as u64),
+                None => output.extend_from_slice(b" -"),
+            }
         }
         output.push(b'\n');
     }

@@ -271,7 +271,7 @@ fn break_codes(random: &mut Random, record: &mut Record) {
     let lines = record.codes.len();
     let (line, other) = (random.pick(&[0, 1, 5, 62, 63]), random.below(lines));
     match random.below(4) {
-        0 => record.codes[line] = random.pick(&[0, 1, 120, 9999, 10_000, u32::MAX]),
+        0 => record.codes[line] = random.pick(&[0, 0, 1, 1, 120, 121, 10_000, u32::MAX]),
         1 | 2 => record.codes[other] = record.codes[other].wrapping_add(random.pick(&[1, 256, 65_536, u32::MAX])),
         _ => record.codes.swap(line, other),
     }

@@ -2,7 +2,7 @@
 
 use std::collections::BTreeMap;
 
-use crate::record::{sound, Record, DONE, LINES, NO_HOUSEHOLDS, UNSOUND};
+use crate::record::{coded, sound, Record, DONE, LINES, NO_HOUSEHOLDS, UNSOUND};
 
 /// Most households that are read.
 pub const HOUSEHOLDS: usize = 1_000_000;
@@ -15,13 +15,14 @@ const MARK: [u8; 2] = [0x48, 0x52];
 /// A line of the sheet.
 #[derive(Clone, Copy, Debug, PartialEq, Eq)]
 pub struct Row {
-    /// The code.
-    pub class: u32,
-    /// The weight of the households under that code.
+    /// The code; nothing for households under lines with no edit yet.
+    pub class: Option<u32>,
+    /// The weight of the households of that class.
     pub total: u64,
 }
 
-/// The sheet of the households in the bytes: classes rising, only those met; empty if it is refused.
+/// The sheet of the households in the bytes: those under lines with no edit yet first, then classes rising, only those
+/// met; empty if it is refused.
 pub fn sheet(record: &Record, log: &[u32], households: &[u8]) -> (u32, Vec<Row>) {
     if !sound(record, log) {
         return (UNSOUND, vec![]);
@@ -30,8 +31,8 @@ pub fn sheet(record: &Record, log: &[u32], households: &[u8]) -> (u32, Vec<Row>)
         return (NO_HOUSEHOLDS, vec![]);
     };
     let mut totals = BTreeMap::new();
-    for (&class, total) in record.codes.iter().zip(lines).filter_map(|(class, total)| Some((class, total?))) {
-        *totals.entry(class).or_insert(0) += total;
+    for (&number, total) in record.codes.iter().zip(lines).filter_map(|(number, total)| Some((number, total?))) {
+        *totals.entry(coded(number)).or_insert(0) += total;
     }
     (DONE, totals.into_iter().map(|(class, total)| Row { class, total }).collect())
 }

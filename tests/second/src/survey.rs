@@ -55,6 +55,11 @@ impl Survey {
             let record = self.world.offices[k].record;
             self.count_issue(&record, answer.number);
         }
+        if answer.letter == b'v' {
+            for (name, code) in [("code that is 0 viewed", Some(0)), ("line with no edit yet viewed", None)] {
+                self.add(name, answer.values().iter().filter(|&&value| value == code).count());
+            }
+        }
         if answer.number != DONE {
             return;
         }

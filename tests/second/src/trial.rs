@@ -6,7 +6,7 @@ use crate::calls::{found, issue, settled, settled_codes, settled_frame, tentativ
 use crate::elect::elect;
 use crate::lines::{each_line, letter_and_numbers};
 use crate::message::send;
-use crate::record::{sound, Ballot, Record, OFFICES, TAIL};
+use crate::record::{sound, stored, Ballot, Record, OFFICES, TAIL};
 use crate::rehearsal::push_number;
 use crate::sheet::sheet;
 use crate::take::take;
@@ -196,11 +196,11 @@ impl State {
         Some(vec![number.into()])
     }
 
-    /// Both frames: number and code of each.
+    /// Both frames: number and stored code of each.
     fn view(&self, line: u32) -> Vec<u64> {
         let (number, code) = settled_frame(&self.record, &self.log, line);
         let (second, tentative) = tentative_frame(&self.record, &self.log, line);
-        vec![number.into(), code.into(), second.into(), tentative.into()]
+        vec![number.into(), stored(code).into(), second.into(), stored(tentative).into()]
     }
 
     /// The number of the sheet of the households in the message, its rows, and the digest of their classes and totals.
@@ -208,7 +208,7 @@ impl State {
         let (number, rows) = sheet(&self.record, &self.log, &self.message);
         let mut digest = Digest::default();
         for row in &rows {
-            digest.add(row.class.into());
+            digest.add(stored(row.class).into());
             digest.add(row.total);
         }
         vec![number.into(), rows.len() as u64, digest.0]

@@ -56,7 +56,8 @@ fn unsound() -> Vec<Record> {
     broken(&|r| r.present[0] = 41);
     broken(&|r| r.present[3] = 1);
     broken(&|r| r.weights[0] = 41);
-    broken(&|r| r.codes[5] = 120);
+    broken(&|r| r.codes[5] = 121);
+    broken(&|r| r.codes[5] = 130);
     broken(&|r| r.codes[5] = 0);
     broken(&|r| r.codes[0] = 1);
     broken(&|r| r.codes[63] = u32::MAX);
@@ -97,8 +98,8 @@ fn unsound_records_are_refused_by_every_call() {
         assert_eq!(issue(bad, &log, 64, 0), (UNSOUND, bad));
         assert_eq!(settled(&bad, &log), (UNSOUND, &[][..]));
         assert_eq!(settled_codes(&bad, &log), (UNSOUND, [0; 64]));
-        assert_eq!(settled_frame(&bad, &log, 64), (UNSOUND, 0));
-        assert_eq!(tentative_frame(&bad, &log, 5), (UNSOUND, 0));
+        assert_eq!(settled_frame(&bad, &log, 64), (UNSOUND, None));
+        assert_eq!(tentative_frame(&bad, &log, 5), (UNSOUND, None));
         assert_eq!(elect(bad, &mut log), (UNSOUND, 0, bad));
         assert_eq!(elect_step(bad, &mut log), (UNSOUND, 0, bad));
         assert_eq!(send(&bad, &log, &mut output), (UNSOUND, 0));
@@ -181,13 +182,13 @@ fn frames() {
     let settled_log = log(&[A, B, C]);
     let office = record(1, &WEIGHTS, &[A, B, C], &[(0, &[D]), (1, &[entry(1, 6, 1), entry(1, 6, 2), entry(0, 63, 0)])]);
     assert_eq!(settled(&office, &settled_log), (DONE, &[A, B, C][..]));
-    for (line, now, soon) in [(5, 140, 140), (6, 0, 2), (63, 0, 0), (0, 0, 0)] {
+    for (line, now, soon) in [(5, Some(140), Some(140)), (6, None, Some(2)), (63, None, Some(0)), (0, None, None)] {
         assert_eq!(settled_frame(&office, &settled_log, line), (DONE, now));
         assert_eq!(tentative_frame(&office, &settled_log, line), (DONE, soon));
     }
     for line in [64, 256 + 5, u32::MAX] {
-        assert_eq!(settled_frame(&office, &settled_log, line), (NO_ENTRY, 0));
-        assert_eq!(tentative_frame(&office, &settled_log, line), (NO_ENTRY, 0));
+        assert_eq!(settled_frame(&office, &settled_log, line), (NO_ENTRY, None));
+        assert_eq!(tentative_frame(&office, &settled_log, line), (NO_ENTRY, None));
     }
 }
 

@@ -1,4 +1,4 @@
-//! The settled frame kept ready: document 02's request (ii), worked by hand.
+//! The settled frame kept ready, and lines with no edit yet: document 02's requests (ii) and (ix), worked by hand.
 
 mod common;
 
@@ -7,10 +7,10 @@ use second::calls::*;
 use second::elect::elect;
 use second::record::*;
 
-/// Codes of the lines given, 0 for all others.
+/// The stored codes of the lines given, no edit yet for all others.
 fn codes(given: &[(usize, u32)]) -> Codes {
     let mut codes = [0; 64];
-    given.iter().for_each(|&(line, code)| codes[line] = code);
+    given.iter().for_each(|&(line, code)| codes[line] = code + 1);
     codes
 }
 
@@ -34,7 +34,8 @@ fn the_last_entry_for_a_line_gives_its_code() {
         (&[A], &[(5, 120)]),
         (&[A, B], &[(5, 130)]),
         (&[B, A, D], &[(5, 120), (6, 7)]),
-        (&[A, entry(1, 5, 0)], &[]),
+        (&[A, entry(1, 5, 0)], &[(5, 0)]),
+        (&[entry(0, 0, 0), entry(2, 63, 0)], &[(0, 0), (63, 0)]),
         (&[entry(0, 0, 1), entry(2, 63, 9999)], &[(0, 1), (63, 9999)]),
         (&[entry(0, 0, 1), entry(0, 64, 9), entry(1, 66, 9999)], &[(0, 1)]),
     ] {
@@ -42,7 +43,9 @@ fn the_last_entry_for_a_line_gives_its_code() {
         assert!(sound(&office, &log(settled)), "{settled:?}");
         assert_eq!(settled_codes(&office, &log(settled)), (DONE, codes(given)));
         for line in 0..64 {
-            assert_eq!(settled_frame(&office, &log(settled), line), (DONE, office.codes[line as usize]));
+            let code = given.iter().find(|&&(known, _)| known == line as usize).map(|&(_, code)| code);
+            assert_eq!(settled_frame(&office, &log(settled), line), (DONE, code));
+            assert_eq!(tentative_frame(&office, &log(settled), line), (DONE, code));
         }
     }
 }
@@ -53,7 +56,7 @@ fn other_codes_are_unsound() {
     let good = stored(1, &settled, &[(5, 130), (6, 7)]);
     assert!(sound(&good, &log(&settled)));
     for line in 0..64 {
-        for code in [1, 9, 120, 9999, u32::MAX] {
+        for code in [1, 9, 10, 120, 121, 130, 10_000, u32::MAX] {
             let mut bad = good;
             bad.codes[line] = code;
             assert!(!sound(&bad, &log(&settled)), "{line} {code}");
@@ -77,7 +80,7 @@ fn elections_store_codes() {
     assert_eq!((number, count, after.codes), (DONE, 6, codes(&[(0, 5), (5, 3), (6, 7), (63, 1)])));
     // An edit back to 0.
     let (_, count, after) = elect(record(0, &[1, 1], &tail[..6], &[(0, &tail[6..]), (1, &tail[6..])]), &mut kept);
-    assert_eq!((count, after.codes), (1, codes(&[(0, 5), (5, 3), (6, 7)])));
+    assert_eq!((count, after.codes), (1, codes(&[(0, 5), (5, 3), (6, 7), (63, 0)])));
     // What loses has no code, and what is tentative has none.
     let (_, count, after) = elect(record(0, &WEIGHTS, &[], &[(0, &[A, D]), (1, &[B]), (2, &[C])]), &mut log(&[]));
     assert_eq!((count, after.codes), (1, codes(&[(5, 120)])));
@@ -86,7 +89,7 @@ fn elections_store_codes() {
 #[test]
 fn takes_store_codes() {
     let theirs = [A, B, D, entry(2, 7, 70), entry(0, 65, 9), entry(1, 6, 0)];
-    let sender = Record { present: [31, 44, 25, 0, 0, 0, 0, 0], ..stored(0, &theirs, &[(5, 130), (7, 70)]) };
+    let sender = Record { present: [31, 44, 25, 0, 0, 0, 0, 0], ..stored(0, &theirs, &[(5, 130), (6, 0), (7, 70)]) };
     let sent = message(&sender, &log(&theirs));
     for (ours, given) in [(0, &[][..]), (1, &[(5, 120)]), (3, &[(5, 130), (6, 7)]), (4, &[(5, 130), (6, 7), (7, 70)])] {
         let before = stored(1, &theirs[..ours], given);
@@ -106,11 +109,16 @@ fn issue_and_send_leave_the_codes() {
     let before = stored(1, &[A, B], &[(5, 130)]);
     let (number, after) = issue(before, &log(&[A, B]), 5, 77);
     assert_eq!((number, after.codes), (DONE, before.codes));
-    assert_eq!(tentative_frame(&after, &log(&[A, B]), 5), (DONE, 77));
-    assert_eq!(settled_frame(&after, &log(&[A, B]), 5), (DONE, 130));
+    assert_eq!(tentative_frame(&after, &log(&[A, B]), 5), (DONE, Some(77)));
+    assert_eq!(settled_frame(&after, &log(&[A, B]), 5), (DONE, Some(130)));
     assert_eq!(settled_codes(&after, &log(&[A, B])), (DONE, codes(&[(5, 130)])));
     // The frame of the own path: the tail's last entry, else the stored code.
     let (_, after) = issue(after, &log(&[A, B]), 5, 0);
-    assert_eq!(tentative_frame(&after, &log(&[A, B]), 5), (DONE, 0));
-    assert_eq!(tentative_frame(&before, &log(&[A, B]), 5), (DONE, 130));
+    assert_eq!(tentative_frame(&after, &log(&[A, B]), 5), (DONE, Some(0)));
+    assert_eq!(tentative_frame(&before, &log(&[A, B]), 5), (DONE, Some(130)));
+    // No edit yet, then a real 0 that is not settled.
+    assert_eq!(tentative_frame(&before, &log(&[A, B]), 6), (DONE, None));
+    let (_, after) = issue(before, &log(&[A, B]), 6, 0);
+    assert_eq!(tentative_frame(&after, &log(&[A, B]), 6), (DONE, Some(0)));
+    assert_eq!(settled_frame(&after, &log(&[A, B]), 6), (DONE, None));
 }

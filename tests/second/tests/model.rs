@@ -126,8 +126,8 @@ impl Lists {
         }
     }
 
-    fn frames(&self, line: u32) -> (u32, u32) {
-        let last = |path: Path| path.iter().rfind(|&&e| e / 65536 % 256 == line).map_or(0, |e| e % 65536);
+    fn frames(&self, line: u32) -> (Option<u32>, Option<u32>) {
+        let last = |path: Path| path.iter().rfind(|&&e| e / 65536 % 256 == line).map(|e| e % 65536);
         (last(self.log.clone()), last(self.path(self.own)))
     }
 
@@ -163,6 +163,14 @@ fn places_from_the_end(theirs: &[u32], ours: &[u32]) -> usize {
         }
     }
     places
+}
+
+/// How the paper's code is stored: 0 for no edit yet, one more than the code otherwise.
+fn stored(code: Option<u32>) -> u32 {
+    match code {
+        None => 0,
+        Some(code) => code + 1,
+    }
 }
 
 /// Whether all the words past the settled log are as they were.
@@ -232,7 +240,7 @@ fn issues_and_frames_are_what_the_paper_says() {
         assert_eq!(settled_frame(record, log, line), (0, frames.0));
         assert_eq!(tentative_frame(record, log, line), (0, frames.1));
         assert_eq!(settled(record, log), (0, &model.log[..]));
-        assert_eq!(settled_codes(record, log), (0, std::array::from_fn(|line| model.frames(line as u32).0)));
+        assert_eq!(settled_codes(record, log), (0, std::array::from_fn(|line| stored(model.frames(line as u32).0))));
         let (number, after) = issue(*record, log, edited, code);
         let length = model.tails[own].len();
         let part = issued_by(own as u32, &model.tails[own]) == 32 / record.n;
@@ -283,7 +291,8 @@ fn sound_by_sentences(sample: &Sample) -> bool {
         let office = lists(sample);
         let mut expected = office.present();
         expected.resize(8, 0);
-        expected == present.map(u64::from) && (0..64).all(|line| codes[line as usize] == office.frames(line).0)
+        let stored = |line: u32| stored(office.frames(line).0);
+        expected == present.map(u64::from) && (0..64).all(|line| codes[line as usize] == stored(line))
     };
     good && follow()
 }

@@ -194,13 +194,13 @@ fn moves_change_no_code() {
     let settled = log(&[A, move_entry(0, 0, 7), move_entry(1, 2, 9)]);
     let office = moved(1, &WEIGHTS, &[40, 26, 34], &settled[..3], &[(1, &[move_entry(1, 0, 8)])]);
     for line in 0..64 {
-        let code = if line == 5 { 120 } else { 0 };
+        let code = (line == 5).then_some(120);
         assert_eq!(settled_frame(&office, &settled, line), (DONE, code));
         assert_eq!(tentative_frame(&office, &settled, line), (DONE, code));
     }
     for line in [64, 65, 66, 67] {
-        assert_eq!(settled_frame(&office, &settled, line), (NO_ENTRY, 0));
-        assert_eq!(tentative_frame(&office, &settled, line), (NO_ENTRY, 0));
+        assert_eq!(settled_frame(&office, &settled, line), (NO_ENTRY, None));
+        assert_eq!(tentative_frame(&office, &settled, line), (NO_ENTRY, None));
     }
 }
 

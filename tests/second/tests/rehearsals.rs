@@ -65,11 +65,11 @@ fn places_and_slots() {
     assert_eq!(rehearsed(before.as_bytes()), "?\n?\n?\n?\n?\nf 2\n?\n");
     let input =
         "f 2 1 1\nt 0 0\nt 0 3\nt 0 4\nt 2 0\ni 2 1 1\ni 1 66 1\ni 1 1 10000\ns 1 3\nt 0 3\nt 1 3\nv 1 64\nv 1 9\n";
-    let output = "f 0\nt 7\nt 7\n?\n?\n?\ni 3\ni 3\ns 0 12\nt 0\nt 9\nv 3 0 0\nv 0 0 0\n";
+    let output = "f 0\nt 7\nt 7\n?\n?\n?\ni 3\ni 3\ns 0 12\nt 0\nt 9\nv 3 - -\nv 0 - -\n";
     assert_eq!(rehearsed(input.as_bytes()), output);
     // A refused founding keeps offices and slots; a done one empties the slots.
     let input = "f 2 1 1\ni 0 1 7\ns 0 0\nf 2\nv 0 1\nt 1 0\nf 2 1 1\nv 0 1\nt 1 0\n";
-    assert_eq!(rehearsed(input.as_bytes()), "f 0\ni 0\ns 0 20\nf 2\nv 0 0 7\nt 0\nf 0\nv 0 0 0\nt 7\n");
+    assert_eq!(rehearsed(input.as_bytes()), "f 0\ni 0\ns 0 20\nf 2\nv 0 - 7\nt 0\nf 0\nv 0 - -\nt 7\n");
 }
 
 /// The entries of an office's own path.
@@ -178,6 +178,8 @@ fn fixed_seeds_show_all_that_a_rehearsal_can() {
         "answer e 0",
         "answer v 0",
         "answer v 3",
+        "code that is 0 viewed",
+        "line with no edit yet viewed",
         "issue at a full log with a full part",
         "issue behind another office's full part",
         "every part full among 1",

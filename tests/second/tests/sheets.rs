@@ -14,7 +14,7 @@ fn bytes(households: &[(u8, u32)]) -> Vec<u8> {
 }
 
 /// The sheet over this settled log, classes and totals.
-fn given(settled: &[u32], households: &[u8]) -> (u32, Vec<(u32, u64)>) {
+fn given(settled: &[u32], households: &[u8]) -> (u32, Vec<(Option<u32>, u64)>) {
     let office = record(1, &WEIGHTS, settled, &[(1, &[entry(1, 5, 9), entry(1, 6, 9)])]);
     let (number, rows) = sheet(&office, &log(settled), households);
     (number, rows.into_iter().map(|Row { class, total }| (class, total)).collect())
@@ -27,14 +27,18 @@ fn the_layout() {
 
 #[test]
 fn weights_are_pooled_under_the_settled_code() {
-    let settled = [A, D, entry(1, 7, 120), entry(2, 63, 9999)];
+    let settled = [A, D, entry(1, 7, 120), entry(2, 63, 9999), entry(1, 8, 0), entry(2, 9, 0), entry(2, 9, 7)];
     for (households, rows) in [
         (&[][..], &[][..]),
-        (&[(5, 1)], &[(120, 1)]),
-        (&[(5, 0)], &[(120, 0)]),
-        (&[(5, 1), (7, 2), (5, 3)], &[(120, 6)]),
-        (&[(63, 1), (5, 2), (6, 3)], &[(7, 3), (120, 2), (9999, 1)]),
-        (&[(5, u32::MAX), (7, u32::MAX), (5, 1)], &[(120, 0x1_FFFF_FFFF)]),
+        (&[(5, 1)], &[(Some(120), 1)]),
+        (&[(5, 0)], &[(Some(120), 0)]),
+        (&[(5, 1), (7, 2), (5, 3)], &[(Some(120), 6)]),
+        (&[(63, 1), (5, 2), (6, 3)], &[(Some(7), 3), (Some(120), 2), (Some(9999), 1)]),
+        (&[(5, u32::MAX), (7, u32::MAX), (5, 1)], &[(Some(120), 0x1_FFFF_FFFF)]),
+        // Uncoded first, if there are any, and apart from class 0.
+        (&[(0, 0)], &[(None, 0)]),
+        (&[(8, 5), (9, 4)], &[(Some(0), 5), (Some(7), 4)]),
+        (&[(8, 5), (0, 3), (62, 1), (6, 2), (9, 4)], &[(None, 4), (Some(0), 5), (Some(7), 6)]),
     ] {
         assert_eq!(given(&settled, &bytes(households)), (DONE, rows.to_vec()));
     }
@@ -62,7 +66,7 @@ fn what_is_refused() {
 #[test]
 fn a_million_households_and_one_more() {
     let mut all = household(5, u32::MAX).repeat(HOUSEHOLDS);
-    assert_eq!(given(&[A], &all), (DONE, vec![(120, 1_000_000 * 0xFFFF_FFFF)]));
+    assert_eq!(given(&[A], &all), (DONE, vec![(Some(120), 1_000_000 * 0xFFFF_FFFF)]));
     all.extend(household(5, 0));
     assert_eq!(given(&[A], &all), (NO_HOUSEHOLDS, vec![]));
 }
@@ -99,12 +103,13 @@ fn sheets_are_what_the_request_says() {
         done += 1;
         let class = |line: u32| {
             let settled = log[..record.settled].iter();
-            settled.rev().find(|&&word| word / 65536 % 256 == line).map_or(0, |word| word % 65536)
+            settled.rev().find(|&&word| word / 65536 % 256 == line).map(|word| word % 65536)
         };
-        let mut classes: Vec<u32> = read.iter().map(|&(line, _)| class(line)).collect();
+        let mut classes: Vec<Option<u32>> = read.iter().map(|&(line, _)| class(line)).collect();
         classes.sort_unstable();
         classes.dedup();
-        let total = |of: u32| read.iter().filter(|&&(line, _)| class(line) == of).map(|&(_, weight)| weight).sum();
+        let total =
+            |of: Option<u32>| read.iter().filter(|&&(line, _)| class(line) == of).map(|&(_, weight)| weight).sum();
         let expected: Vec<Row> = classes.iter().map(|&class| Row { class, total: total(class) }).collect();
         assert_eq!((number, &rows), (DONE, &expected));
         assert_eq!(rows.iter().map(|row| row.total).sum::<u64>(), read.iter().map(|&(_, weight)| weight).sum());

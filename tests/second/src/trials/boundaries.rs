@@ -129,7 +129,7 @@ fn frames(trials: &mut Trials) {
 /// A change that breaks one clause of soundness.
 type Break = fn(&mut Record);
 
-const BREAKS: [Break; 35] = [
+const BREAKS: [Break; 37] = [
     |r| r.n = 0,
     |r| r.n = 1,
     |r| r.n = 2,
@@ -142,7 +142,9 @@ const BREAKS: [Break; 35] = [
     |r| (r.weights[3], r.present[3]) = (1, 1),
     |r| (r.weights[7], r.present[7]) = (65535, 65535),
     |r| (r.weights, r.present) = ([0; 8], [0; 8]),
-    |r| r.codes[5] = 120,
+    |r| r.codes[5] = 121,
+    |r| r.codes[5] = 130,
+    |r| r.codes[5] = 132,
     |r| r.codes[5] = 0,
     |r| r.codes[0] = 1,
     |r| r.codes[63] = u32::MAX,

@@ -39,14 +39,18 @@ fn every_line(trials: &mut Trials) {
 /// A change after which the codes are others, or still those of the log.
 type Change = fn(&mut Record);
 
-const CHANGES: [Change; 14] = [
+const CHANGES: [Change; 18] = [
     |_| {},
-    |r| r.codes[5] = 120,
-    |r| r.codes[5] = 4,
-    |r| r.codes[62] = 3,
-    |r| r.codes[63] = 9999,
-    |r| r.codes[0] = 9,
-    |r| r.codes[0] = 7,
+    |r| r.codes[5] = 121,
+    |r| r.codes[5] = 5,
+    |r| r.codes[62] = 4,
+    |r| r.codes[63] = 10_000,
+    |r| r.codes[63] = 0,
+    |r| r.codes[62] = 1,
+    |r| r.codes[5] -= 1,
+    |r| r.codes = r.codes.map(|code| code.saturating_sub(1)),
+    |r| r.codes[0] = 10,
+    |r| r.codes[0] = 8,
     |r| r.codes.swap(5, 6),
     |r| r.codes[7] += 1 << 16,
     |r| r.codes[7] += 70 << 24,
@@ -56,7 +60,8 @@ const CHANGES: [Change; 14] = [
     |r| r.settled = 8,
 ];
 
-/// Codes of an entry before the last, of the tail, of a move, at another line, too large; and logs without the last.
+/// Codes of an entry before the last, of the tail, of a move, at another line, too large, code 0 and no edit yet for each
+/// other, codes as they are; and logs without the last entry.
 fn others(trials: &mut Trials) {
     for change in CHANGES {
         trials.begin();

@@ -36,7 +36,8 @@ fn sheet(trials: &mut Trials, households: &[(u8, u32)]) {
     trials.say("H");
 }
 
-/// None, one, weights of 0 and as large as can be, lines with the same code, with code 0 and with none, in any order.
+/// None, one, weights of 0 and as large as can be, lines with the same code, with code 0 and with no edit yet, in any
+/// order.
 fn pooled(trials: &mut Trials) {
     trials.begin();
     trials.sample(&office());
