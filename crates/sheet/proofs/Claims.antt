@@ -23,7 +23,7 @@ use Rattle.tabulation.proofs.Lines.{sheet-few}
 use Rattle.tabulation.proofs.Cells.{held-rows}
 use Rattle.frame.specs.State.{heldBy}
 use Rattle.frame.specs.Soundness.{soundB}
-use Rattle.frame.specs.Frames.{allLinesOf}
+use Rattle.frame.specs.Frames.{allLinesOf, storedEdit}
 use Rattle.frame.specs.Settling.{settledOf, settledNumber}
 use Rattle.frame.specs.declared.Record.{Record}
 use Rattle.frame.specs.declared.frames.Lines.{Lines}
@@ -79,7 +79,7 @@ module _ (r : Record) (words s : List ℕ) where
       let is : IsSheet (settledCodes r words) (householdsIn s) (sheetRows r words s) = subst (IsSheet (settledCodes r words) (householdsIn s)) rows (sheet-is (settledCodes r words) (householdsIn s)) in
       record {
         is = is;
-        settled = λ line l. ap (λ (n : ℕ). record { number = n; code = getD (settledCodes r words) line 0 }) (sym (number-sound r words (m .0))) ∙ lines-frames r words line l;
+        settled = λ line l. ap (λ (n : ℕ). record { number = n; edit = storedEdit (getD (settledCodes r words) line 0) }) (sym (number-sound r words (m .0))) ∙ lines-frames r words line l;
         rows = held-rows (sheetRows r words s);
         few = omega (arith, ap length rows, sheet-few (settledCodes r words) (householdsIn s) (lines-below s (m .1 .0)));
         fits = λ b. omega (arith, is .adds-up, weights-below s b (m .1 .0));

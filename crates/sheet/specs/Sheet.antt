@@ -18,7 +18,7 @@ use Rattle.sheet.specs.declared.Sheet.{Sheet}
 unfoldable pub sheetNumber : Record → List ℕ → List ℕ → ℕ
 sheetNumber r words s = pick (soundB r words) (pick (areHouseholds s) 0 12) 1
 
--- the settled codes of the lines
+-- the settled codes of the lines, as they are stored: (ix) 0 for a line no one has coded, code + 1 otherwise
 abbrev pub settledCodes : Record → List ℕ → List ℕ
 settledCodes r words = allLinesOf r words .codes
 
