@@ -1,4 +1,4 @@
-// The lines that call, and what each call answers. A call is lent the log; `S` and `T` also lend the output and the message.
+// The lines that call, and what each call answers. A call is lent the log; `S`, `T` and `H` also lend the output or the message.
 use crate::book;
 use crate::book::Book;
 use crate::book::SAID;
@@ -7,6 +7,7 @@ use crate::record;
 use frame::Record;
 use frame::frames::Edit;
 use lists::within;
+use tabulation::Row;
 
 // Prints a space and a number.
 fn print(number: u64) {
@@ -120,7 +121,31 @@ fn take(book: &mut Book, log: &mut [u32]) {
     let taken = record::of(book).take(log, &message[..length]);
     let next = taken.record;
     print(taken.number as u64);
+    print(taken.places as u64);
     record::keep(next, book);
+}
+
+// The digest of the class and the total of each of the first rows.
+fn rows_digest(rows: [Row; 64], count: usize) -> u64 {
+    let mut numbers = [0u64; 15676];
+    for i in 0..64 {
+        let row = rows[i];
+        numbers[2 * i] = row.class as u64;
+        numbers[2 * i + 1] = row.total;
+    }
+    digest::with_all(0, &numbers, 0, 2 * within(count, 64))
+}
+
+// `H`
+fn households(book: &Book, log: &[u32]) {
+    let length = within(book[book::MESSAGE] as usize, book::BYTES);
+    let mut message = [0u8; 7100];
+    book::to_bytes(book, book::MESSAGE + 1, &mut message);
+    let made = sheet::household_sheet(record::of(book), log, &message[..length]);
+    let rows = made.rows;
+    print(made.number as u64);
+    print(made.count as u64);
+    print(rows_digest(rows, made.count));
 }
 
 // Makes the call that the letter names, and prints what it answers.
@@ -134,6 +159,7 @@ fn make(book: &mut Book, letter: u8, log: &mut [u32]) {
         b'U' => sound(book, log),
         b'E' => elect(book, log),
         b'S' => send(book, log),
+        b'H' => households(book, log),
         _ => take(book, log),
     }
 }

@@ -39,7 +39,7 @@ pub fn counted(letter: u8, count: usize) -> bool {
         return false;
     }
     match letter {
-        b'd' | b'P' | b'A' | b'U' | b'E' | b'S' | b'T' => count == 0,
+        b'd' | b'P' | b'A' | b'U' | b'E' | b'S' | b'T' | b'H' => count == 0,
         b'c' | b'g' | b'V' => count == 1,
         b'b' | b'l' | b'o' | b'x' | b'I' => count == 2,
         b'F' => count == 10,
