@@ -139,7 +139,7 @@ fn break_codes(random: &mut Random, clause: usize, sample: &mut Sample) {
         29 => {
             let settled = sample.log.iter().take(sample.record.settled);
             if let Some(&word) = settled.rev().find(|&&word| is_move(word)) {
-                codes[(line_of(word) % LINES) as usize] = code_of(word);
+                codes[(line_of(word) % LINES) as usize] = code_of(word) + 1;
             }
         }
         _ => {}

@@ -200,7 +200,7 @@ pub fn any_sample(random: &mut Random) -> Sample {
         *weight = random.pick(&[0, 1, u16::MAX]);
     }
     for code in &mut record.codes {
-        *code = random.pick(&[0, 0, 120, CODES - 1, CODES, u32::MAX]);
+        *code = random.pick(&[0, 0, 1, 121, CODES, CODES + 1, u32::MAX]);
     }
     record.settled = number(random, LOG);
     for ballot in &mut record.ballots {

@@ -79,7 +79,10 @@ fn the_first_settles_and_the_second_is_lost() {
     one.issue(7, 1).unwrap(); // and so does office 1
     hears(&mut two, &zero);
     assert_eq!(hears(&mut one, &two), [Entry { office: 1, line: 7, code: 1 }]);
-    assert_eq!((one.settled_frame(5), one.settled_frame(7), one.tentative_frame(7)), (Ok(Some(130)), Ok(None), Ok(None)));
+    assert_eq!(
+        (one.settled_frame(5), one.settled_frame(7), one.tentative_frame(7)),
+        (Ok(Some(130)), Ok(None), Ok(None))
+    );
     one.issue(7, 1).unwrap(); // made again, now with office 0's edit in view
     assert!(hears(&mut two, &one).is_empty());
     assert_eq!(two.settled_frame(7), Ok(Some(1)));
