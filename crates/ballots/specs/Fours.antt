@@ -30,9 +30,9 @@ codingCells n = allCells (isCoding n)
 unfoldable pub unusedZero : Ballot → Bool
 unusedZero b = allB (eqb 0) (drop (b .len) (b .cells))
 
--- no more entries than cells
-unfoldable pub fewCells : Ballot → Bool
-fewCells b = leb (b .len) 32
+-- what is known of a ballot before its parts are tested: at most 32 entries, and zeros behind them
+unfoldable pub paddedEntries : ℕ → Ballot → Bool
+paddedEntries n b = both (leb (b .len) 32) (both (entryCells n b) (unusedZero b))
 
 -- (v) no office has more than its part of the ballot's tail
 unfoldable pub fairTail : ℕ → Ballot → Bool

@@ -6,7 +6,7 @@ ghost use lib.Dec.{eqb};
 ghost use mathlib.Core.Bool.{true};
 ghost use Rattle.lists.specs.Tests.{allB};
 ghost use Rattle.ballots.specs.Ballots.{emptyBallot, noBallot, pushed, ballotsFine};
-ghost use Rattle.ballots.specs.Fours.{codingCells, entryCells, fairTail, fewCells, fitsAt, maskWords, ofFour, unusedZero};
+ghost use Rattle.ballots.specs.Fours.{codingCells, entryCells, fairTail, fitsAt, maskWords, ofFour, paddedEntries, unusedZero};
 
 // A tail of 0 to 32 entries in the first cells. Unused cells are zero; length 0 means none.
 #[repr(C)]
@@ -88,17 +88,16 @@ fn eight_entries(all: [Ballot; 8], n: usize) -> bool
 
 // Whether no office has more than its part of the ballot's tail.
 fn fair_tail(b: Ballot, n: usize) -> bool
-    requires { ⌜ (1 ≤ n) × ((n ≤ 8) × (b .len ≤ 32)) ⌝ }
+    requires { ⌜ (1 ≤ n) × ((n ≤ 8) × (paddedEntries n b ≡ true)) ⌝ }
     ensures { λ r. ⌜ r ≡ fairTail n b ⌝ }
 {
-    let len = b.len;
     let cells = b.cells;
-    counting::fair(&cells[..len], n)
+    counting::fair(cells, b.len, n)
 }
 
 // The same of eight ballots.
 fn eight_fair(all: [Ballot; 8], n: usize) -> bool
-    requires { ⌜ (1 ≤ n) × ((n ≤ 8) × (allB fewCells all ≡ true)) ⌝ }
+    requires { ⌜ (1 ≤ n) × ((n ≤ 8) × (allB (paddedEntries n) all ≡ true)) ⌝ }
     ensures { λ r. ⌜ r ≡ allB (fairTail n) all ⌝ }
 {
     let mut good = true;

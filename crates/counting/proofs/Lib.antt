@@ -1,3 +1,4 @@
 -- Laws that belong to no one function.
+pub mod Bytes
 pub mod Counting
 pub mod Parts

@@ -2,14 +2,13 @@
 use borrow.Author.Needs.{needs}
 use native.Mathlib.Omega.{arith}
 use mathlib.Core.Path.{_≡_, refl}
-use Prim.Native.Nat.{ℕ, _-_, _<_, _≤_}
-use lib.ListN.{length, getD}
-use borrow.Author.Tests.{leb-true}
+use Prim.Native.Nat.{_-_, _≤_}
+use lib.ListN.{length}
 use Rattle.lists.specs.Tests.{allB, both}
 use Rattle.lists.proofs.Tests.{all-at}
 use Rattle.lists.proofs.Walk.{AllWith, with-next, with-done}
 use Rattle.ballots.specs.Ballots.{offEnd}
-use Rattle.ballots.specs.Fours.{fairTail, fewCells}
+use Rattle.ballots.specs.Fours.{fairTail, paddedEntries}
 use Rattle.ballots.proofs.eight_fair.Statement.{statement}
 use Rattle.ballots.proofs.eight_fair.Tie as tie
 
@@ -22,10 +21,6 @@ abbrev μ-loop : tie.MeasureT-loop
 eight : (s : tie.Start Inv-loop μ-loop) → length (s .args .t1) ≡ 8
 eight s = search needs
 
-few : (s : tie.Start Inv-loop μ-loop) (i : ℕ) → i < 8 → getD (s .args .t1) i offEnd .len ≤ 32
-unfolding fewCells
-few s i h = leb-true _ 32 (all-at fewCells offEnd (s .args .t1) i (s .pre .1 .1) (omega (arith, eight s)))
-
 loop-holds : tie.Need-loop-holds Inv-loop μ-loop
 unfolding both
 loop-holds c = (search needs, refl)
@@ -37,7 +32,9 @@ loop-again c =
     (search needs, with-next (fairTail (s .args .n)) offEnd (s .args .t1) (l .good) (l .i) (l .inv .1) (omega (arith, eight s)) _ (c .fair-tail .ensures))
 
 fair-tail-requires : tie.Need-fair-tail-requires Inv-loop μ-loop
-fair-tail-requires c κs = let s = c .before .before .before in (s .pre .0, (s .pre .1 .0, few s (c .before .before .loop .i) (omega arith)))
+fair-tail-requires c κs =
+    let s = c .before .before .before in
+    (s .pre .0, (s .pre .1 .0, all-at (paddedEntries (s .args .n)) offEnd (s .args .t1) (c .before .before .loop .i) (s .pre .1 .1) (omega (arith, eight s))))
 
 returns : tie.Need-returns Inv-loop μ-loop
 returns c = let l = c .before .loop in let s = c .before .before in with-done (fairTail (s .args .n)) offEnd (s .args .t1) (l .good) (l .i) (l .inv .1) (omega (arith, eight s))

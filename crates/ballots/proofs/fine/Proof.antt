@@ -10,9 +10,9 @@ use lib.ListN.{length, getD, drop}
 use borrow.Author.Tests.{not-true, not-false, le-leb}
 use borrow.Author.Needs.{needs}
 use Rattle.lists.specs.Tests.{both, allB}
-use Rattle.lists.proofs.Tests.{all-mono, all-of, both-false-0, both-false-1, both-passed}
+use Rattle.lists.proofs.Tests.{all-mono, all-at, all-of, both-true, both-false-0, both-false-1, both-passed}
 use Rattle.ballots.specs.Ballots.{ballotsFine, offEnd}
-use Rattle.ballots.specs.Fours.{codingCells, entryCells, unusedZero, fairTail, fewCells}
+use Rattle.ballots.specs.Fours.{codingCells, entryCells, unusedZero, fairTail, paddedEntries}
 use Rattle.ballots.proofs.Eight.{none-all, fitFrom, fit-next, fit-done, fit-few, fine-tests-all, all-both, eight-tests}
 use Rattle.ballots.proofs.Fours.{coding-cells, restFine}
 
@@ -98,13 +98,6 @@ four-unused-requires-2 c κs =
     let n = named (c .before .before .before .before .before) in
     (c .before .before .before .masks .ensures, (few n 4 (omega arith), (few n 5 (omega arith), (few n 6 (omega arith), few n 7 (omega arith)))))
 
-eight-fair-requires : tie.Need-eight-fair-requires Inv-loop μ-loop
-unfolding fewCells
-eight-fair-requires c κs =
-    let w = named (c .before .before .before .before .before .before .before) in
-    let s = walked w in
-    (s .pre .0, (s .pre .1 .0, all-of fewCells offEnd (s .args .t1) (λ k h. le-leb _ 32 (few w k (omega (arith, eight s))))))
-
 -- the unused cells and the parts, where the lengths and the cells are right
 rest : (j : tie.Joined3 Inv-loop μ-loop) → let s = start (j .before) in both (allB unusedZero (s .args .t1)) (allB (fairTail (s .args .n)) (s .args .t1)) ≡ ballotsFine (s .args .n) (s .args .settled) (s .args .t1)
 rest j =
@@ -117,6 +110,22 @@ unused c = let s = start (c .before .before .before .before .before .before) in 
 
 returns-4 : tie.Need-returns-4 Inv-loop μ-loop
 returns-4 c = let u = c .before in let j = u .before .before .before .before .before in sym (sym (rest j) ∙ both-false-0 _ _ (sym (unused u) ∙ not-true _ (c .if5 .taken)))
+
+eight-fair-requires : tie.Need-eight-fair-requires Inv-loop μ-loop
+unfolding paddedEntries
+eight-fair-requires c κs =
+    let u = c .before in
+    let j = u .before .before .before .before .before in
+    let w = named (j .before) in
+    let s = walked w in (
+      s .pre .0,
+      (
+        s .pre .1 .0,
+        all-of (paddedEntries (s .args .n)) offEnd (s .args .t1) (λ k h.
+            both-true _ _ (le-leb _ 32 (few w k (omega (arith, eight s))))
+            (both-true _ _ (all-at (entryCells (s .args .n)) offEnd (s .args .t1) k (entries-all j) h) (all-at unusedZero offEnd (s .args .t1) k (sym (unused u) ∙ not-false _ (c .if5 .left)) h))),
+      ),
+    )
 
 returns-5 : tie.Need-returns-5 Inv-loop μ-loop
 unfolding both

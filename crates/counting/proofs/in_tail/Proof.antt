@@ -23,11 +23,13 @@ loop-again : tie.Need-loop-again Inv-loop μ-loop
 loop-again c =
     let x = c .before in
     let l = x .before .before .before .loop in
-    let tail = x .before .before .before .before .before .args .tail .now in
-    (search needs, ⊎-elim
-    (λ w. subst (λ (r : List ℕ). Counting tail r (l .i + 1)) (sym (w .1)) (tail-next tail (l .cells) (l .i) (l .inv .1) (omega arith) _ (x .office-of .ensures .0)))
-    (λ w. subst (λ (r : List ℕ). Counting tail r (l .i + 1)) (sym (w .1)) (tail-far tail (l .cells) (l .i) (l .inv .1) (omega arith) _ (x .office-of .ensures .0) (omega arith)))
-    (c .if1 .came))
+    let tail = x .before .before .before .before .before .args .tail .now in (
+      search needs,
+      ⊎-elim
+          (λ w. subst (λ (r : List ℕ). Counting tail r (l .i + 1)) (sym (w .1)) (tail-next tail (l .cells) (l .i) (l .inv .1) (omega arith) _ (x .office-of .ensures .0)))
+          (λ w. subst (λ (r : List ℕ). Counting tail r (l .i + 1)) (sym (w .1)) (tail-far tail (l .cells) (l .i) (l .inv .1) (omega arith) _ (x .office-of .ensures .0) (omega arith)))
+          (c .if1 .came),
+    )
 
 returns : tie.Need-returns Inv-loop μ-loop
 returns c = let l = c .before .loop in tail-done (c .before .before .before .args .tail .now) (l .cells) (l .i) (l .inv .1) (omega arith)

@@ -1,0 +1,2 @@
+-- The definitions that the contracts of `counting` cite.
+pub mod Bytes
