@@ -277,7 +277,8 @@ fn all_lines_cases(of: State, cases: &mut Vec<Case>) {
     case(
         LINE_BY_LINE,
         each_line(move |line| unsafe {
-            engine::joukerpan_settled_frame(*black_box(&proved), a.as_ptr(), LOG, line).code
+            let framed = engine::joukerpan_settled_frame(*black_box(&proved), a.as_ptr(), LOG, line);
+            stored(framed.coded.then_some(framed.code))
         }),
         each_line(move |line| stored(plain::settled_frame(black_box(&record), &b, line).1)),
         each_line(move |line| unsafe { by_value::settled_frame(*black_box(&record), c.as_ptr(), LOG, line) }),

@@ -172,12 +172,10 @@ impl Trial<'_> {
 
     fn frames(&mut self) -> Result<(), String> {
         let line = self.line();
-        let (number, code) = plain::settled_frame(&self.record, self.log.part(), line);
-        let answer = (number, code.unwrap_or(0));
+        let answer = plain::settled_frame(&self.record, self.log.part(), line);
         self.count(4, answer.0);
         same(&format!("settled frame of {line}"), engine::settled_frame(&self.record, self.log.part(), line), answer)?;
-        let (number, code) = plain::tentative_frame(&self.record, self.log.part(), line);
-        let answer = (number, code.unwrap_or(0));
+        let answer = plain::tentative_frame(&self.record, self.log.part(), line);
         self.count(5, answer.0);
         let engine = engine::tentative_frame(&self.record, self.log.part(), line);
         same(&format!("tentative frame of {line}"), engine, answer)
