@@ -142,16 +142,16 @@ typedef struct {
     size_t places;  /* places of the two settled logs that were compared: see take; 0 on any refusal but 10 */
 } joukerpan_taken;
 
-/* A row of a sheet: a class, which is a settled code, and the weights of the households under it. */
+/* A row of a sheet: a class, and the weights of the households under it. */
 typedef struct {
-    uint32_t code;
+    uint32_t code;   /* as joukerpan_lines has it: 0 for no edit yet, the uncoded households, else the code + 1 */
     uint64_t total;  /* below 2^52 */
 } joukerpan_row;
 
 typedef struct {
     uint32_t number;
     size_t count;                         /* rows there are; 0 where refused */
-    joukerpan_row rows[JOUKERPAN_LINES];  /* codes rising; zero from place count on */
+    joukerpan_row rows[JOUKERPAN_LINES];  /* uncoded first, then codes rising; zero from place count on */
 } joukerpan_tabulated;
 
 /*
@@ -230,9 +230,10 @@ joukerpan_taken joukerpan_take(joukerpan_record record, uint32_t *log, size_t lo
 
 /*
  * The household sheet: the weights of the households pooled under the settled codes of their lines, a row
- * for each code met, codes rising. The bytes are household records, JOUKERPAN_HOUSEHOLD bytes each, and
- * nothing else; none of them is a done, empty sheet. Two offices with equal settled logs answer equal
- * sheets. Refused: 1, 12.
+ * for each code met, codes rising. Households under lines that no one has coded, if there are any, are the
+ * first row, apart from code 0. The bytes are household records, JOUKERPAN_HOUSEHOLD bytes each, and nothing
+ * else; none of them is a done, empty sheet. Two offices with equal settled logs answer equal sheets.
+ * Refused: 1, 12.
  */
 joukerpan_tabulated joukerpan_sheet(joukerpan_record record, const uint32_t *log, size_t log_len,
                                     const uint8_t *households, size_t households_len);

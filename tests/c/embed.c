@@ -310,14 +310,14 @@ static void household_sheet(void) {
     static office x;
     uint8_t bytes[6 * JOUKERPAN_HOUSEHOLD], *end = bytes;
     founded(&x, 0, WEIGHTS, 3);
-    settle(&x, entry(1, 5, 140)), settle(&x, entry(2, 6, 7)), settle(&x, entry(0, 63, 140));
+    settle(&x, entry(1, 5, 140)), settle(&x, entry(2, 6, 0)), settle(&x, entry(0, 63, 140));
     put(&x, 0, entry(0, 8, 9)); /* pending, so line 8 has no code yet */
     end = household(end, 5, 0xFFFFFFFF), end = household(end, 8, 257), end = household(end, 6, 0);
     end = household(end, 9, 2), end = household(end, 63, 0xFFFFFFFF), end = household(end, 5, 2);
     joukerpan_tabulated sheet = joukerpan_sheet(x.record, x.log, WORDS, bytes, sizeof bytes);
     expect("sheet", sheet.number, JOUKERPAN_DONE);
     expect("its rows", sheet.count, 3);
-    const joukerpan_row wanted[3] = {{0, 259}, {7, 0}, {140, 0x200000000}};
+    const joukerpan_row wanted[3] = {{0, 259}, {0 + 1, 0}, {140 + 1, 0x200000000}}; /* uncoded, 0 and 140 */
     for (int i = 0; i < 3; i++) {
         expect("a row's code", sheet.rows[i].code, wanted[i].code);
         expect("a row's total", sheet.rows[i].total, wanted[i].total);

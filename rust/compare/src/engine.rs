@@ -4,7 +4,7 @@ use std::mem::{offset_of, size_of, transmute};
 
 use joukerpan_sys as engine;
 use joukerpan_sys::Weights;
-use second::record::{Codes, Record, OFFICES};
+use second::record::{coded, Codes, Record, OFFICES};
 use second::sheet::Row;
 
 const _: () = {
@@ -88,6 +88,6 @@ pub fn sheet(record: &Record, log: &[u32], households: &[u8]) -> (u32, usize, Ve
     let record = to_engine(record);
     let answer =
         unsafe { engine::joukerpan_sheet(record, log.as_ptr(), log.len(), households.as_ptr(), households.len()) };
-    let rows = answer.rows.iter().map(|row| Row { class: row.class, total: row.total });
+    let rows = answer.rows.iter().map(|row| Row { class: coded(row.class), total: row.total });
     (answer.number, answer.count, rows.collect())
 }

@@ -18,7 +18,7 @@ const FEW: usize = 4;
 fn compare(what: &str, record: &Record, log: &[u32], bytes: &[u8]) -> Result<(u32, usize), String> {
     let (number, mut rows) = sheet(record, log, bytes);
     let count = rows.len();
-    rows.resize(LINES as usize, Row { class: 0, total: 0 });
+    rows.resize(LINES as usize, Row { class: None, total: 0 });
     same(what, engine::sheet(record, log, bytes), (number, count, rows))?;
     Ok((number, count))
 }

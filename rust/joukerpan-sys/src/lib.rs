@@ -164,7 +164,7 @@ pub struct Taken {
 #[repr(C)]
 #[derive(Clone, Copy, Debug, PartialEq, Eq)]
 pub struct Row {
-    /// The class: a settled code.
+    /// The class: 0 for no edit yet, the uncoded households, else the settled code + 1.
     pub class: u32,
     /// The weights of the households under it; below 2^52.
     pub total: u64,
@@ -178,7 +178,7 @@ pub struct Sheet {
     pub number: u32,
     /// Rows there are; 0 where the call is refused.
     pub count: usize,
-    /// The rows, classes rising, then zeros.
+    /// The rows, uncoded first, then classes rising, then zeros.
     pub rows: [Row; LINES as usize],
 }
 

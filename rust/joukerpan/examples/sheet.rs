@@ -1,4 +1,5 @@
-//! A household sheet: reads household records from a file and prints class and total, a line each.
+//! A household sheet: reads household records from a file and prints class and total, a line each; `-` for the
+//! class of the households that no one has coded.
 //!
 //!     sheet OFFICE HOUSEHOLDS     an office as it was stored (`Office::to_bytes`), and a file of records
 //!     sheet                       an office and a file of its own making
@@ -35,7 +36,7 @@ fn read(file: &Path) -> io::Result<Vec<u8>> {
 /// An office that has settled four lines, and a file of 300,000 households.
 fn own_making(folder: &Path) -> Result<(Office, PathBuf), Box<dyn Error>> {
     let mut office = Office::found(0, &[1])?;
-    for (line, code) in [(5, 120), (6, 130), (7, 120), (8, 7)] {
+    for (line, code) in [(5, 120), (6, 130), (7, 120), (8, 0)] {
         office.issue(line, code)?;
     }
     office.elect();
@@ -48,7 +49,10 @@ fn own_making(folder: &Path) -> Result<(Office, PathBuf), Box<dyn Error>> {
 
 fn print(office: &Office, households: &Path) -> Result<(), Box<dyn Error>> {
     for row in &office.sheet(&read(households)?)? {
-        println!("{} {}", row.class, row.total);
+        match row.class {
+            Some(code) => println!("{code} {}", row.total),
+            None => println!("- {}", row.total),
+        }
     }
     Ok(())
 }

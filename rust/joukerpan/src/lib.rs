@@ -47,9 +47,9 @@ mod unreadable;
 
 pub use entry::{Entry, EntryKind};
 pub use joukerpan_sys::{
-    Ballot, Record, Row, Summary, CODES, HOUSEHOLD, HOUSEHOLDS, LINES, LOG, MESSAGE_MAX, OFFICES, TAIL,
+    Ballot, Record, Summary, CODES, HOUSEHOLD, HOUSEHOLDS, LINES, LOG, MESSAGE_MAX, OFFICES, TAIL,
 };
 pub use office::{sound, Office};
 pub use refused::Refused;
-pub use sheet::{Household, Sheet};
+pub use sheet::{Household, Row, Sheet};
 pub use unreadable::Unreadable;

@@ -305,7 +305,8 @@ impl Office {
     }
 
     /// The household sheet: the weights of the households pooled under the settled codes of their lines, a
-    /// row for each class met, classes rising.
+    /// row for each class met, classes rising. Households under lines that no one has coded, if there are any,
+    /// are the first row, with the class `None`; code 0 is a class like another.
     ///
     /// The bytes are household records and nothing else, [`HOUSEHOLD`](crate::HOUSEHOLD) bytes each: 0x48
     /// 0x52, the line, the grossing weight with its most significant byte first ([`Household`](crate::Household)
@@ -323,12 +324,13 @@ impl Office {
     /// let mut office = Office::found(0, &[1])?;
     /// office.issue(5, 120)?;
     /// office.issue(6, 120)?;
+    /// office.issue(7, 0)?;
     /// office.elect();
     ///
-    /// let households = [Household { line: 6, weight: 40 }, Household { line: 9, weight: 2 }, Household { line: 5, weight: 60 }];
+    /// let households = [(6, 40), (9, 2), (5, 60), (7, 3)].map(|(line, weight)| Household { line, weight });
     /// let sheet = office.sheet(&Household::to_bytes(&households))?;
-    /// let rows: Vec<(u32, u64)> = sheet.iter().map(|row| (row.class, row.total)).collect();
-    /// assert_eq!(rows, [(0, 2), (120, 100)]); // line 9 has no code
+    /// let rows: Vec<(Option<u32>, u64)> = sheet.iter().map(|row| (row.class, row.total)).collect();
+    /// assert_eq!(rows, [(None, 2), (Some(0), 3), (Some(120), 100)]); // no one has coded line 9
     /// assert_eq!(office.sheet(b"HR"), Err(Refused::NoHouseholds));
     /// # Ok::<(), Refused>(())
     /// ```

@@ -3,7 +3,7 @@
 use std::slice;
 
 use joukerpan_sys as engine;
-use joukerpan_sys::{Row, HOUSEHOLD};
+use joukerpan_sys::HOUSEHOLD;
 
 /// One household: the line of the frame that its answer falls under, and its grossing weight.
 #[derive(Clone, Copy, Debug, PartialEq, Eq, Hash)]
@@ -33,14 +33,24 @@ impl Household {
     }
 }
 
-/// A household sheet: a row for each class met, classes rising. Made by [`Office::sheet`](crate::Office::sheet).
+/// A row of a household sheet.
+#[derive(Clone, Copy, Debug, PartialEq, Eq)]
+pub struct Row {
+    /// The class: a settled code; `None` for the households under lines that no one has coded.
+    pub class: Option<u32>,
+    /// The weights of the households under it; below 2^52.
+    pub total: u64,
+}
+
+/// A household sheet: a row for each class met, uncoded first, then codes rising. Made by
+/// [`Office::sheet`](crate::Office::sheet).
 #[derive(Clone, Debug, PartialEq, Eq)]
 pub struct Sheet {
     rows: Vec<Row>,
 }
 
 impl Sheet {
-    /// The rows, classes rising.
+    /// The rows, uncoded first, then codes rising.
     pub fn rows(&self) -> &[Row] {
         &self.rows
     }
@@ -50,8 +60,8 @@ impl Sheet {
         self.rows.iter()
     }
 
-    /// The total of a class; none where no household has it.
-    pub fn total(&self, class: u32) -> Option<u64> {
+    /// The total of a class, or with `None` of the uncoded households; none where no household has it.
+    pub fn total(&self, class: Option<u32>) -> Option<u64> {
         let at = self.rows.binary_search_by_key(&class, |row| row.class).ok()?;
         Some(self.rows[at].total)
     }
@@ -64,7 +74,8 @@ impl Sheet {
 
 impl From<engine::Sheet> for Sheet {
     fn from(answer: engine::Sheet) -> Sheet {
-        Sheet { rows: answer.rows[..answer.count].to_vec() }
+        let row = |row: &engine::Row| Row { class: row.class.checked_sub(1), total: row.total }; // 0 is uncoded
+        Sheet { rows: answer.rows[..answer.count].iter().map(row).collect() }
     }
 }
 

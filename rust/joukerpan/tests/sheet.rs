@@ -1,4 +1,4 @@
-//! The household sheet: class totals by the sentences of request (vii), and bytes that are no households.
+//! The household sheet: class totals by the sentences of requests (vii) and (ix), and bytes that are no households.
 
 #[path = "../examples/service/dice.rs"]
 mod dice;
@@ -25,7 +25,7 @@ fn some_households(count: usize, dice: &mut Dice) -> Vec<Household> {
 }
 
 /// "Weights are pooled under the settled code of their line. The sheet lists class and 64-bit total, codes
-/// rising, only codes met."
+/// rising, only codes met." The uncoded ones, "if any, are totalled first on the sheet, as uncoded".
 fn sheet_of(office: &Office, households: &[Household]) -> Vec<Row> {
     let mut totals = BTreeMap::new();
     for household in households {
@@ -45,9 +45,29 @@ fn totals_by_settled_code() {
         assert_eq!(sheet.rows(), sheet_of(&office, &households));
         assert_eq!(sheet.sum(), households.iter().map(|household| u64::from(household.weight)).sum());
         assert!(sheet.iter().all(|row| sheet.total(row.class) == Some(row.total)));
-        assert_eq!(sheet.total(1), None);
+        assert_eq!(sheet.total(Some(1)), None);
         assert_eq!((&sheet).into_iter().count(), sheet.rows().len());
     }
+}
+
+#[test]
+fn uncoded_is_apart_from_code_0() {
+    let mut office = Office::found(0, &[1]).unwrap();
+    office.issue(5, 0).unwrap();
+    office.issue(6, 9999).unwrap();
+    office.elect();
+    office.issue(7, 0).unwrap(); // pending
+    let [zero, last, pending, none] = [(5, 3), (6, 4), (7, 1), (8, 0)].map(|(line, weight)| Household { line, weight });
+    let sheet = |households: &[Household]| office.sheet(&Household::to_bytes(households)).unwrap();
+    let row = |class, total| Row { class, total };
+
+    let all = sheet(&[last, zero, none, pending]);
+    assert_eq!(all.rows(), [row(None, 1), row(Some(0), 3), row(Some(9999), 4)]);
+    assert_eq!((all.total(None), all.total(Some(0)), all.total(Some(1))), (Some(1), Some(3), None));
+    assert_eq!(sheet(&[zero]).rows(), [row(Some(0), 3)]);
+    assert_eq!(sheet(&[zero]).total(None), None);
+    assert_eq!(sheet(&[none]).rows(), [row(None, 0)]);
+    assert_eq!(sheet(&[none]).total(Some(0)), None);
 }
 
 #[test]
@@ -94,5 +114,5 @@ fn a_million_households_and_no_more() {
     let bytes = Household::to_bytes(&vec![Household { line: 63, weight: u32::MAX }; HOUSEHOLDS + 1]);
     assert_eq!(office.sheet(&bytes), Err(Refused::NoHouseholds));
     let sheet = office.sheet(&bytes[HOUSEHOLD..]).unwrap();
-    assert_eq!(sheet.rows(), [Row { class: 0, total: 4_294_967_295_000_000 }]);
+    assert_eq!(sheet.rows(), [Row { class: None, total: 4_294_967_295_000_000 }]);
 }
