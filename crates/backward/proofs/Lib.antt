@@ -1,0 +1,8 @@
+-- Laws of runs, of the walk, and of the cells that the code keeps.
+pub mod Members
+pub mod Edits
+pub mod Runs
+pub mod Reading
+pub mod Cells
+pub mod Placed
+pub mod Cases

@@ -1,0 +1,62 @@
+-- The answer's 64 places.
+--     named-at                       a line named is one of the frame
+--     placing-begins, -again, -ends  the first i places hold what the cells say of the lines
+--     getD-mapped, placed-at, placed-past    what stands at a place
+-- Assumes nothing.
+use mathlib.Core.Path.{_≡_, refl, sym, ap, _∙_}
+use mathlib.Core.List.{List, [], _∷_, _++_, map}
+use Prim.Native.Nat.{ℕ, zero, suc, _+_, _-_, _≤_, _<_}
+use native.Mathlib.Nat.{not-suc-le-zero, le-of-suc-le-suc}
+use native.Mathlib.Numerals.{unary-clauses}
+use native.Mathlib.Omega.{arith}
+use lib.Dec.{leb}
+use lib.ListN.{length, getD, set, take, drop, replicate, length-map, length-replicate, List·getD-append}
+use lib.Seq.{take-all, getD-append-add}
+use borrow.Author.Tests.{leb-true}
+use Rattle.lists.proofs.Tests.{all-at, getD-replicate}
+use Rattle.lists.proofs.Fill.{filled, front-step}
+use Rattle.backward.specs.Runs.{Named}
+use Rattle.backward.specs.Cells.{placed, cellsAt}
+
+pub named-at : (lines : List ℕ) → Named lines → (i : ℕ) → i < length lines → getD lines i 0 ≤ 63
+named-at lines n i h = leb-true (getD lines i 0) 63 (all-at (λ (line : ℕ). leb line 63) 0 lines i (n .each) h)
+
+pub getD-mapped : (f : ℕ → ℕ) (xs : List ℕ) (i : ℕ) → i < length xs → getD (map f xs) i 0 ≡ f (getD xs i 0)
+getD-mapped f [] i h = absurd (not-suc-le-zero h)
+getD-mapped f (x ∷ xs) zero h = refl
+getD-mapped f (x ∷ xs) (suc i) h = getD-mapped f xs i (le-of-suc-le-suc h)
+
+drop-zeros : (k n : ℕ) → drop {A = ℕ} k (replicate n 0) ≡ replicate (n - k) 0
+drop-zeros zero n = simp unary-clauses
+drop-zeros (suc k) zero = ap (λ (m : ℕ). replicate {A = ℕ} m 0) none
+  where
+    none : 0 ≡ 0 - suc k
+    none = omega arith
+drop-zeros (suc k) (suc n) = simp unary-clauses (drop-zeros k n)
+
+module _ (cells lines : List ℕ) where
+  abbrev pub Placing : List ℕ → ℕ → Type 0
+  Placing edits i = edits ≡ filled (cellsAt cells lines) (replicate 64 0) i
+
+  as-long : length (cellsAt cells lines) ≡ length lines
+  as-long = length-map lines (λ (line : ℕ). getD cells line 0)
+
+  pub placing-again : (edits : List ℕ) (i : ℕ) → Placing edits i → i < length lines → length lines ≤ 64 → Placing (set edits i (getD cells (getD lines i 0) 0)) (i + 1)
+  placing-again edits i e h few =
+      ap (λ (l : List ℕ). set l i (getD cells (getD lines i 0) 0)) e
+      ∙ ap (set (filled (cellsAt cells lines) (replicate 64 0) i) i) (sym (getD-mapped (λ (line : ℕ). getD cells line 0) lines i h))
+      ∙ front-step 0 (cellsAt cells lines) (replicate 64 0) i (omega (arith, as-long)) (omega (arith, length-replicate {A = ℕ} 64 0))
+
+  pub placing-ends : (edits : List ℕ) (i : ℕ) → Placing edits i → i ≡ length lines → edits ≡ placed (cellsAt cells lines)
+  placing-ends edits i e q =
+      e ∙ ap (λ (l : List ℕ). l ++ drop i (replicate 64 0)) (take-all i (cellsAt cells lines) (omega (arith, as-long)))
+      ∙ ap (λ (l : List ℕ). cellsAt cells lines ++ l) (ap (λ (k : ℕ). drop k (replicate 64 0)) (q ∙ sym as-long) ∙ drop-zeros (length (cellsAt cells lines)) 64)
+
+pub placed-at : (edits : List ℕ) (i : ℕ) → i < length edits → getD (placed edits) i 0 ≡ getD edits i 0
+placed-at edits i h = List·getD-append edits (replicate (64 - length edits) 0) 0 i h
+
+pub placed-past : (edits : List ℕ) (i : ℕ) → length edits ≤ i → getD (placed edits) i 0 ≡ 0
+placed-past edits i h = ap (λ (k : ℕ). getD (placed edits) k 0) split ∙ getD-append-add edits (replicate (64 - length edits) 0) (i - length edits) 0 ∙ getD-replicate (64 - length edits) 0 (i - length edits)
+  where
+    split : i ≡ length edits + (i - length edits)
+    split = omega arith

@@ -1,0 +1,46 @@
+-- "The log is walked once, backward from p": word by word, until each line named has its edit. Assumes nothing.
+use mathlib.Core.List.{List, [], _∷_, map}
+use mathlib.Core.Option.{Option, none, some}
+use mathlib.Core.Bool.{Bool, not}
+use Prim.Native.Nat.{ℕ, zero, suc, _+_}
+use lib.Dec.{eqb}
+use lib.ListN.{length, getD}
+use Rattle.lists.specs.Tests.{pick, allB}
+use Rattle.protocol.specs.Entry.{lineOf, codeOf}
+use Rattle.protocol.specs.Vote.{isNone}
+
+-- what was read: the edit of each line named, and how many words
+pub record Reading : Type 0 where
+  pub frame : List (Option ℕ)
+  pub words : ℕ
+
+-- an edit, or else another one
+abbrev pub orElse : Option ℕ → Option ℕ → Option ℕ
+orElse none other = other
+orElse (some code) other = some code
+
+-- the edit that the word v is for the line
+abbrev pub editBy : ℕ → ℕ → Option ℕ
+editBy v line = pick (eqb (lineOf v) line) (some (codeOf v)) none
+
+-- the word v is read: a line with no edit yet has v's code if v is for it
+abbrev pub noting : ℕ → List ℕ → List (Option ℕ) → List (Option ℕ)
+noting v [] os = []
+noting v (line ∷ lines) [] = []
+noting v (line ∷ lines) (o ∷ os) = orElse o (editBy v line) ∷ noting v lines os
+
+abbrev pub answered : List (Option ℕ) → Bool
+answered os = allB (λ (o : Option ℕ). not (isNone o)) os
+
+-- a reading behind k words more
+abbrev pub behind : ℕ → Reading → Reading
+behind k w = record { frame = w .frame; words = k + w .words }
+
+-- back from place i, with the edits os so far
+unfoldable pub walk : ℕ → List ℕ → List ℕ → List (Option ℕ) → Reading
+walk zero lines entries os = record { frame = os; words = 0 }
+walk (suc i) lines entries os = pick (answered os) (record { frame = os; words = 0 }) (behind 1 (walk i lines entries (noting (getD entries i 0) lines os)))
+
+-- back from the end of the entries
+abbrev pub walkBack : List ℕ → List ℕ → Reading
+walkBack lines entries = walk (length entries) lines entries (map (λ (line : ℕ). none) lines)
