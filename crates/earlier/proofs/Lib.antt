@@ -1,0 +1,3 @@
+-- Laws of the earlier frame.
+pub mod Made
+pub mod Claims
