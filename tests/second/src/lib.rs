@@ -7,6 +7,7 @@
 #![warn(missing_docs)]
 
 pub mod calls;
+pub mod earlier;
 pub mod elect;
 pub mod generate;
 pub mod lines;

@@ -38,6 +38,8 @@ pub const LOGS_PART: u32 = 10;
 pub const PART_FULL: u32 = 11;
 /// The households are not of the layout, have a line above 63, or are too many.
 pub const NO_HOUSEHOLDS: u32 = 12;
+/// The place is past the settled length, or more than 64 lines are named.
+pub const NO_PLACE: u32 = 13;
 
 /// A tail of entries; length 0 means none, or unknown. Unused cells are zero.
 #[repr(C)]

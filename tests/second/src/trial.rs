@@ -3,6 +3,7 @@
 use std::io::{Read, Result, Write};
 
 use crate::calls::{found, issue, settled, settled_codes, settled_frame, tentative_frame};
+use crate::earlier::earlier;
 use crate::elect::elect;
 use crate::lines::{each_line, letter_and_numbers};
 use crate::message::send;
@@ -172,6 +173,7 @@ impl State {
                 vec![number.into(), length as u64]
             }
             (b'H', 0) => self.sheet(),
+            (b'Q', 1) => self.earlier(values[0] as usize),
             (b'T', 0) => {
                 let (number, places, record) = take(self.record, &mut self.log, &self.message);
                 self.record = record;
@@ -212,6 +214,13 @@ impl State {
             digest.add(row.total);
         }
         vec![number.into(), rows.len() as u64, digest.0]
+    }
+
+    /// The lines that the message's bytes name as of place p: number, words read, and the digest of the 64 answers.
+    fn earlier(&self, p: usize) -> Vec<u64> {
+        let lines: Vec<u32> = self.message.iter().map(|&line| line.into()).collect();
+        let (number, words, codes) = earlier(&self.record, &self.log, p, &lines);
+        vec![number.into(), words as u64, Digest::of(&codes)]
     }
 
     /// The settled part's number, length and digest.

@@ -8,6 +8,7 @@ mod boundaries;
 mod cases;
 mod codes;
 mod damaged;
+mod earlier;
 mod layout;
 mod moves;
 mod parts;
@@ -18,7 +19,7 @@ mod sheets;
 mod ties;
 
 /// The kinds of trial script there are.
-pub const KINDS: [&str; 6] = ["boundaries", "elections", "takes", "damaged", "random", "sheets"];
+pub const KINDS: [&str; 7] = ["boundaries", "elections", "takes", "damaged", "random", "sheets", "earlier"];
 
 /// Words or bytes of a line that has several.
 const WORDS: usize = 10;
@@ -204,6 +205,7 @@ pub fn script(kind: &str, seed: u64, count: usize) -> Option<Vec<u8>> {
         "damaged" => damaged::write(&mut trials, seed, count),
         "random" => random::write(&mut trials, seed, count),
         "sheets" => sheets::write(&mut trials, seed, count),
+        "earlier" => earlier::write(&mut trials, seed, count),
         _ => return None,
     }
     Some(trials.text)

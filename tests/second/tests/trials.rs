@@ -20,7 +20,7 @@ fn the_documents_example() {
 }
 
 /// Lines outside the language, each for one cause.
-const WRONG: [&str; 58] = [
+const WRONG: [&str; 60] = [
     "",
     "d 1",
     "q",
@@ -76,6 +76,8 @@ const WRONG: [&str; 58] = [
     "S 0",
     "T 0",
     "H 0",
+    "Q",
+    "Q 0 5",
     "I  0 0",
     "I 00 0",
     "m 1 1 1 1 1 1 1 1 1 1 1 1 1 1 1 1 1 1 1 1 1 1 1 1 1",
@@ -113,7 +115,10 @@ fn shown(answers: &str, beginning: &str) -> bool {
 
 #[test]
 fn every_number_of_the_further_calls_is_shown() {
-    for (kind, beginnings) in [("sheets", &["H 0 0 0 ", "H 0 64 ", "H 1 0 0 ", "H 12 0 0 "][..])] {
+    for (kind, beginnings) in [
+        ("sheets", &["H 0 0 0 ", "H 0 64 ", "H 1 0 0 ", "H 12 0 0 "][..]),
+        ("earlier", &["Q 0 0 ", "Q 0 1 ", "Q 0 64 ", "Q 0 1024 ", "Q 1 0 ", "Q 3 0 ", "Q 13 0 "]),
+    ] {
         let answers = tried(&script(kind, 1, 100).unwrap());
         for beginning in beginnings {
             assert!(shown(&answers, beginning), "{beginning}");
