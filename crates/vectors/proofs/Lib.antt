@@ -1,0 +1,3 @@
+-- Laws of the vectors.
+pub mod Paths
+pub mod Vectors
