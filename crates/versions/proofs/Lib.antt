@@ -1,0 +1,3 @@
+-- Laws of the comparison of versions.
+pub mod Order
+pub mod Paths

@@ -1,0 +1,2 @@
+-- The definitions that the contracts of `versions` cite.
+pub mod Versions
