@@ -1,0 +1,4 @@
+-- Laws of the archive's calls.
+pub mod Writing
+pub mod Comparison
+pub mod Claims
