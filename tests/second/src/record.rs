@@ -40,6 +40,8 @@ pub const PART_FULL: u32 = 11;
 pub const NO_HOUSEHOLDS: u32 = 12;
 /// The place is past the settled length, or more than 64 lines are named.
 pub const NO_PLACE: u32 = 13;
+/// The vector has not exactly n counts of at most 1024.
+pub const NO_VECTOR: u32 = 14;
 
 /// A tail of entries; length 0 means none, or unknown. Unused cells are zero.
 #[repr(C)]

@@ -1,5 +1,6 @@
 //! Random records with their logs, related to each other so that calls on them have something to do.
 
+use crate::archive::write_vectors;
 use crate::generate::weights;
 use crate::message::{length, write};
 use crate::random::Random;
@@ -318,4 +319,30 @@ pub fn damaged_households(random: &mut Random, mut bytes: Vec<u8>) -> Vec<u8> {
         _ => drop(bytes.remove(at)),
     }
     bytes
+}
+
+/// The bytes of a vector near those of a sound record: one of them, one with counts changed, or no vector.
+pub fn any_vector(random: &mut Random, sample: &Sample) -> Vec<u8> {
+    let Sample { record, log } = sample;
+    let size = 4 * record.n;
+    let mut vectors = vec![0; size * (1 + record.n)];
+    write_vectors(record, log, &mut vectors);
+    let mut vector = vectors[size * random.below(1 + record.n)..][..size].to_vec();
+    for _ in 0..random.pick(&[0, 1, 1, 2]) {
+        let place = 4 * random.below(record.n);
+        let count = &mut vector[place..place + 4];
+        let number = u32::from_be_bytes([count[0], count[1], count[2], count[3]]);
+        let other = match random.below(10) {
+            0 => random.pick(&[0, 1023, 1024, 1025, 1 << 16, u32::MAX]),
+            _ => (number + random.pick(&[0, 1, 2, 3])).saturating_sub(1),
+        };
+        count.copy_from_slice(&other.to_be_bytes());
+    }
+    match random.below(12) {
+        0 => drop(vector.pop()),
+        1 => vector.extend([0; 4]),
+        2 => vector.truncate(size - 4),
+        _ => {}
+    }
+    vector
 }

@@ -2,6 +2,7 @@
 
 use std::io::{Read, Result, Write};
 
+use crate::archive::{compare_vector, write_vectors};
 use crate::calls::{found, issue, settled, settled_codes, settled_frame, tentative_frame};
 use crate::earlier::earlier;
 use crate::elect::elect;
@@ -173,6 +174,14 @@ impl State {
                 vec![number.into(), length as u64]
             }
             (b'H', 0) => self.sheet(),
+            (b'W', 0) => {
+                let (number, length) = write_vectors(&self.record, &self.log, &mut self.output);
+                vec![number.into(), length as u64]
+            }
+            (b'C', 0) => {
+                let (number, standings) = compare_vector(&self.record, &self.log, &self.message);
+                vec![number.into(), Digest::of(&standings.map(|standing| standing as u32))]
+            }
             (b'Q', 1) => self.earlier(values[0] as usize),
             (b'T', 0) => {
                 let (number, places, record) = take(self.record, &mut self.log, &self.message);

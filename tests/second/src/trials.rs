@@ -17,9 +17,10 @@ mod product;
 mod random;
 mod sheets;
 mod ties;
+mod vectors;
 
 /// The kinds of trial script there are.
-pub const KINDS: [&str; 7] = ["boundaries", "elections", "takes", "damaged", "random", "sheets", "earlier"];
+pub const KINDS: [&str; 8] = ["boundaries", "elections", "takes", "damaged", "random", "sheets", "earlier", "vectors"];
 
 /// Words or bytes of a line that has several.
 const WORDS: usize = 10;
@@ -206,6 +207,7 @@ pub fn script(kind: &str, seed: u64, count: usize) -> Option<Vec<u8>> {
         "random" => random::write(&mut trials, seed, count),
         "sheets" => sheets::write(&mut trials, seed, count),
         "earlier" => earlier::write(&mut trials, seed, count),
+        "vectors" => vectors::write(&mut trials, seed, count),
         _ => return None,
     }
     Some(trials.text)

@@ -20,11 +20,11 @@ fn the_documents_example() {
 }
 
 /// Lines outside the language, each for one cause.
-const WRONG: [&str; 60] = [
+const WRONG: [&str; 62] = [
     "",
     "d 1",
     "q",
-    "Q",
+    "Z",
     "r 1",
     "r 1 0 65536 0 0 0 0 0 0 0 0",
     "p 1 0 0 0 0 0 0",
@@ -76,6 +76,8 @@ const WRONG: [&str; 60] = [
     "S 0",
     "T 0",
     "H 0",
+    "W 0",
+    "C 0",
     "Q",
     "Q 0 5",
     "I  0 0",
@@ -118,6 +120,7 @@ fn every_number_of_the_further_calls_is_shown() {
     for (kind, beginnings) in [
         ("sheets", &["H 0 0 0 ", "H 0 64 ", "H 1 0 0 ", "H 12 0 0 "][..]),
         ("earlier", &["Q 0 0 ", "Q 0 1 ", "Q 0 64 ", "Q 0 1024 ", "Q 1 0 ", "Q 3 0 ", "Q 13 0 "]),
+        ("vectors", &["W 0 8 ", "W 0 288 ", "W 1 0 ", "W 6 0 ", "C 0 ", "C 1 ", "C 14 "]),
     ] {
         let answers = tried(&script(kind, 1, 100).unwrap());
         for beginning in beginnings {
