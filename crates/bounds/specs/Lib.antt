@@ -1,0 +1,2 @@
+-- The definitions that the contracts of `bounds` cite.
+pub mod Bounds
