@@ -1,0 +1,48 @@
+-- What a forecast answers, by the tests that it makes.
+--     forecast-unsound, forecast-unfit      the two refusals
+--     forecast-done                         the entry that is named, by the votes of the ballots and the counts of the log
+--     votes-silent                          the votes of a sound record's ballots are silent from place n on
+-- Assumes nothing.
+use mathlib.Core.Path.{_≡_, sym, ap, subst, _∙_}
+use mathlib.Core.Bool.{true, false}
+use mathlib.Core.List.{List, map}
+use Prim.Native.Nat.{ℕ}
+use lib.ListN.{take}
+use Rattle.lists.specs.Tests.{pick}
+use Rattle.protocol.specs.Counts.{noCounts, countsAfter, quieterBy}
+use Rattle.protocol.specs.Office.{votes}
+use Rattle.tallies.specs.Tallies.{winnerIs, cast, votesIn, SilentFrom}
+use Rattle.tallies.specs.declared.Winner.{Winner}
+use Rattle.tallies.specs.declared.Winner.the-variants.{Nobody}
+use Rattle.bounds.specs.Bounds.{fits, sureWinner}
+use Rattle.bounds.proofs.Cast.{cast-votes, cast-silent}
+use Rattle.frame.specs.State.{heldBy}
+use Rattle.frame.specs.Soundness.{soundB, Sound}
+use Rattle.frame.specs.declared.Record.{Record}
+use Rattle.forecast.specs.Forecast.{boundsOf, forecastNumber, forecastOf}
+use Rattle.forecast.specs.declared.Forecast.{Forecast}
+
+module _ (r : Record) (words lowest highest : List ℕ) where
+  pub forecast-unsound : soundB r words ≡ false → _≡_ {A = Forecast} (record { number = 1; winner = Nobody }) (forecastOf r words lowest highest)
+  unfolding forecastOf forecastNumber pick
+  forecast-unsound e = simp e
+
+  pub forecast-unfit : soundB r words ≡ true → fits (boundsOf r lowest) (boundsOf r highest) ≡ false
+      → _≡_ {A = Forecast} (record { number = 15; winner = Nobody }) (forecastOf r words lowest highest)
+  unfolding forecastOf forecastNumber pick
+  forecast-unfit e f = simp (e, f)
+
+  pub votes-silent : Sound r words → (vs : List ℕ) → vs ≡ map cast (r .ballots) → SilentFrom (r .n) vs
+  votes-silent S vs q = subst (SilentFrom (r .n)) (sym q) (cast-silent (r .n) (r .ballots) (S .head .most) (S .rest))
+
+  pub forecast-done : Sound r words → soundB r words ≡ true → fits (boundsOf r lowest) (boundsOf r highest) ≡ true
+      → (counts : List ℕ) → counts ≡ countsAfter (noCounts 8) (take (r .settled) words) → (vs : List ℕ) → vs ≡ map cast (r .ballots)
+      → (w : Winner) → w ≡ winnerIs (sureWinner (boundsOf r lowest) (boundsOf r highest) (quieterBy counts) (votesIn vs))
+      → _≡_ {A = Forecast} (record { number = 0; winner = w }) (forecastOf r words lowest highest)
+  unfolding forecastOf forecastNumber pick
+  forecast-done S e f counts p vs q w made =
+      simp (e, f)
+      (ap (λ (x : Winner). record { number = 0; winner = x }) (made ∙ λ i. winnerIs (sureWinner (boundsOf r lowest) (boundsOf r highest) (quieterBy (p i)) (voted i))))
+    where
+      voted : votesIn vs ≡ votes (heldBy r words)
+      voted = ap votesIn q ∙ cast-votes (r .n) (r .settled) (r .ballots) (S .fine)

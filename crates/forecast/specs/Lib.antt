@@ -1,0 +1,3 @@
+-- What a forecast answers, and what is claimed of it.
+pub mod Forecast
+pub mod Exact
