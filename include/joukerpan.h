@@ -57,7 +57,8 @@ enum {
     JOUKERPAN_OWN_MESSAGE = 9,    /* sender is the receiver's own office */
     JOUKERPAN_OTHER_LOG = 10,     /* neither settled log is a beginning of the other: stop (see above) */
     JOUKERPAN_PART_FULL = 11,     /* own tail has the own office's part, 32 / n entries of it: wait for votes */
-    JOUKERPAN_NO_HOUSEHOLDS = 12  /* bytes are no household records, have a line above 63, or are too many */
+    JOUKERPAN_NO_HOUSEHOLDS = 12, /* bytes are no household records, have a line above 63, or are too many */
+    JOUKERPAN_NO_WEIGHTS = 15     /* a lowest weight of an office exceeds its highest */
 };
 
 /*
@@ -154,6 +155,12 @@ typedef struct {
     joukerpan_row rows[JOUKERPAN_LINES];  /* uncoded first, then codes rising; zero from place count on */
 } joukerpan_tabulated;
 
+typedef struct {
+    uint32_t number;
+    bool named;      /* whether an entry wins under every choice; false where refused */
+    uint32_t entry;  /* that entry; 0 where none is named */
+} joukerpan_foreseen;
+
 /*
  * A fresh record: an empty log, no ballots, present weights as founded, no edit of any line.
  * Refused: 1 (log size alone), 2.
@@ -238,6 +245,15 @@ joukerpan_taken joukerpan_take(joukerpan_record record, uint32_t *log, size_t lo
 joukerpan_tabulated joukerpan_sheet(joukerpan_record record, const uint32_t *log, size_t log_len,
                                     const uint8_t *households, size_t households_len);
 
+/*
+ * The entry that would win the first election step on the office's ballots whichever weights within the
+ * bounds are chosen, a lowest and a highest for each of the n offices, or that none would. The record's own
+ * weights play no part; ties go by the settled log, as in elect; all weights zero is a choice. Bounds from
+ * place n on are not looked at. Refused: 1, 15.
+ */
+joukerpan_foreseen joukerpan_forecast(joukerpan_record record, const uint32_t *log, size_t log_len,
+                                      joukerpan_weights lowest, joukerpan_weights highest);
+
 #ifdef __cplusplus
 }
 #define JOUKERPAN_ASSERT static_assert
@@ -282,6 +298,9 @@ JOUKERPAN_ASSERT(offsetof(joukerpan_row, total) == 8, "joukerpan_row: total");
 JOUKERPAN_ASSERT(sizeof(joukerpan_tabulated) == 1040, "joukerpan_tabulated: size");
 JOUKERPAN_ASSERT(offsetof(joukerpan_tabulated, count) == 8, "joukerpan_tabulated: count");
 JOUKERPAN_ASSERT(offsetof(joukerpan_tabulated, rows) == 16, "joukerpan_tabulated: rows");
+JOUKERPAN_ASSERT(sizeof(joukerpan_foreseen) == 12, "joukerpan_foreseen: size");
+JOUKERPAN_ASSERT(offsetof(joukerpan_foreseen, named) == 4, "joukerpan_foreseen: named");
+JOUKERPAN_ASSERT(offsetof(joukerpan_foreseen, entry) == 8, "joukerpan_foreseen: entry");
 
 #undef JOUKERPAN_ASSERT
 

@@ -1,6 +1,6 @@
 /*
  * The engine through its C calls: the paper's rehearsal, some lettered cases, moves of weight, the frame whole, a
- * household sheet, each refusal once, the parts of a tail, logs compared from their ends.
+ * household sheet, forecasts, each refusal once, the parts of a tail, logs compared from their ends.
  */
 #include <stdio.h>
 #include <stdlib.h>
@@ -332,6 +332,32 @@ static void household_sheet(void) {
     refused_sheet("1 before 12", joukerpan_sheet(x.record, x.log, JOUKERPAN_LOG - 1, bytes, sizeof bytes), JOUKERPAN_UNSOUND);
 }
 
+static void forecast(const office *of, const char *what, joukerpan_weights lowest, joukerpan_weights highest, uint32_t number, uint32_t named) {
+    joukerpan_foreseen answer = joukerpan_forecast(of->record, of->log, WORDS, lowest, highest);
+    expect(what, answer.number, number);
+    expect("whether an entry is named", answer.named, named != 0);
+    expect("the entry", answer.entry, named);
+}
+
+static void forecasts(void) {
+    static office x;
+    const uint32_t a = entry(0, 5, 120), b = entry(1, 5, 130);
+    const joukerpan_weights most = {{65535, 65535, 65535}}, none = {{0}};
+    founded(&x, 0, WEIGHTS, 3);
+    put(&x, 0, a), put(&x, 1, b);
+    forecast(&x, "bounds that meet", (joukerpan_weights){{50, 40, 9}}, (joukerpan_weights){{50, 40, 9}}, JOUKERPAN_DONE, a);
+    forecast(&x, "a tie at the bound", (joukerpan_weights){{50, 0, 0}}, (joukerpan_weights){{60, 40, 10}}, JOUKERPAN_DONE, a);
+    forecast(&x, "beyond it", (joukerpan_weights){{49, 0, 0}}, (joukerpan_weights){{60, 40, 10}}, JOUKERPAN_DONE, 0);
+    forecast(&x, "zero bounds", none, none, JOUKERPAN_DONE, 0);
+    forecast(&x, "any weights", none, most, JOUKERPAN_DONE, 0);
+    forecast(&x, "a bound from place n on", (joukerpan_weights){{50, 40, 9, 1}}, (joukerpan_weights){{50, 40, 9}}, JOUKERPAN_DONE, a);
+    forecast(&x, "a lowest above its highest", (joukerpan_weights){{50, 40, 9}}, (joukerpan_weights){{50, 40, 8}}, JOUKERPAN_NO_WEIGHTS, 0);
+    settle(&x, entry(0, 6, 7));
+    forecast(&x, "the tie behind an entry of office 0", (joukerpan_weights){{50, 0, 0}}, (joukerpan_weights){{60, 40, 10}}, JOUKERPAN_DONE, 0);
+    x.record.n = 9;
+    forecast(&x, "1 before 15", most, none, JOUKERPAN_UNSOUND, 0);
+}
+
 static void founding_refusals(void) {
     static uint32_t log[JOUKERPAN_LOG];
     static const joukerpan_record zero;
@@ -485,6 +511,7 @@ int main(void) {
     moves();
     whole_frame();
     household_sheet();
+    forecasts();
     founding_refusals();
     issue_refusals();
     parts();

@@ -9,8 +9,10 @@ ghost use Rattle.frame.specs.Electing.{electOf, electWords};
 ghost use Rattle.frame.specs.Sending.{sendOf, sendBytes};
 ghost use Rattle.frame.specs.Taking.{takeOf, takeWords};
 ghost use Rattle.sheet.specs.Sheet.{sheetOf};
+ghost use Rattle.forecast.specs.Forecast.{forecastOf};
 ghost use Rattle.embed.specs.Part.{partOf};
 ghost use Rattle.embed.specs.Framed.{across};
+ghost use Rattle.embed.specs.Foreseen.{foreseenOf};
 use frame::Record;
 use frame::electing::Elected;
 use frame::founding::Founded;
@@ -21,6 +23,7 @@ use frame::issuing::Issued;
 use frame::sending::Sent;
 use frame::taking::Taken;
 use sheet::Sheet;
+use tallies::Winner;
 
 // Eight weights. An array by itself cannot cross to C; a struct that holds one can.
 #[repr(C)]
@@ -61,6 +64,14 @@ fn across(framed: frames::Framed) -> Framed
             code: 0,
         },
     }
+}
+
+// What a forecast answers across C: an enum cannot cross, so whether an entry is named stands before it.
+#[repr(C)]
+pub struct Foreseen {
+    pub number: u32,
+    pub named: bool,
+    pub entry: u32,
 }
 
 // A fresh record: an empty log and no ballots.
@@ -153,4 +164,33 @@ pub extern "C" fn joukerpan_sheet(office: Record, log: &[u32], households: &[u8]
     ensures { λ r. ⌜ r ≡ sheetOf office (now (log .entry)) (now (households .entry)) ⌝ }
 {
     sheet::household_sheet(office, log, households)
+}
+
+// The entry that would win the first election step whichever weights within the bounds are chosen, if any.
+#[no_mangle]
+pub extern "C" fn joukerpan_forecast(
+    office: Record,
+    log: &[u32],
+    lowest: Weights,
+    highest: Weights,
+) -> Foreseen
+    ensures { λ r. ⌜ r ≡ foreseenOf (forecastOf office (now (log .entry)) (lowest .of) (highest .of)) ⌝ }
+{
+    let low = lowest.of;
+    let high = highest.of;
+    let answer = forecast::first_step(office, log, low, high);
+    let number = answer.number;
+    let winner = answer.winner;
+    match winner {
+        Winner::Nobody => Foreseen {
+            number,
+            named: false,
+            entry: 0,
+        },
+        Winner::Entry(e) => Foreseen {
+            number,
+            named: true,
+            entry: e,
+        },
+    }
 }

@@ -182,6 +182,18 @@ pub struct Sheet {
     pub rows: [Row; LINES as usize],
 }
 
+/// The forecast's answer.
+#[repr(C)]
+#[derive(Clone, Copy, Debug, PartialEq, Eq)]
+pub struct Foreseen {
+    /// 0, or the refusal's number.
+    pub number: u32,
+    /// Whether an entry wins under every choice; false where the call is refused.
+    pub named: bool,
+    /// That entry; 0 where none is named.
+    pub entry: u32,
+}
+
 // Each function asks what C asks: a pointer is aligned, not null, and names as many elements as the
 // count after it says; memory that a call writes is named by no other argument of it.
 extern "C" {
@@ -229,6 +241,15 @@ extern "C" {
         households: *const u8,
         households_len: usize,
     ) -> Sheet;
+
+    /// The entry that would win the first election step whichever weights within the bounds are chosen.
+    pub fn joukerpan_forecast(
+        record: Record,
+        log: *const u32,
+        log_len: usize,
+        lowest: Weights,
+        highest: Weights,
+    ) -> Foreseen;
 }
 
 /// The layout that the engine was compiled for.
@@ -251,4 +272,5 @@ const _: () = {
     assert!(size_of::<Taken>() == 1416 && offset_of!(Taken, number) == 1400 && offset_of!(Taken, places) == 1408);
     assert!(size_of::<Row>() == 16 && offset_of!(Row, total) == 8);
     assert!(size_of::<Sheet>() == 1040 && offset_of!(Sheet, count) == 8 && offset_of!(Sheet, rows) == 16);
+    assert!(size_of::<Foreseen>() == 12 && offset_of!(Foreseen, named) == 4 && offset_of!(Foreseen, entry) == 8);
 };

@@ -28,7 +28,8 @@
 //! # Ok::<(), Refused>(())
 //! ```
 //!
-//! The tabulator's sheet of households, class by class, is [`Office::sheet`].
+//! The tabulator's sheet of households, class by class, is [`Office::sheet`]. What would win by next round's
+//! weights, where they are known within bounds, is [`Office::forecast`].
 //!
 //! What a service owes in return, above all how it stores an office, stands at [`Office`]. That an edit
 //! can lose, and how that is noticed, stands at [`Office::pending`].

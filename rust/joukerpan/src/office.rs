@@ -1,6 +1,7 @@
 //! One office: its record and its log, and every call of the engine on them.
 
 use std::fmt;
+use std::ops::RangeInclusive;
 
 use joukerpan_sys as engine;
 use joukerpan_sys::{Record, Weights, LINES, LOG, MESSAGE_MAX, OFFICES};
@@ -343,6 +344,42 @@ impl Office {
         };
         Refused::check(answer.number)?;
         Ok(Sheet::from(answer))
+    }
+
+    /// The entry that would win the first election step here whichever weights within the bounds are chosen,
+    /// or that none would: for next round's weights, of which a lowest and a highest are known.
+    ///
+    /// There is a range for each office. An office without one may have any weight, 0 to 65535; a range
+    /// without an office is not looked at. The entry is named exactly if it wins under every choice, by the
+    /// votes known here and the ties of the settled log as it stands (proved); all weights 0 is a choice,
+    /// under which nothing wins. The weights that the office has play no part.
+    ///
+    /// # Errors
+    ///
+    /// [`Refused::NoWeights`] where an office's range begins above its end.
+    ///
+    /// ```
+    /// use joukerpan::{Entry, Office, Refused};
+    ///
+    /// let mut here = Office::found(0, &[40, 35, 25])?;
+    /// here.issue(5, 120)?;
+    /// let edit = Entry { office: 0, line: 5, code: 120 };
+    ///
+    /// assert_eq!(here.forecast(&[60..=80, 10..=30, 5..=25])?, Some(edit)); // 60 is above 30 + 25
+    /// assert_eq!(here.forecast(&[55..=80, 10..=30, 5..=25])?, None);       // 55 is not
+    /// assert_eq!(here.forecast(&[0..=80, 0..=0, 0..=0])?, None);           // all may be 0
+    /// assert_eq!(here.forecast(&[80..=60, 10..=30, 5..=25]), Err(Refused::NoWeights));
+    /// # Ok::<(), Refused>(())
+    /// ```
+    pub fn forecast(&self, bounds: &[RangeInclusive<u16>]) -> Result<Option<Entry>, Refused> {
+        let (mut lowest, mut highest) = (Weights { of: [0; OFFICES] }, Weights { of: [u16::MAX; OFFICES] });
+        for (place, range) in bounds.iter().take(OFFICES).enumerate() {
+            (lowest.of[place], highest.of[place]) = (*range.start(), *range.end());
+        }
+        // SAFETY: the log names its words for as long as the call lasts; the engine only reads them.
+        let answer = unsafe { engine::joukerpan_forecast(self.record, self.log.as_ptr(), LOG, lowest, highest) };
+        Refused::check(answer.number)?;
+        Ok(answer.named.then(|| Entry::from(answer.entry)))
     }
 
     /// Settles the entries that have won, and answers how many: 0 where none has. Each is counted by the

@@ -53,10 +53,12 @@ pub enum Refused {
     PartFull = 11,
     /// The bytes are not household records, have a line above 63, or are more than 1,000,000 records.
     NoHouseholds = 12,
+    /// A lowest weight exceeds its highest.
+    NoWeights = 15,
 }
 
 /// Every refusal, by rising number.
-const ALL: [Refused; 12] = [
+const ALL: [Refused; 13] = [
     Refused::Unsound,
     Refused::Founding,
     Refused::NoEntry,
@@ -69,10 +71,11 @@ const ALL: [Refused; 12] = [
     Refused::OtherLog,
     Refused::PartFull,
     Refused::NoHouseholds,
+    Refused::NoWeights,
 ];
 
 impl Refused {
-    /// The number of the refusal, 1 to 12.
+    /// The number of the refusal: 1 to 12, or 15.
     pub fn number(self) -> u32 {
         self as u32
     }
@@ -118,6 +121,7 @@ impl Refused {
             Refused::NoHouseholds => {
                 "the bytes are not household records, have a line above 63, or are more than 1000000 records"
             }
+            Refused::NoWeights => "a lowest weight exceeds its highest",
         }
     }
 }
@@ -148,7 +152,7 @@ mod tests {
 
     #[test]
     fn no_other_number_is_a_refusal() {
-        for number in [0, 13, 256, u32::MAX] {
+        for number in [0, 13, 14, 16, 256, u32::MAX] {
             assert_eq!(Refused::from_number(number), None);
         }
     }
