@@ -15,13 +15,18 @@ pub(crate) struct Tally<'a> {
 }
 
 impl<'a> Tally<'a> {
-    /// The tally of a sound record with this settled log.
+    /// The tally of a sound record with this settled log, by its present weights.
     pub(crate) fn of(record: &Record, settled: &'a [u32]) -> Tally<'a> {
+        Tally::by(&record.present, record, settled)
+    }
+
+    /// The tally of a sound record with this settled log, by these weights.
+    pub(crate) fn by(weights: &[u16; OFFICES], record: &Record, settled: &'a [u32]) -> Tally<'a> {
         let mut tally = Tally { first: [None; OFFICES], support: [0; OFFICES], unheard: 0, settled };
         for (office, ballot) in record.ballots[..record.n].iter().enumerate() {
             tally.first[office] = ballot.tail().first().copied();
         }
-        for (office, &weight) in record.present[..record.n].iter().enumerate() {
+        for (office, &weight) in weights[..record.n].iter().enumerate() {
             let Some(voted) = tally.first[office] else {
                 tally.unheard += u32::from(weight);
                 continue;

@@ -18,7 +18,7 @@ const USAGE: &str = "usage:
   second survey < SCRIPT                    count what it shows
   second trial < SCRIPT                     answer a trial script
   second generate-trials KIND SEED COUNT    write one: boundaries elections takes damaged random sheets earlier
-                                            vectors
+                                            vectors forecasts
   second shrink rehearse|trial FILE PROGRAM ARGUMENT…
                                             the least of the script in FILE that PROGRAM answers otherwise";
 

@@ -42,6 +42,8 @@ pub const NO_HOUSEHOLDS: u32 = 12;
 pub const NO_PLACE: u32 = 13;
 /// The vector has not exactly n counts of at most 1024.
 pub const NO_VECTOR: u32 = 14;
+/// A lowest weight is above its highest.
+pub const NO_BOUNDS: u32 = 15;
 
 /// A tail of entries; length 0 means none, or unknown. Unused cells are zero.
 #[repr(C)]

@@ -346,3 +346,30 @@ pub fn any_vector(random: &mut Random, sample: &Sample) -> Vec<u8> {
     }
     vector
 }
+
+/// Lowest and highest weights: the same, near each other, around the record's own, far apart, or seldom the wrong way
+/// round at a place before n; any numbers from place n on.
+pub fn any_bounds(random: &mut Random, record: &Record) -> ([u16; OFFICES], [u16; OFFICES]) {
+    let (mut lowest, mut highest) = ([0; OFFICES], [0; OFFICES]);
+    let (kind, level) = (random.below(6), random.pick(&[1, 2, 10, 50, 1000]));
+    for office in 0..OFFICES {
+        let own = record.present[office];
+        let near = random.within(1, 3) as u16 * level;
+        (lowest[office], highest[office]) = match kind {
+            0 => (own, own),
+            1 => (own.saturating_sub(near), own.saturating_add(near)),
+            2 => (near, near + random.below(2) as u16),
+            3 => (near, near * 2),
+            4 => random.pick(&[(0, 0), (0, 1), (1, 1), (0, u16::MAX), (u16::MAX, u16::MAX)]),
+            _ => (near, near),
+        };
+        if office >= record.n && random.percent(50) {
+            (lowest[office], highest[office]) = (random.bits() as u16, random.bits() as u16);
+        }
+    }
+    if random.percent(6) {
+        let office = random.below(record.n);
+        lowest[office] = highest[office].saturating_add(1);
+    }
+    (lowest, highest)
+}

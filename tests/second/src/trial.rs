@@ -6,6 +6,7 @@ use crate::archive::{compare_vector, write_vectors};
 use crate::calls::{found, issue, settled, settled_codes, settled_frame, tentative_frame};
 use crate::earlier::earlier;
 use crate::elect::elect;
+use crate::forecast::forecast;
 use crate::lines::{each_line, letter_and_numbers};
 use crate::message::send;
 use crate::record::{sound, stored, Ballot, Record, OFFICES, TAIL};
@@ -181,6 +182,11 @@ impl State {
             (b'C', 0) => {
                 let (number, standings) = compare_vector(&self.record, &self.log, &self.message);
                 vec![number.into(), Digest::of(&standings.map(|standing| standing as u32))]
+            }
+            (b'B', 16) => {
+                let (lowest, highest) = (weights(&values[..8])?, weights(&values[8..])?);
+                let (number, named) = forecast(&self.record, &self.log, lowest, highest);
+                vec![number.into(), named.map_or(0, |word| u64::from(word) + 1)]
             }
             (b'Q', 1) => self.earlier(values[0] as usize),
             (b'T', 0) => {

@@ -9,6 +9,7 @@ mod cases;
 mod codes;
 mod damaged;
 mod earlier;
+mod forecasts;
 mod layout;
 mod moves;
 mod parts;
@@ -20,7 +21,8 @@ mod ties;
 mod vectors;
 
 /// The kinds of trial script there are.
-pub const KINDS: [&str; 8] = ["boundaries", "elections", "takes", "damaged", "random", "sheets", "earlier", "vectors"];
+pub const KINDS: [&str; 9] =
+    ["boundaries", "elections", "takes", "damaged", "random", "sheets", "earlier", "vectors", "forecasts"];
 
 /// Words or bytes of a line that has several.
 const WORDS: usize = 10;
@@ -208,6 +210,7 @@ pub fn script(kind: &str, seed: u64, count: usize) -> Option<Vec<u8>> {
         "sheets" => sheets::write(&mut trials, seed, count),
         "earlier" => earlier::write(&mut trials, seed, count),
         "vectors" => vectors::write(&mut trials, seed, count),
+        "forecasts" => forecasts::write(&mut trials, seed, count),
         _ => return None,
     }
     Some(trials.text)

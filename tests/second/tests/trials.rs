@@ -20,7 +20,7 @@ fn the_documents_example() {
 }
 
 /// Lines outside the language, each for one cause.
-const WRONG: [&str; 62] = [
+const WRONG: [&str; 64] = [
     "",
     "d 1",
     "q",
@@ -78,6 +78,8 @@ const WRONG: [&str; 62] = [
     "H 0",
     "W 0",
     "C 0",
+    "B 1 1 1 1 1 1 1 1 1 1 1 1 1 1 1",
+    "B 1 1 1 1 1 1 1 1 1 1 1 1 1 1 1 65536",
     "Q",
     "Q 0 5",
     "I  0 0",
@@ -121,6 +123,7 @@ fn every_number_of_the_further_calls_is_shown() {
         ("sheets", &["H 0 0 0 ", "H 0 64 ", "H 1 0 0 ", "H 12 0 0 "][..]),
         ("earlier", &["Q 0 0 ", "Q 0 1 ", "Q 0 64 ", "Q 0 1024 ", "Q 1 0 ", "Q 3 0 ", "Q 13 0 "]),
         ("vectors", &["W 0 8 ", "W 0 288 ", "W 1 0 ", "W 6 0 ", "C 0 ", "C 1 ", "C 14 "]),
+        ("forecasts", &["B 0 0 ", "B 0 327801 ", "B 1 0 ", "B 15 0 "]),
     ] {
         let answers = tried(&script(kind, 1, 100).unwrap());
         for beginning in beginnings {
