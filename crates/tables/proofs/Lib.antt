@@ -1,0 +1,4 @@
+-- Laws of the list of tables.
+pub mod Places
+pub mod Made
+pub mod Listed

@@ -1,0 +1,3 @@
+-- Every small ballot table of three offices.
+pub mod Tables
+pub mod Listed
