@@ -31,7 +31,7 @@ put-entries-spec =
     tie.close
     (tie.spec Inv-loop μ-loop
     (λ c. let s = c .before .before .before in omega (arith, s .pre .1)) add-result
-    (λ c. let a = c .before .before .before .args in length-set (a .out .now) (a .at) 45)
+    (λ c. let a = c .before .before .before .args in length-set (a .out .now) (a .at) _)
     (λ c. put-dash _ _ _ (c .if1 .taken))
     (λ c. digits-begins _ _ _) (λ c. search needs) (λ c. search needs) (λ c κs. search needs) (λ c κs. search needs) (λ c. search needs)
     (λ c. search needs) loop-again (λ c. c .before .loop .inv .left .long) returns-2)
