@@ -21,6 +21,7 @@ pub mod samples;
 pub mod sheet;
 pub mod shrink;
 pub mod survey;
+pub mod tables;
 pub mod take;
 pub mod trial;
 pub mod trials;

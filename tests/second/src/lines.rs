@@ -75,10 +75,16 @@ pub fn letter_and_numbers(line: &[u8], limit: u64, numbers: &mut [u64]) -> Optio
     if space != b' ' {
         return None;
     }
+    Some((letter, numbers_of(rest, limit, numbers)?))
+}
+
+/// The numbers that the bytes spell, single spaces between them, one at least. At most as many as there is room for;
+/// answers how many there are.
+pub fn numbers_of(bytes: &[u8], limit: u64, numbers: &mut [u64]) -> Option<usize> {
     let mut count = 0;
-    for part in rest.split(|&byte| byte == b' ') {
+    for part in bytes.split(|&byte| byte == b' ') {
         *numbers.get_mut(count)? = number(part, limit)?;
         count += 1;
     }
-    Some((letter, count))
+    Some(count)
 }

@@ -8,6 +8,7 @@ use std::process::ExitCode;
 use second::rehearsal::rehearse;
 use second::shrink::{program_differs, shrink};
 use second::survey::survey;
+use second::tables::{self, print_tables};
 use second::trial::trial;
 use second::{generate, trials};
 
@@ -19,6 +20,8 @@ const USAGE: &str = "usage:
   second trial < SCRIPT                     answer a trial script
   second generate-trials KIND SEED COUNT    write one: boundaries elections takes damaged random sheets earlier
                                             vectors forecasts
+  second tables < WEIGHTS                   print every small ballot table with what is elected from it
+  second generate-tables SEED               write weights, now and then something else
   second shrink rehearse|trial FILE PROGRAM ARGUMENT…
                                             the least of the script in FILE that PROGRAM answers otherwise";
 
@@ -60,6 +63,8 @@ fn run(words: &[&str]) -> Result<()> {
     let text = match *words {
         ["rehearse"] => return rehearse(stdin().lock(), output),
         ["trial"] => return trial(stdin().lock(), output),
+        ["tables"] => return print_tables(stdin().lock(), output),
+        ["generate-tables", seed] => Some(tables::input(number(seed)?)),
         ["survey"] => return survey(stdin().lock(), output),
         ["generate", kind, seed, lines] => generate::script(kind, number(seed)?, number(lines)? as usize),
         ["generate-trials", kind, seed, count] => trials::script(kind, number(seed)?, number(count)? as usize),
