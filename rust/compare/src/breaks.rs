@@ -87,13 +87,20 @@ pub fn break_clause(random: &mut Random, clause: usize, sample: &mut Sample) {
         21 => too_long_a_path(record, log, office),
         22..=25 => return break_present(random, clause, sample),
         26..=29 => return break_codes(random, clause, sample),
-        _ if n == 1 => record.ballots[office].len = TAIL + 1,
-        _ => {
-            record.ballots[office] = Ballot::of(&crowded(random, n));
-            record.settled = record.settled.min(LOG - TAIL);
-        }
+        _ => crowd(random, record, office),
     }
     sample.derive(); // so that no other clause is broken
+}
+
+/// Gives one office more of a ballot than its part; where it is alone, more than a tail has.
+fn crowd(random: &mut Random, record: &mut Record, office: usize) {
+    let n = record.n.clamp(1, OFFICES);
+    if n == 1 {
+        record.ballots[office].len = TAIL + 1;
+        return;
+    }
+    record.ballots[office] = Ballot::of(&crowded(random, n));
+    record.settled = record.settled.min(LOG - TAIL);
 }
 
 /// Breaks the present weights; where the clause cannot be broken so, one of them by itself.

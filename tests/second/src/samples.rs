@@ -154,8 +154,8 @@ impl Family {
                 *word = random.pick(&entries);
             }
             // Runs of each office's entries in turn: full parts.
-            if run > 0 {
-                *word = issued_by(at / run % n, *word);
+            if let Some(turn) = at.checked_div(run) {
+                *word = issued_by(turn % n, *word);
             }
         }
         Family { n, weights: all, entries, path, around }

@@ -151,6 +151,18 @@ impl State {
 
     /// Runs a call and appends its letter, its number, its values and the digest of the state after it.
     fn call(&mut self, letter: u8, values: &[u64], output: &mut Vec<u8>) -> Option<()> {
+        let answers = self.frame_call(letter, values).or_else(|| self.further_call(letter, values))?;
+        output.push(letter);
+        for answer in answers {
+            push_number(output, answer);
+        }
+        push_number(output, self.digest());
+        output.push(b'\n');
+        Some(())
+    }
+
+    /// Runs a call of the frame itself: its number and values.
+    fn frame_call(&mut self, letter: u8, values: &[u64]) -> Option<Vec<u64>> {
         let answers = match (letter, values.len()) {
             (b'F', 10) => self.found(values)?,
             (b'I', 2) => {
@@ -174,7 +186,21 @@ impl State {
                 let (number, length) = send(&self.record, &self.log, &mut self.output);
                 vec![number.into(), length as u64]
             }
+            (b'T', 0) => {
+                let (number, places, record) = take(self.record, &mut self.log, &self.message);
+                self.record = record;
+                vec![number.into(), places as u64]
+            }
+            _ => return None,
+        };
+        Some(answers)
+    }
+
+    /// Runs a call that only reads the record: its number and values.
+    fn further_call(&mut self, letter: u8, values: &[u64]) -> Option<Vec<u64>> {
+        let answers = match (letter, values.len()) {
             (b'H', 0) => self.sheet(),
+            (b'Q', 1) => self.earlier(values[0] as usize),
             (b'W', 0) => {
                 let (number, length) = write_vectors(&self.record, &self.log, &mut self.output);
                 vec![number.into(), length as u64]
@@ -188,21 +214,9 @@ impl State {
                 let (number, named) = forecast(&self.record, &self.log, lowest, highest);
                 vec![number.into(), named.map_or(0, |word| u64::from(word) + 1)]
             }
-            (b'Q', 1) => self.earlier(values[0] as usize),
-            (b'T', 0) => {
-                let (number, places, record) = take(self.record, &mut self.log, &self.message);
-                self.record = record;
-                vec![number.into(), places as u64]
-            }
             _ => return None,
         };
-        output.push(letter);
-        for answer in answers {
-            push_number(output, answer);
-        }
-        push_number(output, self.digest());
-        output.push(b'\n');
-        Some(())
+        Some(answers)
     }
 
     /// Founds: the number.
