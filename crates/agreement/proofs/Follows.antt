@@ -1,5 +1,5 @@
 -- The world follows the protocol: its start is the protocol's founded world, and each call of it, seen through what the records, words and
--- bytes say, is the protocol's call. Assumes nothing.
+-- bytes say, is the protocol's call; so after every list of calls it is one that the protocol reaches (`viewed`). Assumes nothing.
 use mathlib.Core.Path.{_≡_, refl, sym, ap, ap₂, subst, _∙_}
 use mathlib.Core.Bool.{Bool, true, false, _&&_, cond}
 use mathlib.Core.List.{List, [], _∷_, map}
@@ -19,9 +19,10 @@ use Rattle.protocol.specs.Take.{withTake, refuseTake}
 use Rattle.protocol.specs.Elect.{withElect}
 use Rattle.protocol.proofs.World as P
 use Rattle.protocol.proofs.World.{names, refusal, done, step as stepP}
+use Rattle.protocol.proofs.History as H
 use Rattle.lists.proofs.Tests.{pick-cases}
 use Rattle.frame.specs.Sending.{sendOf}
-use Rattle.agreement.specs.World.{Replica, World, Call, issue, send, take, elect, replicaAt, messageAt, onSome, put, post, posted, step}
+use Rattle.agreement.specs.World.{Replica, World, Call, issue, send, take, elect, replicaAt, messageAt, onSome, put, post, posted, step, after}
 use Rattle.agreement.specs.Demand.{Founded, says}
 use Rattle.agreement.proofs.Places.{nothing, there, map-there}
 use Rattle.agreement.proofs.View.{view, means, sendDone, callOf, SoundReplica, SoundWorld, put-sound, post-sound, view-there, view-at, view-length, put-view}
@@ -177,3 +178,18 @@ module _ (n : ℕ) (ws : List ℕ) (w : World) (s : SoundWorld n ws w) where
       go : (x : Option Replica) → replicaAt w k ≡ x → SoundWorld n ws (onSome x w (λ d. put w k (electReplica d .held) (electReplica d .words)))
       go none e = s
       go (some d) e = put-sound n ws w k (electReplica d) s (elect-sound n ws k d (s .each k d e))
+
+-- ── every list of calls ──
+module _ (n : ℕ) (ws : List ℕ) where
+  from-there : (w : World) (h : List P.Call) → SoundWorld n ws w → view w ≡ H.after (bySettled ws) n h → (cs : List Call)
+      → (SoundWorld n ws (after w cs)) × ((g : List P.Call) × (view (after w cs) ≡ H.after (bySettled ws) n g))
+  unfolding after H.after
+  from-there w h s e [] = (s, (h, e))
+  from-there w h s e (c ∷ cs) =
+      from-there (step w c) (callOf w c ∷ h) (keeps n ws w s c) (moves n ws w s c ∙ ap (λ (v : P.World). stepP (bySettled ws) v (callOf w c)) e) cs
+
+  -- the world is sound, and is viewed as one that a list of the protocol's calls has reached
+  pub viewed : (start : World) → Founded n ws start → (cs : List Call)
+      → (SoundWorld n ws (after start cs)) × ((g : List P.Call) × (view (after start cs) ≡ H.after (bySettled ws) n g))
+  unfolding H.after
+  viewed start f cs = from-there start [] (sound-start n ws start f) (starts n ws start f) cs

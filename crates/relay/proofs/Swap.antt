@@ -10,26 +10,23 @@ use lib.Dec.{eqb}
 use lib.ListN.{length, getD, set}
 use borrow.Author.Tests.{eqb-true, eqb-false}
 use Rattle.lists.proofs.Tests.{map-set}
-use Rattle.protocol.specs.Vote.{Rule}
 use Rattle.protocol.specs.SettledRule.{bySettled}
 use Rattle.protocol.specs.Office.{Office, tail}
 use Rattle.protocol.specs.Take.{withTake, refuseTake}
 use Rattle.protocol.proofs.Lawful.{settled-lawful}
 use Rattle.protocol.proofs.Limits.{take-grows}
-use Rattle.protocol.proofs.World as P
-use Rattle.protocol.proofs.History as H
 use Rattle.protocol.proofs.Swap as L
 use Rattle.ballots.specs.Ballots.{ballotOf, noBallot, wordsWith}
 use Rattle.frame.specs.State.{withHeld, doneBy}
 use Rattle.frame.specs.Taking.{takeOf}
 use Rattle.frame.proofs.State.{held-by}
-use Rattle.agreement.specs.World.{Replica, World, Call, messageAt, step, after}
+use Rattle.agreement.specs.World.{Replica, World, Call, messageAt, after}
 use Rattle.agreement.specs.Demand.{Founded, says}
 use Rattle.agreement.proofs.Places.{map-there}
-use Rattle.agreement.proofs.View.{view, means, callOf, SoundReplica, SoundWorld, Readable, view-at}
+use Rattle.agreement.proofs.View.{view, means, SoundReplica, SoundWorld, Readable, view-at}
 use Rattle.agreement.proofs.Held.{holds, replica-fine}
 use Rattle.agreement.proofs.Taken.{take-number, take-sound, take-refused}
-use Rattle.agreement.proofs.Follows.{sound-start, starts, moves, keeps}
+use Rattle.agreement.proofs.Follows.{viewed}
 use Rattle.relay.specs.Relay.{Accepts, taken, SameButOwn, Swapped, EitherOrder}
 use Rattle.relay.proofs.Holding.{holds-again}
 use Rattle.relay.proofs.Twice.{accepted-is, taken-is, taken-says}
@@ -109,17 +106,6 @@ module _ (n : ℕ) (ws : List ℕ) (k : ℕ) (d : Replica) (m : SoundReplica n w
 
 -- ── after every list of calls ──
 module _ (n : ℕ) (ws : List ℕ) where
-  abbrev rule : Rule
-  rule = bySettled ws
-
-  -- the world is viewed as one that some history on lists has reached
-  viewed : (w : World) (h : List P.Call) → SoundWorld n ws w → view w ≡ H.after rule n h → (cs : List Call)
-      → (SoundWorld n ws (after w cs)) × ((g : List P.Call) × (view (after w cs) ≡ H.after rule n g))
-  unfolding after H.after
-  viewed w h s e [] = (s, (h, e))
-  viewed w h s e (c ∷ cs) =
-      viewed (step w c) (callOf w c ∷ h) (keeps n ws w s c) (moves n ws w s c ∙ ap (λ (v : P.World). P.step rule v (callOf w c)) e) cs
-
   in-world : (w : World) → SoundWorld n ws w → L.Swaps (view w) → EitherOrder w
   in-world w s lists k i j d a b e p q = swapped n ws k d (s .each k d e) a b (s .readable i a p) (s .readable j b q) (at a b (sent i a p) (sent j b q)) (at b a (sent j b q) (sent i a p))
     where
@@ -130,7 +116,6 @@ module _ (n : ℕ) (ws : List ℕ) where
       at a b p q = subst (L.EitherOrder k (means a) (means b)) (view-at w k d e) (lists k (means a) (means b) p q)
 
 pub either-order : (n : ℕ) (weights : List ℕ) (start : World) → Founded n weights start → (cs : List Call) → EitherOrder (after start cs)
-unfolding H.after
 either-order n ws start f cs =
-    let v = viewed n ws start [] (sound-start n ws start f) (starts n ws start f) cs in
+    let v = viewed n ws start f cs in
     in-world n ws (after start cs) (v .0) (subst L.Swaps (sym (v .1 .1)) (L.either-order (bySettled ws) n (settled-lawful ws) (f .any) (v .1 .0)))
