@@ -1,0 +1,117 @@
+-- Counts decide in any office of the world on records, and so does what the archive's calls answer there. Assumes nothing.
+use mathlib.Core.Path.{_≡_, refl, sym, ap, subst, _∙_}
+use mathlib.Core.List.{List}
+use mathlib.Core.Logic.{_⊎_, _↔_, inl, inr}
+use mathlib.Core.Option.{some}
+use Prim.Native.Nat.{ℕ, zero, suc, _≤_, _<_}
+use native.Mathlib.Decide.{decLt}
+use native.Mathlib.Omega.{arith}
+use Rattle.protocol.specs.Beginning.{_⊑_, _⊏_}
+use Rattle.protocol.specs.Counts.{countOf}
+use Rattle.protocol.specs.SettledRule.{bySettled}
+use Rattle.protocol.proofs.Beginning.{⊑-refl, ⊑-cases, ⊑-antisym, ⊏-⊑, ⊏-⊑-trans, ⊏-irrefl}
+use Rattle.protocol.proofs.Counts.{count-of, no-count, none-length}
+use Rattle.protocol.proofs.Lawful.{settled-lawful}
+use Rattle.protocol.proofs.World as P
+use Rattle.vectors.specs.Vectors.{vectorOf}
+use Rattle.versions.specs.Versions.{comparedTo}
+use Rattle.archive.specs.Claims.{EachLeq, FourAnswers, versionAt}
+use Rattle.archive.specs.Writing.{writeOf}
+use Rattle.archive.proofs.Claims.{four-answers, read-back, version-path}
+use Rattle.agreement.specs.World.{Replica, World, Call, replicaAt, after}
+use Rattle.agreement.specs.Demand.{Founded, says}
+use Rattle.agreement.proofs.View.{SoundReplica, view-at}
+use Rattle.agreement.proofs.Held.{few-offices}
+use Rattle.agreement.proofs.Follows.{viewed}
+use Rattle.counts_decide.specs.CountsDecide.{countsLeq, Holds, CountsDecide, Tells, Lossless, answerAt}
+use Rattle.counts_decide.proofs.CountsDecide.{counts-decide}
+
+-- ── counts and vectors ──
+leq-each : (n : ℕ) (p q : List ℕ) → countsLeq n p q → EachLeq (vectorOf n p) (vectorOf n q)
+leq-each n p q h k = go (decLt k n)
+  where
+    go : Dec (k < n) → countOf (vectorOf n p) k ≤ countOf (vectorOf n q) k
+    go (yes b) = omega (arith, count-of n p k b, count-of n q k b, h k b)
+    go (no b) = omega (arith, no-count (vectorOf n p) k (omega (arith, none-length n p)))
+
+each-leq : (n : ℕ) (p q : List ℕ) → EachLeq (vectorOf n p) (vectorOf n q) → countsLeq n p q
+each-leq n p q h k b = omega (arith, count-of n p k b, count-of n q k b, h k)
+
+strict : (p q : List ℕ) → p ⊑ q → (q ⊑ p → ⊥) → p ⊏ q
+strict p q h f = go (⊑-cases p q h)
+  where
+    go : (p ≡ q) ⊎ (p ⊏ q) → p ⊏ q
+    go (inl e) = absurd (f (subst (λ (z : List ℕ). z ⊑ p) e (⊑-refl p)))
+    go (inr x) = x
+
+not-back : (p q : List ℕ) → p ⊏ q → q ⊑ p → ⊥
+not-back p q h g = ⊏-irrefl p (⊏-⊑-trans p q p h g)
+
+-- two versions of which counts decide
+module _ (n : ℕ) (p q : List ℕ) (pq : (p ⊑ q) ↔ countsLeq n p q) (qp : (q ⊑ p) ↔ countsLeq n q p) where
+  up : p ⊑ q → EachLeq (vectorOf n p) (vectorOf n q)
+  up h = leq-each n p q (pq .0 h)
+
+  up-back : EachLeq (vectorOf n p) (vectorOf n q) → p ⊑ q
+  up-back h = pq .1 (each-leq n p q h)
+
+  down : q ⊑ p → EachLeq (vectorOf n q) (vectorOf n p)
+  down h = leq-each n q p (qp .0 h)
+
+  down-back : EachLeq (vectorOf n q) (vectorOf n p) → q ⊑ p
+  down-back h = qp .1 (each-leq n q p h)
+
+  four : FourAnswers (vectorOf n p) (vectorOf n q)
+  four = four-answers (vectorOf n p) (vectorOf n q) (none-length n p ∙ sym (none-length n q))
+
+  told : (x : ℕ) → x ≡ comparedTo (vectorOf n p) (vectorOf n q) → Tells p q x
+  told x e = record {
+    comes-before = (
+      λ y. let g = four .comes-before .0 (sym e ∙ y) in strict p q (up-back (g .0)) (λ h. g .1 (down h)),
+      λ h. e ∙ four .comes-before .1 (up (⊏-⊑ p q h), λ g. not-back p q h (down-back g)),
+    );
+    equals = (
+      λ y. let v = four .equals .0 (sym e ∙ y) in ⊑-antisym p q (up-back (λ k. omega (arith, ap (λ (c : List ℕ). countOf c k) v))) (down-back (λ k. omega (arith, ap (λ (c : List ℕ). countOf c k) v))),
+      λ h. e ∙ four .equals .1 (ap (vectorOf n) h),
+    );
+    comes-after = (
+      λ y. let g = four .comes-after .0 (sym e ∙ y) in strict q p (down-back (g .0)) (λ h. g .1 (up h)),
+      λ h. e ∙ four .comes-after .1 (down (⊏-⊑ q p h), λ g. not-back q p h (up-back g)),
+    );
+    stands-beside = (
+      λ y. let g = four .stands-beside .0 (sym e ∙ y) in (λ h. g .0 (up h), λ h. g .1 (down h)),
+      λ h. e ∙ four .stands-beside .1 (λ g. h .0 (up-back g), λ g. h .1 (down-back g)),
+    );
+  }
+
+-- ── one office of the world ──
+-- its versions are its log and its ballots' paths
+version-held : (n : ℕ) (ws : List ℕ) (k : ℕ) (d : Replica) → SoundReplica n ws k d → (i : ℕ) → i ≤ d .held .n → Holds (says d) (versionAt (d .held) (d .words) i)
+version-held n ws k d m zero h = inl refl
+version-held n ws k d m (suc i) h = inr (i, version-path (d .held) (d .words) (m .sound) i (omega arith))
+
+module _ (n : ℕ) (ws : List ℕ) (start : World) (f : Founded n ws start) (cs : List Call) where
+  sound-at : (k : ℕ) (d : Replica) → replicaAt (after start cs) k ≡ some d → SoundReplica n ws k d
+  sound-at k d e = viewed n ws start f cs .0 .each k d e
+
+  decides : (k : ℕ) (d : Replica) → replicaAt (after start cs) k ≡ some d → CountsDecide n (says d)
+  decides k d e =
+      let v = viewed n ws start f cs .1 in
+      subst (CountsDecide n) (ap (λ (x : P.World). P.at x k) (sym (v .1)) ∙ view-at (after start cs) k d e)
+      (counts-decide (bySettled ws) n (few-offices n ws k d (sound-at k d e)) (settled-lawful ws) (f .any) (v .0) k)
+
+  tells : (k : ℕ) (d : Replica) → replicaAt (after start cs) k ≡ some d → (out : List ℕ) → writeOf (d .held) (d .words) out .number ≡ 0 → (i j : ℕ) → i ≤ n → j ≤ n
+      → Tells (versionAt (d .held) (d .words) j) (versionAt (d .held) (d .words) i) (answerAt d out i j)
+  tells k d e out done i j hi hj =
+      let m = sound-at k d e in
+      let law : CountsDecide (d .held .n) (says d) = subst (λ (z : ℕ). CountsDecide z (says d)) (sym (m .count)) (decides k d e) in
+      let a : i ≤ d .held .n = omega (arith, m .count) in
+      let b : j ≤ d .held .n = omega (arith, m .count) in
+      let p = versionAt (d .held) (d .words) j in
+      let q = versionAt (d .held) (d .words) i in
+      let x = version-held n ws k d m j b in
+      let y = version-held n ws k d m i a in
+      told (d .held .n) p q (law p q x y) (law q p y x) (answerAt d out i j) (read-back (d .held) (d .words) out done .answers i j a b)
+
+pub lossless : (n : ℕ) (weights : List ℕ) (start : World) → Founded n weights start → (cs : List Call) → Lossless n (after start cs)
+lossless n ws start f cs = record { decides = decides n ws start f cs; tells = tells n ws start f cs }
