@@ -8,6 +8,7 @@ use frame::Record;
 use frame::frames::Edit;
 use lists::within;
 use tabulation::Row;
+use tallies::Winner;
 
 // Prints a space and a number.
 fn print(number: u64) {
@@ -148,6 +149,69 @@ fn households(book: &Book, log: &[u32]) {
     print(rows_digest(rows, made.count));
 }
 
+// `Q p`
+fn earlier(book: &Book, log: &[u32]) {
+    let length = within(book[book::MESSAGE] as usize, book::BYTES);
+    let mut lines = [0u32; 7100];
+    book::to_words(book, book::MESSAGE + 1, &mut lines);
+    let made = earlier::frame_at(record::of(book), log, book[SAID] as usize, &lines[..length]);
+    let edits = made.edits;
+    print(made.number as u64);
+    print(made.words as u64);
+    print(part_digest(&edits));
+}
+
+// `W`
+fn vectors(book: &mut Book, log: &[u32]) {
+    let length = within(book[book::OUTPUT] as usize, book::BYTES);
+    let mut output = [0u8; 7100];
+    book::to_bytes(book, book::OUTPUT + 1, &mut output);
+    let made = archive::write(record::of(book), log, &mut output[..length]);
+    print(made.number as u64);
+    print(made.length as u64);
+    book::from_bytes(&output, book, book::OUTPUT + 1);
+}
+
+// `C`
+fn compare(book: &Book, log: &[u32]) {
+    let length = within(book[book::MESSAGE] as usize, book::BYTES);
+    let mut message = [0u8; 7100];
+    book::to_bytes(book, book::MESSAGE + 1, &mut message);
+    let made = archive::compare(record::of(book), log, &message[..length]);
+    let answers = made.answers;
+    print(made.number as u64);
+    print(part_digest(&answers));
+}
+
+// The entry that is named, as a frame's code is stored: 0 for none, else its value + 1.
+fn named(winner: Winner) -> u64 {
+    match winner {
+        Winner::Entry(e) => e as u64 + 1,
+        Winner::Nobody => 0,
+    }
+}
+
+// `B l0 … l7 h0 … h7`
+fn forecast(book: &Book, log: &[u32]) {
+    let lowest = record::weights(book, SAID);
+    let highest = record::weights(book, SAID + 8);
+    let made = forecast::first_step(record::of(book), log, lowest, highest);
+    let winner = made.winner;
+    print(made.number as u64);
+    print(named(winner));
+}
+
+// The calls of the crates above `frame`.
+fn make_above(book: &mut Book, letter: u8, log: &[u32]) {
+    match letter {
+        b'H' => households(book, log),
+        b'Q' => earlier(book, log),
+        b'W' => vectors(book, log),
+        b'C' => compare(book, log),
+        _ => forecast(book, log),
+    }
+}
+
 // Makes the call that the letter names, and prints what it answers.
 fn make(book: &mut Book, letter: u8, log: &mut [u32]) {
     match letter {
@@ -159,8 +223,8 @@ fn make(book: &mut Book, letter: u8, log: &mut [u32]) {
         b'U' => sound(book, log),
         b'E' => elect(book, log),
         b'S' => send(book, log),
-        b'H' => households(book, log),
-        _ => take(book, log),
+        b'T' => take(book, log),
+        _ => make_above(book, letter, log),
     }
 }
 

@@ -6,8 +6,21 @@ mod record;
 mod script;
 mod setting;
 
+ghost use Prim.Native.Nat.{_≤_};
 use book::Book;
 use lists::within;
+
+// Whether the numbers of a line that calls are within their limits: those of founding, weights, a place of any size, and words.
+fn fits(book: &Book, letter: u8, count: usize) -> bool
+    requires { ⌜ count ≤ 24 ⌝ }
+{
+    match letter {
+        b'F' => setting::fit(book, 0, 0, count),
+        b'B' => setting::fit(book, book::WEIGHTS, 0, count),
+        b'Q' => true,
+        _ => setting::fit(book, book::LOG + 1, 0, count),
+    }
+}
 
 // Runs a line that sets or calls. Answers false where it is neither, or a number is outside its limits.
 fn run(book: &mut Book, letter: u8, count: usize) -> bool {
@@ -20,14 +33,8 @@ fn run(book: &mut Book, letter: u8, count: usize) -> bool {
     if letter >= b'a' {
         return setting::set(book, letter, count);
     }
-    if letter == b'F' {
-        if !setting::fit(book, 0, 0, count) {
-            return false;
-        }
-    } else {
-        if !setting::fit(book, book::LOG + 1, 0, count) {
-            return false;
-        }
+    if !fits(book, letter, count) {
+        return false;
     }
     calling::call(book, letter);
     true

@@ -39,9 +39,10 @@ pub fn counted(letter: u8, count: usize) -> bool {
         return false;
     }
     match letter {
-        b'd' | b'P' | b'A' | b'U' | b'E' | b'S' | b'T' | b'H' => count == 0,
-        b'c' | b'g' | b'V' => count == 1,
+        b'd' | b'P' | b'A' | b'U' | b'E' | b'S' | b'T' | b'H' | b'W' | b'C' => count == 0,
+        b'c' | b'g' | b'V' | b'Q' => count == 1,
         b'b' | b'l' | b'o' | b'x' | b'I' => count == 2,
+        b'B' => count == 16,
         b'F' => count == 10,
         b'r' => count == 11,
         b'p' => count == 8,
