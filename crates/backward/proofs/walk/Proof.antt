@@ -34,14 +34,14 @@ sub-left : tie.Need-sub-left Inv-loop μ-loop
 sub-left c =
     let l = turn c .loop in
     let s = start (turn c) in
-    new-within (s .args .lines .now) (s .args .words .now) (s .pre) (l .left) (l .cells) (l .end) (l .inv) (c .before .before .before .before .loop-test .taken)
+    new-within (s .args .lines .now) (s .args .words .now) (s .pre) (l .left) (l .cells) (l .end) (l .inv) (omega (arith, c .before .before .before .before .loop-test .taken))
     (l .end - 1) (before-last c) _ (c .note .result) (c .note .ensures .0) (c .note .ensures .1)
 
 loop-again : tie.Need-loop-again Inv-loop μ-loop
 loop-again c =
     let l = turn c .loop in
     let s = start (turn c) in
-    walking-again (s .args .lines .now) (s .args .words .now) (s .pre) (l .left) (l .cells) (l .end) (l .inv) (c .before .before .before .before .loop-test .taken)
+    walking-again (s .args .lines .now) (s .args .words .now) (s .pre) (l .left) (l .cells) (l .end) (l .inv) (omega (arith, c .before .before .before .before .loop-test .taken))
     (l .end - 1) (before-last c) _ (c .note .result) (c .note .ensures .0) (c .note .ensures .1)
 
 returns : tie.Need-returns Inv-loop μ-loop
