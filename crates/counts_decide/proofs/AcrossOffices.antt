@@ -39,7 +39,7 @@ use Rattle.agreement.specs.World.{Replica, World, Call, issue, send, take, elec
 use Rattle.agreement.specs.Demand.{Founded, says}
 use Rattle.agreement.proofs.Founded.{foundReplica}
 use Rattle.agreement.proofs.ThreeOffices.{usualWeights, emptyLog, threeOffices, three-founded}
-use Rattle.counts_decide.specs.CountsDecide.{countsLeq, Holds}
+use Rattle.counts_decide.specs.CountsDecide.{countsLeq, HeldAt}
 
 -- ── a list of calls ──
 -- a send with room for its message
@@ -55,8 +55,8 @@ abbrev crossed : World
 crossed = after threeOffices crossing
 
 -- office k's record and log
-abbrev there : ℕ → Replica
-there k = getD (crossed .replicas) k (foundReplica 3 usualWeights 0 emptyLog)
+abbrev office : ℕ → Replica
+office k = getD (crossed .replicas) k (foundReplica 3 usualWeights 0 emptyLog)
 
 -- what offices 0 and 1 hold of office 1
 abbrev at0 : List ℕ
@@ -66,10 +66,10 @@ abbrev at1 : List ℕ
 at1 = value 0 5 120 ∷ value 1 5 131 ∷ []
 
 pub record Crossed : Type 0 where
-  pub office0 : replicaAt crossed 0 ≡ some (there 0)
-  pub office1 : replicaAt crossed 1 ≡ some (there 1)
-  pub first : at0 ≡ path (says (there 0)) 1
-  pub second : at1 ≡ path (says (there 1)) 1
+  pub office0 : replicaAt crossed 0 ≡ some (office 0)
+  pub office1 : replicaAt crossed 1 ≡ some (office 1)
+  pub first : at0 ≡ path (says (office 0)) 1
+  pub second : at1 ≡ path (says (office 1)) 1
 
 pub computed : Crossed
 unfolding step after begins extends electing settle withElect isEntry proper countIn fair refusalAt refuseIssue withIssue catchUp rebase refuseTake
@@ -83,9 +83,8 @@ computed = record { office0 = refl; office1 = refl; first = refl; second = refl 
 -- ── the law that it refutes ──
 -- counts decide across any two offices of a world
 abbrev AcrossDecide : Type 0
-AcrossDecide = (n : ℕ) (weights : List ℕ) (start : World) → Founded n weights start → (cs : List Call) (j k : ℕ) (d e : Replica)
-    → replicaAt (after start cs) j ≡ some d → replicaAt (after start cs) k ≡ some e
-    → (p q : List ℕ) → Holds (says d) p → Holds (says e) q → countsLeq n p q → p ⊑ q
+AcrossDecide = (n : ℕ) (weights : List ℕ) (start : World) → Founded n weights start → (cs : List Call) (j k : ℕ) (p q : List ℕ)
+    → HeldAt (after start cs) j p → HeldAt (after start cs) k q → countsLeq n p q → p ⊑ q
 
 fewer : countsLeq 3 at0 at1
 unfolding countIn
@@ -96,5 +95,7 @@ fewer (suc (suc k)) h = omega arith
 pub across-offices : AcrossDecide → ⊥
 across-offices law =
     let c = computed in
-    let h = law 3 usualWeights threeOffices three-founded crossing 0 1 (there 0) (there 1) (c .office0) (c .office1) at0 at1 (inr (1, c .first)) (inr (1, c .second)) fewer in
+    let x : HeldAt crossed 0 at0 = record { office = office 0; there = c .office0; holds = inr (1, c .first) } in
+    let y : HeldAt crossed 1 at1 = record { office = office 1; there = c .office1; holds = inr (1, c .second) } in
+    let h = law 3 usualWeights threeOffices three-founded crossing 0 1 at0 at1 x y fewer in
     omega (arith, h .0)

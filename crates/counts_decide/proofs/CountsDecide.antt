@@ -3,7 +3,7 @@
 use mathlib.Core.Path.{_≡_, refl, sym, ap, subst, _∙_}
 use mathlib.Core.List.{List, [], _∷_, _++_}
 use mathlib.Core.Bool.{Bool, true, false, cond}
-use mathlib.Core.Logic.{_⊎_, inl, inr}
+use mathlib.Core.Logic.{_⊎_, _↔_, inl, inr}
 use Prim.Native.Nat.{ℕ, zero, suc, _+_, _≤_, _<_}
 use native.Mathlib.Decide.{ℕ-discrete}
 use native.Mathlib.Omega.{arith}
@@ -23,7 +23,10 @@ use Rattle.protocol.proofs.History.{before, past-refl, past-trans, officeAt, lo
 use Rattle.protocol.proofs.Steady.{Voted, voted-unique}
 use Rattle.protocol.proofs.Issued.{Issued, EachIssued}
 use Rattle.protocol.proofs.Held.{issued-office, issued-voted, held-issued}
-use Rattle.counts_decide.specs.CountsDecide.{countsLeq, Holds, CountsDecide}
+use Rattle.counts_decide.specs.CountsDecide.{countsLeq, Holds}
+
+abbrev pub CountsDecide : ℕ → Office → Type 0
+CountsDecide n o = (p q : List ℕ) → Holds o p → Holds o q → (p ⊑ q) ↔ countsLeq n p q
 
 -- ── counts ──
 count-own : (k x : ℕ) → officeOf x ≡ k → countIn k (x ∷ []) ≡ 1

@@ -8,6 +8,7 @@ use native.Mathlib.Decide.{decLt}
 use native.Mathlib.Omega.{arith}
 use Rattle.protocol.specs.Beginning.{_⊑_, _⊏_}
 use Rattle.protocol.specs.Counts.{countOf}
+use Rattle.protocol.specs.Office.{Office}
 use Rattle.protocol.specs.SettledRule.{bySettled}
 use Rattle.protocol.proofs.Beginning.{⊑-refl, ⊑-cases, ⊑-antisym, ⊏-⊑, ⊏-⊑-trans, ⊏-irrefl}
 use Rattle.protocol.proofs.Counts.{count-of, no-count, none-length}
@@ -20,11 +21,11 @@ use Rattle.archive.specs.Writing.{writeOf}
 use Rattle.archive.proofs.Claims.{four-answers, read-back, version-path}
 use Rattle.agreement.specs.World.{Replica, World, Call, replicaAt, after}
 use Rattle.agreement.specs.Demand.{Founded, says}
-use Rattle.agreement.proofs.View.{SoundReplica, view-at}
+use Rattle.agreement.proofs.View.{SoundReplica, view, view-at}
 use Rattle.agreement.proofs.Held.{few-offices}
 use Rattle.agreement.proofs.Follows.{viewed}
-use Rattle.counts_decide.specs.CountsDecide.{countsLeq, Holds, CountsDecide, Tells, Lossless, answerAt}
-use Rattle.counts_decide.proofs.CountsDecide.{counts-decide}
+use Rattle.counts_decide.specs.CountsDecide.{countsLeq, Holds, HeldAt, Tells, Lossless, answerAt}
+use Rattle.counts_decide.proofs.CountsDecide.{CountsDecide, counts-decide}
 
 -- ── counts and vectors ──
 leq-each : (n : ℕ) (p q : List ℕ) → countsLeq n p q → EachLeq (vectorOf n p) (vectorOf n q)
@@ -94,24 +95,28 @@ module _ (n : ℕ) (ws : List ℕ) (start : World) (f : Founded n ws start) (cs 
   sound-at : (k : ℕ) (d : Replica) → replicaAt (after start cs) k ≡ some d → SoundReplica n ws k d
   sound-at k d e = viewed n ws start f cs .0 .each k d e
 
-  decides : (k : ℕ) (d : Replica) → replicaAt (after start cs) k ≡ some d → CountsDecide n (says d)
-  decides k d e =
+  -- as an office of the protocol's world
+  held : (k : ℕ) (p : List ℕ) → HeldAt (after start cs) k p → Holds (P.at (view (after start cs)) k) p
+  held k p x = subst (λ (o : Office). Holds o p) (sym (view-at (after start cs) k (x .office) (x .there))) (x .holds)
+
+  decides : (k : ℕ) (p q : List ℕ) → HeldAt (after start cs) k p → HeldAt (after start cs) k q → (p ⊑ q) ↔ countsLeq n p q
+  decides k p q x y =
       let v = viewed n ws start f cs .1 in
-      subst (CountsDecide n) (ap (λ (x : P.World). P.at x k) (sym (v .1)) ∙ view-at (after start cs) k d e)
-      (counts-decide (bySettled ws) n (few-offices n ws k d (sound-at k d e)) (settled-lawful ws) (f .any) (v .0) k)
+      subst (CountsDecide n) (ap (λ (z : P.World). P.at z k) (sym (v .1)))
+      (counts-decide (bySettled ws) n (few-offices n ws k (x .office) (sound-at k (x .office) (x .there))) (settled-lawful ws) (f .any) (v .0) k) p q (held k p x) (held k q y)
 
   tells : (k : ℕ) (d : Replica) → replicaAt (after start cs) k ≡ some d → (out : List ℕ) → writeOf (d .held) (d .words) out .number ≡ 0 → (i j : ℕ) → i ≤ n → j ≤ n
       → Tells (versionAt (d .held) (d .words) j) (versionAt (d .held) (d .words) i) (answerAt d out i j)
   tells k d e out done i j hi hj =
       let m = sound-at k d e in
-      let law : CountsDecide (d .held .n) (says d) = subst (λ (z : ℕ). CountsDecide z (says d)) (sym (m .count)) (decides k d e) in
       let a : i ≤ d .held .n = omega (arith, m .count) in
       let b : j ≤ d .held .n = omega (arith, m .count) in
       let p = versionAt (d .held) (d .words) j in
       let q = versionAt (d .held) (d .words) i in
-      let x = version-held n ws k d m j b in
-      let y = version-held n ws k d m i a in
-      told (d .held .n) p q (law p q x y) (law q p y x) (answerAt d out i j) (read-back (d .held) (d .words) out done .answers i j a b)
+      let x : HeldAt (after start cs) k p = record { office = d; there = e; holds = version-held n ws k d m j b } in
+      let y : HeldAt (after start cs) k q = record { office = d; there = e; holds = version-held n ws k d m i a } in
+      told (d .held .n) p q (subst (λ (z : ℕ). (p ⊑ q) ↔ countsLeq z p q) (sym (m .count)) (decides k p q x y)) (subst (λ (z : ℕ). (q ⊑ p) ↔ countsLeq z q p) (sym (m .count)) (decides k q p y x))
+      (answerAt d out i j) (read-back (d .held) (d .words) out done .answers i j a b)
 
 pub lossless : (n : ℕ) (weights : List ℕ) (start : World) → Founded n weights start → (cs : List Call) → Lossless n (after start cs)
 lossless n ws start f cs = record { decides = decides n ws start f cs; tells = tells n ws start f cs }

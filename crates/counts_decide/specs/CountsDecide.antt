@@ -28,9 +28,11 @@ countsLeq n p q = (office : ℕ) → office < n → countIn office p ≤ countIn
 abbrev pub Holds : Office → List ℕ → Type 0
 Holds o p = (p ≡ o .log) ⊎ ((j : ℕ) × (p ≡ path o j))
 
--- "for two paths among its log and ballots, one is a beginning of the other exactly when each of its counts is at most the other's"
-abbrev pub CountsDecide : ℕ → Office → Type 0
-CountsDecide n o = (p q : List ℕ) → Holds o p → Holds o q → (p ⊑ q) ↔ countsLeq n p q
+-- of office k of a world
+pub record HeldAt (w : World) (k : ℕ) (p : List ℕ) : Type 0 where
+  pub office : Replica
+  pub there : replicaAt w k ≡ some office
+  pub holds : Holds (says office) p
 
 -- the answer x for a version p to the vector of a version q says how the two stand as lists of entries
 pub record Tells (p q : List ℕ) (x : ℕ) : Type 0 where
@@ -43,9 +45,9 @@ pub record Tells (p q : List ℕ) (x : ℕ) : Type 0 where
 abbrev pub answerAt : Replica → List ℕ → ℕ → ℕ → ℕ
 answerAt d out i j = getD (compareOf (d .held) (d .words) (writtenAt (d .held) (d .words) out i) .answers) j beside
 
--- "in any office"
 pub record Lossless (n : ℕ) (w : World) : Type 0 where
-  pub decides : (k : ℕ) (d : Replica) → replicaAt w k ≡ some d → CountsDecide n (says d)
+  -- "in any office .., for two paths among its log and ballots, one is a beginning of the other exactly when each of its counts is at most the other's"
+  pub decides : (k : ℕ) (p q : List ℕ) → HeldAt w k p → HeldAt w k q → (p ⊑ q) ↔ countsLeq n p q
   -- so what an office's vectors answer is how its log and its ballots' paths stand to each other
   pub tells : (k : ℕ) (d : Replica) → replicaAt w k ≡ some d → (out : List ℕ) → writeOf (d .held) (d .words) out .number ≡ 0 → (i j : ℕ) → i ≤ n → j ≤ n
       → Tells (versionAt (d .held) (d .words) j) (versionAt (d .held) (d .words) i) (answerAt d out i j)

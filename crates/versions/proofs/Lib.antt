@@ -1,3 +1,4 @@
 -- Laws of the comparison of versions.
 pub mod Order
 pub mod Paths
+pub mod Cases
