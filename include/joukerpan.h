@@ -58,6 +58,7 @@ enum {
     JOUKERPAN_OTHER_LOG = 10,     /* neither settled log is a beginning of the other: stop (see above) */
     JOUKERPAN_PART_FULL = 11,     /* own tail has the own office's part, 32 / n entries of it: wait for votes */
     JOUKERPAN_NO_HOUSEHOLDS = 12, /* bytes are no household records, have a line above 63, or are too many */
+    JOUKERPAN_NO_PLACE = 13,      /* earlier frame: p above the settled length, or more than 64 lines named */
     JOUKERPAN_NO_WEIGHTS = 15     /* a lowest weight of an office exceeds its highest */
 };
 
@@ -125,6 +126,12 @@ typedef struct {
     uint32_t number;
     uint32_t codes[JOUKERPAN_LINES];  /* one a line: 0 for no edit yet, else the code + 1; each 0 where refused */
 } joukerpan_lines;
+
+typedef struct {
+    uint32_t number;
+    size_t words;                     /* words of the log that were read; 0 where refused */
+    uint32_t edits[JOUKERPAN_LINES];  /* one a line named: 0 for no edit yet, else the code + 1; 0 past them and where refused */
+} joukerpan_earlier;
 
 typedef struct {
     joukerpan_record record;
@@ -208,6 +215,16 @@ joukerpan_framed joukerpan_tentative_frame(joukerpan_record record, const uint32
                                            uint32_t line);
 
 /*
+ * The frame as it stood after the first p settled entries, for the lines named, at most 64: the answer's
+ * place i is for lines[i], and a line named twice is answered twice. With p the settled length it is what
+ * joukerpan_settled_frame answers. The log is read back from p until each line has its edit: `words` is the
+ * length of the shortest run ending at p that has an edit for each, or p. No lines read nothing. Refused:
+ * 1, 3 (any line above 63, also among more than 64), 13.
+ */
+joukerpan_earlier joukerpan_frame_at(joukerpan_record record, const uint32_t *log, size_t log_len,
+                                     size_t p, const uint32_t *lines, size_t lines_len);
+
+/*
  * Settles entries, one a step, until none wins, and answers how many. Each winner is written to the log
  * behind the settled words; other words keep their contents. A step counts by the present weights that
  * the step before left; a tie goes to the entry whose office has fewer settled entries then, and then to
@@ -285,6 +302,9 @@ JOUKERPAN_ASSERT(offsetof(joukerpan_framed, coded) == 4, "joukerpan_framed: code
 JOUKERPAN_ASSERT(offsetof(joukerpan_framed, code) == 8, "joukerpan_framed: code");
 JOUKERPAN_ASSERT(sizeof(joukerpan_lines) == 260, "joukerpan_lines: size");
 JOUKERPAN_ASSERT(offsetof(joukerpan_lines, codes) == 4, "joukerpan_lines: codes");
+JOUKERPAN_ASSERT(sizeof(joukerpan_earlier) == 272, "joukerpan_earlier: size");
+JOUKERPAN_ASSERT(offsetof(joukerpan_earlier, words) == 8, "joukerpan_earlier: words");
+JOUKERPAN_ASSERT(offsetof(joukerpan_earlier, edits) == 16, "joukerpan_earlier: edits");
 JOUKERPAN_ASSERT(sizeof(joukerpan_elected) == 1416, "joukerpan_elected: size");
 JOUKERPAN_ASSERT(offsetof(joukerpan_elected, number) == 1400, "joukerpan_elected: number");
 JOUKERPAN_ASSERT(offsetof(joukerpan_elected, count) == 1408, "joukerpan_elected: count");

@@ -358,6 +358,49 @@ static void forecasts(void) {
     forecast(&x, "1 before 15", most, none, JOUKERPAN_UNSOUND, 0);
 }
 
+/* The frame as of an earlier place, over entries for lines 63, 0 and 63 and a move. */
+static void earlier_frame(void) {
+    static office of;
+    static const joukerpan_earlier zero;
+    static uint32_t many[JOUKERPAN_LINES + 1];
+    const joukerpan_weights weights = {{60, 40}};
+    const uint32_t lines[] = {63, 0, 63, 5};
+    founded(&of, 0, weights, 2);
+    expect("an edit", issue(&of, 63, 9999), JOUKERPAN_DONE);
+    expect("an edit to code 0", issue(&of, 0, 0), JOUKERPAN_DONE);
+    expect("line 63 once more", issue(&of, 63, 7), JOUKERPAN_DONE);
+    expect("a move to office 1", issue(&of, JOUKERPAN_LINES + 1, 10), JOUKERPAN_DONE);
+    expect("elect", elect(&of), 4);
+
+    joukerpan_earlier at = joukerpan_frame_at(of.record, of.log, WORDS, 2, lines, 3);
+    expect("as of place 2", at.number, JOUKERPAN_DONE);
+    expect("words read", at.words, 2);
+    expect("line 63 before it was edited again", at.edits[0], 10000);
+    expect("code 0", at.edits[1], 1);
+    expect("a line named twice", at.edits[2], 10000);
+    expect("past the lines", at.edits[3], 0);
+    at = joukerpan_frame_at(of.record, of.log, WORDS, 4, lines, 1);
+    expect("behind a move", at.words, 2);
+    expect("the settled code", at.edits[0], 8);
+    at = joukerpan_frame_at(of.record, of.log, WORDS, 4, lines, 4);
+    expect("a line with no edit", at.edits[3], 0);
+    expect("all is read", at.words, 4);
+    at = joukerpan_frame_at(of.record, of.log, WORDS, 4, lines, 0);
+    expect("no lines", at.number, JOUKERPAN_DONE);
+    expect("nothing read", at.words, 0);
+    expect("no edit yet", memcmp(at.edits, zero.edits, sizeof zero.edits), 0);
+
+    at = joukerpan_frame_at(of.record, of.log, WORDS, 5, lines, 4);
+    expect("past the settled length", at.number, JOUKERPAN_NO_PLACE);
+    expect("no words", at.words, 0);
+    expect("no edit yet", memcmp(at.edits, zero.edits, sizeof zero.edits), 0);
+    expect("64 lines", joukerpan_frame_at(of.record, of.log, WORDS, 4, many, 64).number, JOUKERPAN_DONE);
+    expect("65 lines", joukerpan_frame_at(of.record, of.log, WORDS, 4, many, 65).number, JOUKERPAN_NO_PLACE);
+    many[64] = 64;
+    expect("3 before 13", joukerpan_frame_at(of.record, of.log, WORDS, 5, many, 65).number, JOUKERPAN_NO_ENTRY);
+    expect("1 first", joukerpan_frame_at(of.record, of.log, JOUKERPAN_LOG - 1, 5, many, 65).number, JOUKERPAN_UNSOUND);
+}
+
 static void founding_refusals(void) {
     static uint32_t log[JOUKERPAN_LOG];
     static const joukerpan_record zero;
@@ -512,6 +555,9 @@ int main(void) {
     whole_frame();
     household_sheet();
     forecasts();
+}
+
+    earlier_frame();
     founding_refusals();
     issue_refusals();
     parts();

@@ -9,10 +9,12 @@ ghost use Rattle.frame.specs.Electing.{electOf, electWords};
 ghost use Rattle.frame.specs.Sending.{sendOf, sendBytes};
 ghost use Rattle.frame.specs.Taking.{takeOf, takeWords};
 ghost use Rattle.sheet.specs.Sheet.{sheetOf};
+ghost use Rattle.earlier.specs.Earlier.{earlierOf};
 ghost use Rattle.forecast.specs.Forecast.{forecastOf};
 ghost use Rattle.embed.specs.Part.{partOf};
 ghost use Rattle.embed.specs.Framed.{across};
 ghost use Rattle.embed.specs.Foreseen.{foreseenOf};
+use earlier::Earlier;
 use frame::Record;
 use frame::electing::Elected;
 use frame::founding::Founded;
@@ -132,6 +134,19 @@ pub extern "C" fn joukerpan_tentative_frame(office: Record, log: &[u32], line: u
     ensures { λ r. ⌜ r ≡ across (tentativeFrameOf office (now (log .entry)) line) ⌝ }
 {
     across(office.tentative_frame(log, line))
+}
+
+// The last edit of each line named in the first p settled entries, as it is stored, and how many words of the log were read for them.
+#[no_mangle]
+pub extern "C" fn joukerpan_frame_at(
+    office: Record,
+    log: &[u32],
+    p: usize,
+    lines: &[u32],
+) -> Earlier
+    ensures { λ r. ⌜ r ≡ earlierOf office (now (log .entry)) p (now (lines .entry)) ⌝ }
+{
+    earlier::frame_at(office, log, p, lines)
 }
 
 // Election steps until no entry wins.

@@ -125,6 +125,18 @@ pub struct Lines {
     pub codes: [u32; LINES as usize],
 }
 
+/// The answer of the earlier frame.
+#[repr(C)]
+#[derive(Clone, Copy, Debug, PartialEq, Eq)]
+pub struct Earlier {
+    /// 0, or the refusal's number.
+    pub number: u32,
+    /// Words of the log that were read; 0 where the call is refused.
+    pub words: usize,
+    /// Of each line named 0 for no edit yet, else its code + 1; 0 past them, and where the call is refused.
+    pub edits: [u32; LINES as usize],
+}
+
 /// Elect's answer.
 #[repr(C)]
 #[derive(Clone, Copy, Debug, PartialEq, Eq)]
@@ -218,6 +230,16 @@ extern "C" {
     /// The code of the last entry for the line in the own path, or no edit yet.
     pub fn joukerpan_tentative_frame(record: Record, log: *const u32, log_len: usize, line: u32) -> Framed;
 
+    /// The code of the last entry for each line named in the first p settled entries, or no edit yet.
+    pub fn joukerpan_frame_at(
+        record: Record,
+        log: *const u32,
+        log_len: usize,
+        p: usize,
+        lines: *const u32,
+        lines_len: usize,
+    ) -> Earlier;
+
     /// The record after election steps until no entry wins.
     pub fn joukerpan_elect(record: Record, log: *mut u32, log_len: usize) -> Elected;
 
@@ -267,6 +289,7 @@ const _: () = {
     assert!(size_of::<Part>() == 16 && offset_of!(Part, length) == 8);
     assert!(size_of::<Framed>() == 12 && offset_of!(Framed, coded) == 4 && offset_of!(Framed, code) == 8);
     assert!(size_of::<Lines>() == 260 && offset_of!(Lines, codes) == 4 && align_of::<Lines>() == 4);
+    assert!(size_of::<Earlier>() == 272 && offset_of!(Earlier, words) == 8 && offset_of!(Earlier, edits) == 16);
     assert!(size_of::<Elected>() == 1416 && offset_of!(Elected, number) == 1400 && offset_of!(Elected, count) == 1408);
     assert!(size_of::<Sent>() == 16 && offset_of!(Sent, length) == 8);
     assert!(size_of::<Taken>() == 1416 && offset_of!(Taken, number) == 1400 && offset_of!(Taken, places) == 1408);

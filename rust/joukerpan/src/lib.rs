@@ -40,12 +40,14 @@
 #![warn(missing_docs)]
 
 mod bytes;
+mod earlier;
 mod entry;
 mod office;
 mod refused;
 mod sheet;
 mod unreadable;
 
+pub use earlier::Earlier;
 pub use entry::{Entry, EntryKind};
 pub use joukerpan_sys::{
     Ballot, Record, Summary, CODES, HOUSEHOLD, HOUSEHOLDS, LINES, LOG, MESSAGE_MAX, OFFICES, TAIL,

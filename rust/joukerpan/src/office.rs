@@ -6,7 +6,7 @@ use std::ops::RangeInclusive;
 use joukerpan_sys as engine;
 use joukerpan_sys::{Record, Weights, LINES, LOG, MESSAGE_MAX, OFFICES};
 
-use crate::{Entry, Refused, Sheet};
+use crate::{Earlier, Entry, Refused, Sheet};
 
 /// One office's state: its record and its log, which are always sound together.
 ///
@@ -291,6 +291,41 @@ impl Office {
         let framed = unsafe { engine::joukerpan_settled_frame(self.record, self.log.as_ptr(), LOG, line) };
         Refused::check(framed.number)?;
         Ok(framed.coded.then_some(framed.code))
+    }
+
+    /// The frame as it stood after the first `p` settled entries, for up to 64 lines together, which revision work
+    /// reads: for each line named, in their order, its code or `None` for no edit yet. A line named twice is
+    /// answered twice. With `p` the settled length it is what [`Office::settled_frame`] answers.
+    ///
+    /// The log is read back from `p` until each line has its edit. [`Earlier::words`] says how many words that took.
+    ///
+    /// ```
+    /// use joukerpan::{Office, Refused};
+    ///
+    /// let mut office = Office::found(0, &[1])?;
+    /// for code in [120, 130, 140] {
+    ///     office.issue(5, code)?;
+    /// }
+    /// office.elect();
+    ///
+    /// let earlier = office.frame_at(2, &[5, 6])?;
+    /// assert_eq!(earlier.edits(), [Some(130), None]);
+    /// assert_eq!(earlier.words(), 2); // line 6 has no edit, so all are read
+    /// assert_eq!(office.frame_at(2, &[5])?.words(), 1);
+    /// assert_eq!(office.frame_at(4, &[5]), Err(Refused::NoPlace));
+    /// # Ok::<(), Refused>(())
+    /// ```
+    ///
+    /// # Errors
+    ///
+    /// [`Refused::NoEntry`] for a line above 63; [`Refused::NoPlace`] for a `p` above the settled length, or for more
+    /// than 64 lines.
+    pub fn frame_at(&self, p: usize, lines: &[u32]) -> Result<Earlier, Refused> {
+        // SAFETY: log and lines name their words for as long as the call lasts; the engine only reads them.
+        let answer =
+            unsafe { engine::joukerpan_frame_at(self.record, self.log.as_ptr(), LOG, p, lines.as_ptr(), lines.len()) };
+        Refused::check(answer.number)?;
+        Ok(Earlier::new(&answer.edits[..lines.len()], answer.words))
     }
 
     /// The line's code in the tentative frame, which the supervisor reads; `None` for no edit yet.

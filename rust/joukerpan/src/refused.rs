@@ -53,12 +53,14 @@ pub enum Refused {
     PartFull = 11,
     /// The bytes are not household records, have a line above 63, or are more than 1,000,000 records.
     NoHouseholds = 12,
+    /// The place is above the settled length, or more than 64 lines are named.
+    NoPlace = 13,
     /// A lowest weight exceeds its highest.
     NoWeights = 15,
 }
 
 /// Every refusal, by rising number.
-const ALL: [Refused; 13] = [
+const ALL: [Refused; 14] = [
     Refused::Unsound,
     Refused::Founding,
     Refused::NoEntry,
@@ -71,11 +73,12 @@ const ALL: [Refused; 13] = [
     Refused::OtherLog,
     Refused::PartFull,
     Refused::NoHouseholds,
+    Refused::NoPlace,
     Refused::NoWeights,
 ];
 
 impl Refused {
-    /// The number of the refusal: 1 to 12, or 15.
+    /// The number of the refusal: 1 to 13, or 15.
     pub fn number(self) -> u32 {
         self as u32
     }
@@ -121,6 +124,7 @@ impl Refused {
             Refused::NoHouseholds => {
                 "the bytes are not household records, have a line above 63, or are more than 1000000 records"
             }
+            Refused::NoPlace => "the place is above the settled length, or more than 64 lines are named",
             Refused::NoWeights => "a lowest weight exceeds its highest",
         }
     }
@@ -152,7 +156,7 @@ mod tests {
 
     #[test]
     fn no_other_number_is_a_refusal() {
-        for number in [0, 13, 14, 16, 256, u32::MAX] {
+        for number in [0, 14, 16, 256, u32::MAX] {
             assert_eq!(Refused::from_number(number), None);
         }
     }
