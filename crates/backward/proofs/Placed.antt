@@ -10,7 +10,7 @@ use native.Mathlib.Nat.{not-suc-le-zero, le-of-suc-le-suc}
 use native.Mathlib.Numerals.{unary-clauses}
 use native.Mathlib.Omega.{arith}
 use lib.Dec.{leb}
-use lib.ListN.{length, getD, set, take, drop, replicate, length-map, length-replicate, List·getD-append}
+use lib.ListN.{length, getD, set, drop, replicate, length-map, length-replicate, List·getD-append}
 use lib.Seq.{take-all, getD-append-add}
 use borrow.Author.Tests.{leb-true}
 use Rattle.lists.proofs.Tests.{all-at, getD-replicate}

@@ -13,20 +13,17 @@ use lib.Dec.{leb}
 use lib.ListN.{length, getD, take, drop, length-map}
 use lib.Seq.{length-take-le, take-take}
 use borrow.Author.Tests.{leb-true}
-use Rattle.lists.specs.Tests.{pick, both}
+use Rattle.lists.specs.Tests.{pick}
 use Rattle.lists.proofs.Tests.{both-0, both-1}
 use Rattle.protocol.specs.Codes.{cell}
 use Rattle.protocol.specs.Frames.{lastEdit}
 use Rattle.protocol.proofs.Codes.{cell-back}
-use Rattle.backward.specs.Runs.{Named, ofFrame, editsOf, editsAll, shortestRun, Shortest}
-use Rattle.backward.specs.Cells.{placed}
+use Rattle.backward.specs.Runs.{ofFrame, editsOf, editsAll, shortestRun, Shortest}
 use Rattle.backward.proofs.Runs.{shortest-is}
 use Rattle.backward.proofs.Placed.{named-at, getD-mapped, placed-at, placed-past}
-use Rattle.frame.specs.State.{heldBy}
 use Rattle.frame.specs.Soundness.{soundB}
 use Rattle.frame.specs.Frames.{editIs, storedEdit, frameOf, settledFrameOf}
 use Rattle.frame.specs.declared.Record.{Record}
-use Rattle.frame.specs.declared.frames.Framed.{Framed}
 use Rattle.frame.proofs.Sound.{sound}
 use Rattle.frame.proofs.State.{log-length}
 use Rattle.frame.proofs.Shown.{shown-done, frame-shown}

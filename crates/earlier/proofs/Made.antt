@@ -3,14 +3,14 @@
 --     earlier-made                                                         done
 -- Assumes nothing.
 use mathlib.Core.Path.{_≡_, sym, ap, _∙_}
-use mathlib.Core.Bool.{Bool, true, false}
+use mathlib.Core.Bool.{true, false}
 use mathlib.Core.List.{List}
 use Prim.Native.Nat.{ℕ, _≤_, _<_}
 use lib.Dec.{leb}
 use lib.ListN.{length, take}
 use lib.Seq.{take-take}
 use borrow.Author.Tests.{le-leb, lt-leb}
-use Rattle.lists.specs.Tests.{pick, both}
+use Rattle.lists.specs.Tests.{pick}
 use Rattle.lists.proofs.Tests.{both-true, both-false-0, both-false-1}
 use Rattle.backward.specs.Runs.{ofFrame, editsOf, shortestRun}
 use Rattle.backward.specs.Cells.{placed, walkedOf}

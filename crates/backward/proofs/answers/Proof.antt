@@ -1,7 +1,7 @@
 -- The first i places hold what the cells say of the first i lines.
 use borrow.Author.Needs.{needs}
 use mathlib.Core.Path.{_≡_, refl}
-use Prim.Native.Nat.{ℕ, _-_, _≤_}
+use Prim.Native.Nat.{_-_, _≤_}
 use native.Mathlib.Omega.{arith}
 use lib.ListN.{length, getD}
 use Rattle.backward.proofs.Placed.{named-at, Placing, placing-again, placing-ends}

@@ -1,12 +1,10 @@
 -- The invariant: what is left to read, from the edits so far, gives what the whole walk gives. A cell is 0 exactly if a line named has no edit yet, so
 -- `left` says when the walk of the definition stops.
 use borrow.Author.Needs.{needs}
-use mathlib.Core.Path.{_≡_, sym, ap, _∙_}
+use mathlib.Core.Path.{_≡_}
 use mathlib.Core.Logic.{_⊎_, inl, inr, ⊎-elim}
-use mathlib.Core.List.{List}
-use Prim.Native.Nat.{ℕ, suc, _-_}
+use Prim.Native.Nat.{suc, _-_}
 use native.Mathlib.Omega.{arith}
-use lib.ListN.{length}
 use Rattle.backward.proofs.Cells.{Walking, walking-begins, walking-again, new-within, walking-ends}
 use Rattle.backward.proofs.walk.Statement.{statement}
 use Rattle.backward.proofs.walk.Tie as tie
