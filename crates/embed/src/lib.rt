@@ -9,11 +9,16 @@ ghost use Rattle.frame.specs.Electing.{electOf, electWords};
 ghost use Rattle.frame.specs.Sending.{sendOf, sendBytes};
 ghost use Rattle.frame.specs.Taking.{takeOf, takeWords};
 ghost use Rattle.sheet.specs.Sheet.{sheetOf};
+ghost use Rattle.sheet.specs.Sheet.{sheetOf};
 ghost use Rattle.earlier.specs.Earlier.{earlierOf};
+ghost use Rattle.archive.specs.Writing.{writeOf, writeBytes};
+ghost use Rattle.archive.specs.Comparison.{compareOf};
 ghost use Rattle.forecast.specs.Forecast.{forecastOf};
 ghost use Rattle.embed.specs.Part.{partOf};
 ghost use Rattle.embed.specs.Framed.{across};
 ghost use Rattle.embed.specs.Foreseen.{foreseenOf};
+use archive::Compared;
+use archive::Written;
 use earlier::Earlier;
 use frame::Record;
 use frame::electing::Elected;
@@ -208,4 +213,20 @@ pub extern "C" fn joukerpan_forecast(
             entry: e,
         },
     }
+}
+
+// The version vectors of the settled log and of each office's path, written to the front of the output.
+#[no_mangle]
+pub extern "C" fn joukerpan_write_vectors(office: Record, log: &[u32], output: &mut [u8]) -> Written
+    ensures { λ r. ⌜ (r ≡ writeOf office (now (log .entry)) (now (output .entry))) × (now (output .exit) ≡ writeBytes office (now (log .entry)) (now (output .entry))) ⌝ }
+{
+    archive::write(office, log, output)
+}
+
+// How the settled log and each office's path stand to a version vector.
+#[no_mangle]
+pub extern "C" fn joukerpan_compare_vector(office: Record, log: &[u32], vector: &[u8]) -> Compared
+    ensures { λ r. ⌜ r ≡ compareOf office (now (log .entry)) (now (vector .entry)) ⌝ }
+{
+    archive::compare(office, log, vector)
 }
