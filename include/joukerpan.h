@@ -40,7 +40,9 @@ enum {
     JOUKERPAN_LOG = 1024,      /* settled entries, at most; words of a log, at least */
     JOUKERPAN_MESSAGE = 7032,  /* bytes of a message, at most */
     JOUKERPAN_HOUSEHOLD = 7,   /* bytes of a household record: 0x48 0x52, line, weight (4, most significant first) */
-    JOUKERPAN_HOUSEHOLDS = 1000000  /* household records of a sheet, at most */
+    JOUKERPAN_HOUSEHOLDS = 1000000, /* household records of a sheet, at most */
+    JOUKERPAN_COUNT = 4,       /* bytes of a count in a version vector, most significant first; a vector has n */
+    JOUKERPAN_VECTORS = 288    /* bytes of an office's version vectors, at most: of n offices 4 * n * (n + 1) */
 };
 
 /* Numbers that a call answers. Where several hold, the smallest is given. */
@@ -59,7 +61,16 @@ enum {
     JOUKERPAN_PART_FULL = 11,     /* own tail has the own office's part, 32 / n entries of it: wait for votes */
     JOUKERPAN_NO_HOUSEHOLDS = 12, /* bytes are no household records, have a line above 63, or are too many */
     JOUKERPAN_NO_PLACE = 13,      /* earlier frame: p above the settled length, or more than 64 lines named */
+    JOUKERPAN_NO_VECTOR = 14,     /* bytes are not exactly n counts, each at most 1,024 */
     JOUKERPAN_NO_WEIGHTS = 15     /* a lowest weight of an office exceeds its highest */
+};
+
+/* How a version, the settled log or a ballot's path, stands to a version vector, by its counts of entries. */
+enum {
+    JOUKERPAN_BEFORE = 0,  /* each of its counts is at most the vector's, and one is less */
+    JOUKERPAN_EQUAL = 1,   /* its counts are the vector's */
+    JOUKERPAN_AFTER = 2,   /* each of its counts is at least the vector's, and one is more */
+    JOUKERPAN_BESIDE = 3   /* one of its counts is less and one is more; past the last version, and where refused */
 };
 
 /*
@@ -161,6 +172,16 @@ typedef struct {
     size_t count;                         /* rows there are; 0 where refused */
     joukerpan_row rows[JOUKERPAN_LINES];  /* uncoded first, then codes rising; zero from place count on */
 } joukerpan_tabulated;
+
+typedef struct {
+    uint32_t number;
+    size_t length;  /* bytes written; 0 where refused */
+} joukerpan_written;
+
+typedef struct {
+    uint32_t number;
+    uint32_t answers[JOUKERPAN_OFFICES + 1];  /* of the settled log, then of each office's path */
+} joukerpan_compared;
 
 typedef struct {
     uint32_t number;
@@ -271,6 +292,24 @@ joukerpan_tabulated joukerpan_sheet(joukerpan_record record, const uint32_t *log
 joukerpan_foreseen joukerpan_forecast(joukerpan_record record, const uint32_t *log, size_t log_len,
                                       joukerpan_weights lowest, joukerpan_weights highest);
 
+/*
+ * Writes the version vectors of the settled log and then of each office's path, offices rising, and answers
+ * their length: 4 * n * (n + 1), at most JOUKERPAN_VECTORS. A vector has a count of entries for each of the n
+ * offices, JOUKERPAN_COUNT bytes each. The path of an office without a ballot is the settled log. Later bytes
+ * of the output keep their contents. Refused: 1, 6.
+ */
+joukerpan_written joukerpan_write_vectors(joukerpan_record record, const uint32_t *log, size_t log_len,
+                                          uint8_t *output, size_t output_len);
+
+/*
+ * How the settled log and then each office's path stand to a version vector. In one office this says which of
+ * its versions is a beginning of which: of vectors that it has written itself, by the record and log that it
+ * has. A vector that another office wrote may come after a version that is no beginning of what it counts.
+ * Refused: 1, 14.
+ */
+joukerpan_compared joukerpan_compare_vector(joukerpan_record record, const uint32_t *log, size_t log_len,
+                                            const uint8_t *vector, size_t vector_len);
+
 #ifdef __cplusplus
 }
 #define JOUKERPAN_ASSERT static_assert
@@ -321,6 +360,10 @@ JOUKERPAN_ASSERT(offsetof(joukerpan_tabulated, rows) == 16, "joukerpan_tabulated
 JOUKERPAN_ASSERT(sizeof(joukerpan_foreseen) == 12, "joukerpan_foreseen: size");
 JOUKERPAN_ASSERT(offsetof(joukerpan_foreseen, named) == 4, "joukerpan_foreseen: named");
 JOUKERPAN_ASSERT(offsetof(joukerpan_foreseen, entry) == 8, "joukerpan_foreseen: entry");
+JOUKERPAN_ASSERT(sizeof(joukerpan_written) == 16, "joukerpan_written: size");
+JOUKERPAN_ASSERT(offsetof(joukerpan_written, length) == 8, "joukerpan_written: length");
+JOUKERPAN_ASSERT(sizeof(joukerpan_compared) == 40, "joukerpan_compared: size");
+JOUKERPAN_ASSERT(offsetof(joukerpan_compared, answers) == 4, "joukerpan_compared: answers");
 
 #undef JOUKERPAN_ASSERT
 

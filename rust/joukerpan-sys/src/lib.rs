@@ -24,6 +24,10 @@ pub const MESSAGE_MAX: usize = 7032;
 pub const HOUSEHOLD: usize = 7;
 /// Most household records of a sheet.
 pub const HOUSEHOLDS: usize = 1_000_000;
+/// Bytes of a count in a version vector, most significant first. A vector has a count for each office.
+pub const COUNT: usize = 4;
+/// Most bytes of an office's version vectors.
+pub const VECTORS_MAX: usize = COUNT * OFFICES * (OFFICES + 1);
 
 /// A ballot: a tail of entries. Length 0 means none, or unknown. Unused cells are zero.
 #[repr(C)]
@@ -206,6 +210,27 @@ pub struct Foreseen {
     pub entry: u32,
 }
 
+/// The answer of writing version vectors.
+#[repr(C)]
+#[derive(Clone, Copy, Debug, PartialEq, Eq)]
+pub struct Written {
+    /// 0, or the refusal's number.
+    pub number: u32,
+    /// Bytes written; 0 where the call is refused.
+    pub length: usize,
+}
+
+/// The answer of comparing with a version vector.
+#[repr(C)]
+#[derive(Clone, Copy, Debug, PartialEq, Eq)]
+pub struct Compared {
+    /// 0, or the refusal's number.
+    pub number: u32,
+    /// Of the settled log, then of each office's path: 0 before, 1 equal, 2 after, 3 beside. Beside past the
+    /// last, and where the call is refused.
+    pub answers: [u32; OFFICES + 1],
+}
+
 // Each function asks what C asks: a pointer is aligned, not null, and names as many elements as the
 // count after it says; memory that a call writes is named by no other argument of it.
 extern "C" {
@@ -272,6 +297,24 @@ extern "C" {
         lowest: Weights,
         highest: Weights,
     ) -> Foreseen;
+
+    /// Writes the version vectors of the settled log and of each office's path.
+    pub fn joukerpan_write_vectors(
+        record: Record,
+        log: *const u32,
+        log_len: usize,
+        output: *mut u8,
+        output_len: usize,
+    ) -> Written;
+
+    /// How the settled log and each office's path stand to a version vector.
+    pub fn joukerpan_compare_vector(
+        record: Record,
+        log: *const u32,
+        log_len: usize,
+        vector: *const u8,
+        vector_len: usize,
+    ) -> Compared;
 }
 
 /// The layout that the engine was compiled for.
@@ -296,4 +339,6 @@ const _: () = {
     assert!(size_of::<Row>() == 16 && offset_of!(Row, total) == 8);
     assert!(size_of::<Sheet>() == 1040 && offset_of!(Sheet, count) == 8 && offset_of!(Sheet, rows) == 16);
     assert!(size_of::<Foreseen>() == 12 && offset_of!(Foreseen, named) == 4 && offset_of!(Foreseen, entry) == 8);
+    assert!(size_of::<Written>() == 16 && offset_of!(Written, length) == 8);
+    assert!(size_of::<Compared>() == 40 && offset_of!(Compared, answers) == 4);
 };

@@ -28,8 +28,9 @@
 //! # Ok::<(), Refused>(())
 //! ```
 //!
-//! The tabulator's sheet of households, class by class, is [`Office::sheet`]. What would win by next round's
-//! weights, where they are known within bounds, is [`Office::forecast`].
+//! The tabulator's sheet of households, class by class, is [`Office::sheet`]; version vectors for an archive
+//! are [`Office::vectors`]. What would win by next round's weights, where they are known within bounds, is
+//! [`Office::forecast`].
 //!
 //! What a service owes in return, above all how it stores an office, stands at [`Office`]. That an edit
 //! can lose, and how that is noticed, stands at [`Office::pending`].
@@ -46,13 +47,16 @@ mod office;
 mod refused;
 mod sheet;
 mod unreadable;
+mod vector;
 
 pub use earlier::Earlier;
 pub use entry::{Entry, EntryKind};
 pub use joukerpan_sys::{
-    Ballot, Record, Summary, CODES, HOUSEHOLD, HOUSEHOLDS, LINES, LOG, MESSAGE_MAX, OFFICES, TAIL,
+    Ballot, Record, Summary, CODES, COUNT, HOUSEHOLD, HOUSEHOLDS, LINES, LOG, MESSAGE_MAX, OFFICES, TAIL,
+    VECTORS_MAX,
 };
 pub use office::{sound, Office};
 pub use refused::Refused;
 pub use sheet::{Household, Row, Sheet};
 pub use unreadable::Unreadable;
+pub use vector::{Standing, Standings};

@@ -4,9 +4,9 @@ use std::fmt;
 use std::ops::RangeInclusive;
 
 use joukerpan_sys as engine;
-use joukerpan_sys::{Record, Weights, LINES, LOG, MESSAGE_MAX, OFFICES};
+use joukerpan_sys::{Record, Weights, LINES, LOG, MESSAGE_MAX, OFFICES, VECTORS_MAX};
 
-use crate::{Earlier, Entry, Refused, Sheet};
+use crate::{Earlier, Entry, Refused, Sheet, Standings};
 
 /// One office's state: its record and its log, which are always sound together.
 ///
@@ -415,6 +415,77 @@ impl Office {
         let answer = unsafe { engine::joukerpan_forecast(self.record, self.log.as_ptr(), LOG, lowest, highest) };
         Refused::check(answer.number)?;
         Ok(answer.named.then(|| Entry::from(answer.entry)))
+    }
+
+    /// Writes the office's version vectors to the front of the output and answers that part: of the settled
+    /// log, then of each office's path, offices rising. An output of [`VECTORS_MAX`] bytes always does.
+    ///
+    /// A vector has a count of entries for each office, [`COUNT`](crate::COUNT) bytes each, most significant
+    /// first. The path of an office without a ballot is the settled log.
+    ///
+    /// # Errors
+    ///
+    /// [`Refused::OutputShort`], and the output keeps its contents.
+    pub fn write_vectors<'a>(&self, output: &'a mut [u8]) -> Result<&'a [u8], Refused> {
+        // SAFETY: log and output name their elements for as long as the call lasts; the output, which
+        // the engine writes, is lent to this call alone.
+        let written = unsafe {
+            let (log, out) = (self.log.as_ptr(), output.as_mut_ptr());
+            engine::joukerpan_write_vectors(self.record, log, LOG, out, output.len())
+        };
+        Refused::check(written.number)?;
+        Ok(&output[..written.length])
+    }
+
+    /// The office's version vectors, as [`Office::write_vectors`] writes them.
+    ///
+    /// ```
+    /// use joukerpan::{Office, Refused};
+    ///
+    /// let mut office = Office::found(0, &[1, 1])?;
+    /// office.issue(5, 120)?;
+    /// let of_the_log = [0; 8];
+    /// let of_its_own_path = [0, 0, 0, 1, 0, 0, 0, 0];
+    /// assert_eq!(office.vectors(), [of_the_log, of_its_own_path, of_the_log].concat());
+    /// # Ok::<(), Refused>(())
+    /// ```
+    pub fn vectors(&self) -> Vec<u8> {
+        let mut output = vec![0; VECTORS_MAX];
+        let length = self.write_vectors(&mut output).expect("no office has more").len();
+        output.truncate(length);
+        output
+    }
+
+    /// How the settled log and each office's path stand to a version vector, by counts.
+    ///
+    /// Of a vector that this office has written itself, by the state that it has, the answers say which of
+    /// its versions is a beginning of which (proved). Of one that another office wrote they need not: a
+    /// version may come before it and be no beginning of what it counts.
+    ///
+    /// # Errors
+    ///
+    /// [`Refused::NoVector`] unless the bytes are one count for each office, each at most 1,024.
+    ///
+    /// ```
+    /// use joukerpan::{Office, Refused, Standing};
+    ///
+    /// let mut office = Office::found(0, &[1])?;
+    /// office.issue(5, 120)?;
+    /// let standings = office.compare(&[0, 0, 0, 1])?;
+    /// assert_eq!(standings.log, Standing::Before);
+    /// assert_eq!(standings.paths, [Standing::Equal]);
+    /// assert_eq!(office.compare(&[0, 0, 4, 1]), Err(Refused::NoVector)); // 1025
+    /// # Ok::<(), Refused>(())
+    /// ```
+    pub fn compare(&self, vector: &[u8]) -> Result<Standings, Refused> {
+        // SAFETY: log and vector name their elements for as long as the call lasts; the engine only
+        // reads them.
+        let answer = unsafe {
+            let (log, bytes) = (self.log.as_ptr(), vector.as_ptr());
+            engine::joukerpan_compare_vector(self.record, log, LOG, bytes, vector.len())
+        };
+        Refused::check(answer.number)?;
+        Ok(Standings::of(&answer.answers[..=self.offices()]))
     }
 
     /// Settles the entries that have won, and answers how many: 0 where none has. Each is counted by the

@@ -55,12 +55,14 @@ pub enum Refused {
     NoHouseholds = 12,
     /// The place is above the settled length, or more than 64 lines are named.
     NoPlace = 13,
+    /// The bytes are not a version vector: exactly one count for each office, 4 bytes each, at most 1,024.
+    NoVector = 14,
     /// A lowest weight exceeds its highest.
     NoWeights = 15,
 }
 
 /// Every refusal, by rising number.
-const ALL: [Refused; 14] = [
+const ALL: [Refused; 15] = [
     Refused::Unsound,
     Refused::Founding,
     Refused::NoEntry,
@@ -74,11 +76,12 @@ const ALL: [Refused; 14] = [
     Refused::PartFull,
     Refused::NoHouseholds,
     Refused::NoPlace,
+    Refused::NoVector,
     Refused::NoWeights,
 ];
 
 impl Refused {
-    /// The number of the refusal: 1 to 13, or 15.
+    /// The number of the refusal, 1 to 15.
     pub fn number(self) -> u32 {
         self as u32
     }
@@ -125,6 +128,7 @@ impl Refused {
                 "the bytes are not household records, have a line above 63, or are more than 1000000 records"
             }
             Refused::NoPlace => "the place is above the settled length, or more than 64 lines are named",
+            Refused::NoVector => "the bytes are not a version vector, a count of at most 1024 for each office",
             Refused::NoWeights => "a lowest weight exceeds its highest",
         }
     }
@@ -156,7 +160,7 @@ mod tests {
 
     #[test]
     fn no_other_number_is_a_refusal() {
-        for number in [0, 14, 16, 256, u32::MAX] {
+        for number in [0, 16, 256, u32::MAX] {
             assert_eq!(Refused::from_number(number), None);
         }
     }
