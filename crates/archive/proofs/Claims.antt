@@ -3,20 +3,20 @@
 --     version-path      the versions behind the log are the offices' paths
 --     read-back         each vector of a done write is read back, and answers "equal" for what it was written from
 -- Assumes nothing.
-use mathlib.Core.Path.{_≡_, refl, sym, ap, ap₂, subst, _∙_}
+use mathlib.Core.Path.{_≡_, refl, sym, ap, ap₂, _∙_}
 use mathlib.Core.Bool.{Bool, true, false, true≢false}
 use mathlib.Core.Logic.{_⊎_, inl, inr}
 use mathlib.Core.List.{List, [], _∷_, _++_, map, append-assoc, append-nil}
 use Prim.Native.Nat.{ℕ, zero, suc, _*_, _-_, _<_, _≤_, zero-le}
 use native.Mathlib.Nat.{mul-zero, not-suc-le-zero, le-of-suc-le-suc}
 use native.Mathlib.Omega.{arith}
-use lib.Dec.{eqb, leb, ltb}
+use lib.Dec.{leb, ltb}
 use lib.ListN.{length, getD, take, drop, replicate, length-append, length-map, List·getD-append}
 use lib.Seq.{ext-getD, getD-take, take-at, drop-at}
 use borrow.Author.Tests.{eq-eqb, le-leb, leb-true, lt-ltb}
-use Rattle.lists.specs.Tests.{allB, both, pick}
+use Rattle.lists.specs.Tests.{allB, pick}
 use Rattle.lists.proofs.Tests.{all-at, all-map, all-of, all-take, both-0, both-1, both-true, getD-map}
-use Rattle.numbers.specs.Numbers.{be32, bytes32, run, runAt}
+use Rattle.numbers.specs.Numbers.{be32, bytes32, runAt}
 use Rattle.numbers.proofs.Runs.{drop-more, run-said}
 use Rattle.protocol.specs.Counts.{countOf}
 use Rattle.protocol.specs.Limits.{tailFine}

@@ -1,6 +1,6 @@
 -- "Across two offices that may be false": three offices with document 01's weights, and a list of ten calls, computed. Office 1's first ballot
 -- loses; office 0 still holds it, while office 1 has the settled entry and an entry of its own behind it. Assumes nothing.
-use mathlib.Core.Path.{_≡_, refl, sym}
+use mathlib.Core.Path.{_≡_, refl}
 use mathlib.Core.List.{List, [], _∷_}
 use mathlib.Core.Logic.{inr}
 use mathlib.Core.Option.{some}

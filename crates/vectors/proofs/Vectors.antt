@@ -5,7 +5,7 @@
 --     ToWrite, write-begins, write-room, write-again, write-ends      a walk over the paths that writes their vectors
 --     all-is, whole                              the log's vector and then the paths': all that is to be written
 -- Assumes nothing.
-use mathlib.Core.Path.{_≡_, refl, sym, ap, _∙_}
+use mathlib.Core.Path.{_≡_, sym, ap, _∙_}
 use mathlib.Core.List.{List, [], _∷_, _++_, map}
 use Prim.Native.Nat.{ℕ, suc, _+_, _*_, _<_, _≤_, zero-le}
 use native.Mathlib.Nat.{zero-add, mul-le-mul}

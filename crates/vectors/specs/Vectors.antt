@@ -1,6 +1,6 @@
 -- Request (xi): "The archive stores versions as source document 001 does, a count of entries per office." The versions of an office, their
 -- vectors, and the bytes of these. Assumes nothing.
-use Prim.Native.Nat.{ℕ, _<_, _≤_}
+use Prim.Native.Nat.{ℕ, _≤_}
 use mathlib.Core.Bool.{true}
 use mathlib.Core.List.{List, [], _∷_, _++_, map}
 use mathlib.Core.Path.{_≡_}

@@ -1,5 +1,5 @@
 -- The invariant `Storing`: what is left to store, from the position on, gives all that is to be stored.
-use Prim.Native.Nat.{_-_, _≤_}
+use Prim.Native.Nat.{_-_}
 use mathlib.Core.Path.{_≡_, refl}
 use native.Mathlib.Omega.{arith}
 use lib.ListN.{length}

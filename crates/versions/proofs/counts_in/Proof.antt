@@ -2,7 +2,6 @@
 use Prim.Native.Nat.{_-_}
 use lib.ListN.{replicate}
 use borrow.Author.Needs.{needs}
-use native.Mathlib.Omega.{arith}
 use Rattle.numbers.specs.Numbers.{be32}
 use Rattle.numbers.proofs.Steps.{Filling, filling-again, filling-begins, filling-ends}
 use Rattle.versions.proofs.counts_in.Statement.{statement}
