@@ -53,7 +53,7 @@ enum {
     JOUKERPAN_NO_ENTRY = 3,       /* line or code outside the limits: see issue; of a frame: line above 63 */
     JOUKERPAN_TAIL_FULL = 4,      /* no longer given: an own tail that is 32 long has the own office's part (11) */
     JOUKERPAN_LOG_FULL = 5,       /* settled length and own tail length make 1,024 */
-    JOUKERPAN_OUTPUT_SHORT = 6,   /* output shorter than the message */
+    JOUKERPAN_OUTPUT_SHORT = 6,   /* output shorter than what is to be written */
     JOUKERPAN_NO_MESSAGE = 7,     /* message not of the layout, or a number in it outside the limits */
     JOUKERPAN_OTHER_OFFICES = 8,  /* message's n or founding weights differ from the record's */
     JOUKERPAN_OWN_MESSAGE = 9,    /* sender is the receiver's own office */
