@@ -401,6 +401,52 @@ static void earlier_frame(void) {
     expect("1 first", joukerpan_frame_at(of.record, of.log, JOUKERPAN_LOG - 1, 5, many, 65).number, JOUKERPAN_UNSOUND);
 }
 
+/* The standings of the log and of the paths of three offices, each a digit: 0 before, 1 equal, 2 after, 3 beside. */
+static void stands(const char *what, const office *of, const uint8_t *vector, size_t length, uint32_t number, const char *wanted) {
+    joukerpan_compared answer = joukerpan_compare_vector(of->record, of->log, WORDS, vector, length);
+    expect(what, answer.number, number);
+    for (int i = 0; i <= JOUKERPAN_OFFICES; i++) {
+        expect(what, answer.answers[i], i < 4 ? (uint32_t)(wanted[i] - '0') : JOUKERPAN_BESIDE);
+    }
+}
+
+/* Version vectors over a log with entries of offices 1, 2 and 1, and ballots of offices 0 and 2. */
+static void vectors(void) {
+    enum { SIZE = 3 * JOUKERPAN_COUNT, ALL = 4 * SIZE };
+    static office x;
+    static const uint8_t wanted[ALL] = {0, 0, 0, 0, 0, 0, 0, 2, 0, 0, 0, 1, 0, 0, 0, 1, 0, 0, 0, 2, 0, 0, 0, 1,
+                                        0, 0, 0, 0, 0, 0, 0, 2, 0, 0, 0, 1, 0, 0, 0, 0, 0, 0, 0, 2, 0, 0, 0, 2};
+    uint8_t output[ALL + 1], kept[ALL + 1], vector[SIZE + 1] = {0};
+    memset(kept, 0xA5, sizeof kept), memcpy(output, kept, sizeof output);
+    founded(&x, 0, WEIGHTS, 3);
+    settle(&x, entry(1, 5, 140)), settle(&x, entry(2, 6, 0)), settle(&x, entry(1, 63, 140));
+    put(&x, 0, entry(0, 8, 9)), put(&x, 2, entry(2, 8, 9));
+
+    joukerpan_written written = joukerpan_write_vectors(x.record, x.log, WORDS, output, ALL - 1);
+    expect("an output a byte short", written.number, JOUKERPAN_OUTPUT_SHORT);
+    expect("nothing written", written.length == 0 && memcmp(output, kept, sizeof kept) == 0, true);
+    written = joukerpan_write_vectors(x.record, x.log, JOUKERPAN_LOG - 1, output, ALL - 1);
+    expect("1 before 6", written.number, JOUKERPAN_UNSOUND);
+    written = joukerpan_write_vectors(x.record, x.log, WORDS, output, sizeof output);
+    expect("vectors", written.number, JOUKERPAN_DONE);
+    expect("their length", written.length, ALL);
+    expect("their bytes, and one behind them", memcmp(output, wanted, ALL) == 0 && output[ALL] == 0xA5, true);
+
+    stands("the log's own", &x, output, SIZE, JOUKERPAN_DONE, "1212");
+    stands("the path of office 0", &x, output + SIZE, SIZE, JOUKERPAN_DONE, "0103");
+    stands("the path of office 2", &x, output + 3 * SIZE, SIZE, JOUKERPAN_DONE, "0301");
+    stands("no entries", &x, vector, SIZE, JOUKERPAN_DONE, "2222");
+    stands("a byte less", &x, vector, SIZE - 1, JOUKERPAN_NO_VECTOR, "3333");
+    stands("a byte more", &x, vector, SIZE + 1, JOUKERPAN_NO_VECTOR, "3333");
+    stands("no bytes", &x, vector, 0, JOUKERPAN_NO_VECTOR, "3333");
+    vector[2] = 4;
+    stands("1,024 entries of office 0", &x, vector, SIZE, JOUKERPAN_DONE, "3333");
+    vector[3] = 1;
+    stands("1,025", &x, vector, SIZE, JOUKERPAN_NO_VECTOR, "3333");
+    x.record.n = 9;
+    stands("1 before 14", &x, vector, SIZE, JOUKERPAN_UNSOUND, "3333");
+}
+
 static void founding_refusals(void) {
     static uint32_t log[JOUKERPAN_LOG];
     static const joukerpan_record zero;
@@ -555,9 +601,8 @@ int main(void) {
     whole_frame();
     household_sheet();
     forecasts();
-}
-
     earlier_frame();
+    vectors();
     founding_refusals();
     issue_refusals();
     parts();

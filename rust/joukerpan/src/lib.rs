@@ -52,8 +52,7 @@ mod vector;
 pub use earlier::Earlier;
 pub use entry::{Entry, EntryKind};
 pub use joukerpan_sys::{
-    Ballot, Record, Summary, CODES, COUNT, HOUSEHOLD, HOUSEHOLDS, LINES, LOG, MESSAGE_MAX, OFFICES, TAIL,
-    VECTORS_MAX,
+    Ballot, Record, Summary, CODES, COUNT, HOUSEHOLD, HOUSEHOLDS, LINES, LOG, MESSAGE_MAX, OFFICES, TAIL, VECTORS_MAX,
 };
 pub use office::{sound, Office};
 pub use refused::Refused;

@@ -33,7 +33,7 @@ pub enum Refused {
     TailFull = 4,
     /// The settled log and the own ballot make 1,024 entries.
     LogFull = 5,
-    /// The output is shorter than the message.
+    /// The output is shorter than what is to be written.
     OutputShort = 6,
     /// The bytes are not a message, or a number in it is outside the limits.
     NoMessage = 7,
@@ -118,7 +118,7 @@ impl Refused {
             }
             Refused::TailFull => "the own ballot has 32 entries that are not settled yet",
             Refused::LogFull => "the settled log and the own ballot make 1024 entries",
-            Refused::OutputShort => "the output is shorter than the message",
+            Refused::OutputShort => "the output is shorter than what is to be written",
             Refused::NoMessage => "the bytes are not a message, or a number in it is outside the limits",
             Refused::OtherOffices => "the message is from other offices, or from offices with other founding weights",
             Refused::OwnMessage => "the message is the office's own",

@@ -16,7 +16,7 @@ fn office(weights: &[u16], votes: &[Option<Entry>], settled: &[Entry]) -> Office
     let (mut record, mut log) = Office::found(0, weights).unwrap().into_parts();
     for (word, entry) in log.iter_mut().zip(settled) {
         *word = entry.value();
-        record.summary.codes[usize::from(entry.line)] = entry.code.into();
+        record.summary.codes[usize::from(entry.line)] = u32::from(entry.code) + 1;
     }
     record.settled = settled.len();
     for (ballot, entry) in record.ballots.iter_mut().zip(votes) {
