@@ -1,6 +1,5 @@
 //! Every call on random input: the whole answer, the record, the log and the output of both, compared.
 
-use std::fmt::Debug;
 use std::io::{self, stdout, Write};
 
 use second::calls as plain;
@@ -9,14 +8,18 @@ use second::random::Random;
 use second::record::{sound, Record, CODES, DONE, LINES, LOG, OFFICES, UNSOUND};
 use second::samples::Sample;
 
+use crate::alike::{same, same_lent, Lent};
 use crate::breaks::{break_clause, CLAUSES};
+use crate::earlier;
 use crate::engine;
+use crate::forecasts;
 use crate::forge::{any_bytes, damaged, forged};
 use crate::samples::{any_sample, huge, Family};
 use crate::sheets;
+use crate::vectors;
 
 /// The calls, in the order of the tally.
-const CALLS: [&str; 11] = [
+const CALLS: [&str; 15] = [
     "found",
     "sound",
     "issue",
@@ -28,10 +31,12 @@ const CALLS: [&str; 11] = [
     "take",
     "all lines",
     "sheet",
+    "earlier place",
+    "write vectors",
+    "compare vector",
+    "forecast",
 ];
-const NUMBERS: usize = 13;
-/// Elements on both sides of a lent buffer that no call may touch.
-const GUARD: usize = 16;
+const NUMBERS: usize = 16;
 /// Calls on one record, one after the other.
 const CALLS_A_ROUND: usize = 8;
 
@@ -52,46 +57,11 @@ struct Tally {
     compared_all: u64,
     compared_some: u64,
     rows: u64,
+    not_all_read: u64,
+    /// Of done comparisons, the standings of the log and of each office's path: before, equal, after, beside.
+    standings: [u64; 4],
+    named: u64,
     long_logs: u64,
-}
-
-/// A buffer that is lent, between guards.
-#[derive(Clone, PartialEq)]
-struct Lent<T>(Vec<T>);
-
-impl<T: Copy + Default> Lent<T> {
-    fn new(contents: &[T]) -> Lent<T> {
-        let guard = [T::default(); GUARD];
-        Lent([&guard, contents, &guard].concat())
-    }
-
-    fn part(&self) -> &[T] {
-        &self.0[GUARD..self.0.len() - GUARD]
-    }
-
-    fn part_mut(&mut self) -> &mut [T] {
-        let end = self.0.len() - GUARD;
-        &mut self.0[GUARD..end]
-    }
-}
-
-/// Says where two values part, if they do.
-pub(crate) fn same<T: PartialEq + Debug>(what: &str, engine: T, second: T) -> Result<(), String> {
-    if engine == second {
-        return Ok(());
-    }
-    Err(format!("{what}\n  engine: {engine:?}\n  second: {second:?}"))
-}
-
-/// Says where two buffers part, if they do; guards count as places below 0 and past the end.
-fn same_lent<T: PartialEq + Debug>(what: &str, engine: &Lent<T>, second: &Lent<T>) -> Result<(), String> {
-    let pairs = engine.0.iter().zip(&second.0);
-    match pairs.enumerate().find(|(_, (engine, second))| engine != second) {
-        None => Ok(()),
-        Some((at, (engine, second))) => {
-            Err(format!("{what} at {}\n  engine: {engine:?}\n  second: {second:?}", at as isize - GUARD as isize))
-        }
-    }
 }
 
 /// One record and its log, under both.
@@ -245,6 +215,35 @@ impl Trial<'_> {
         Ok(())
     }
 
+    fn earlier(&mut self) -> Result<(), String> {
+        let (number, not_all) = earlier::any(self.random, &self.record, self.log.part())?;
+        self.count(11, number);
+        self.tally.not_all_read += u64::from(not_all);
+        Ok(())
+    }
+
+    fn write_vectors(&mut self) -> Result<(), String> {
+        let number = vectors::write(self.random, &self.record, self.log.part())?;
+        self.count(12, number);
+        Ok(())
+    }
+
+    fn compare_vector(&mut self) -> Result<(), String> {
+        let (number, standings) = vectors::any(self.random, &self.record, self.log.part())?;
+        self.count(13, number);
+        if number == DONE {
+            standings[..=self.record.n].iter().for_each(|&standing| self.tally.standings[standing as usize] += 1);
+        }
+        Ok(())
+    }
+
+    fn forecast(&mut self) -> Result<(), String> {
+        let (number, named) = forecasts::any(self.random, &self.record, self.log.part())?;
+        self.count(14, number);
+        self.tally.named += u64::from(named);
+        Ok(())
+    }
+
     /// A message: sent by a related office or by others, forged, damaged, or any bytes.
     fn message(&mut self, family: &Family) -> Vec<u8> {
         let random = &mut *self.random;
@@ -271,7 +270,7 @@ impl Trial<'_> {
 
     /// One call of any kind.
     fn call(&mut self, family: &Family) -> Result<(), String> {
-        match self.random.below(14) {
+        match self.random.below(18) {
             0 => self.found(),
             1 => self.sound(),
             2 | 3 => self.issue(),
@@ -281,6 +280,10 @@ impl Trial<'_> {
             7 | 8 => self.elect(),
             9 => self.send(),
             10 => self.sheet(),
+            11 => self.earlier(),
+            12 => self.write_vectors(),
+            13 => self.compare_vector(),
+            14 => self.forecast(),
             _ => self.take(family),
         }
     }
@@ -315,7 +318,8 @@ pub fn compare(seed: u64, rounds: u64) -> io::Result<bool> {
     let mut output = stdout().lock();
     let mut random = Random::new(seed);
     let mut tally = Tally::default();
-    if let Err(difference) = sheets::compare_layouts(&mut random) {
+    let layouts = sheets::compare_layouts(&mut random).and_then(|()| vectors::compare_layouts(&mut random));
+    if let Err(difference) = layouts {
         writeln!(output, "seed {seed}: {difference}")?;
         return Ok(false);
     }
@@ -362,6 +366,10 @@ impl Tally {
             self.compared_all, self.compared_some
         )?;
         writeln!(output, "rows of sheets {}", self.rows)?;
+        writeln!(output, "earlier places with entries that were not read {}", self.not_all_read)?;
+        let [before, equal, after, beside] = self.standings;
+        writeln!(output, "versions before a vector {before}, equal {equal}, after {after}, beside {beside}")?;
+        writeln!(output, "forecasts that name an entry {}", self.named)?;
         writeln!(output, "elections that moved weight {}, takes {}", self.elected_weight, self.taken_weight)?;
         writeln!(output, "elections that changed a code {}, takes {}", self.elected_code, self.taken_code)?;
         writeln!(output, "logs above {LOG} words {}", self.long_logs)?;

@@ -4,6 +4,7 @@ use std::mem::{offset_of, size_of, transmute};
 
 use joukerpan_sys as engine;
 use joukerpan_sys::Weights;
+use second::archive::PATHS;
 use second::record::{coded, Codes, Record, OFFICES};
 use second::sheet::Row;
 
@@ -90,4 +91,31 @@ pub fn sheet(record: &Record, log: &[u32], households: &[u8]) -> (u32, usize, Ve
         unsafe { engine::joukerpan_sheet(record, log.as_ptr(), log.len(), households.as_ptr(), households.len()) };
     let rows = answer.rows.iter().map(|row| Row { class: coded(row.class), total: row.total });
     (answer.number, answer.count, rows.collect())
+}
+
+pub fn frame_at(record: &Record, log: &[u32], p: usize, lines: &[u32]) -> (u32, usize, Codes) {
+    let record = to_engine(record);
+    let answer = unsafe { engine::joukerpan_frame_at(record, log.as_ptr(), log.len(), p, lines.as_ptr(), lines.len()) };
+    (answer.number, answer.words, answer.edits)
+}
+
+pub fn write_vectors(record: &Record, log: &[u32], output: &mut [u8]) -> (u32, usize) {
+    let (record, out) = (to_engine(record), output.as_mut_ptr());
+    let answer = unsafe { engine::joukerpan_write_vectors(record, log.as_ptr(), log.len(), out, output.len()) };
+    (answer.number, answer.length)
+}
+
+/// The number, and the standings as the engine numbers them.
+pub fn compare_vector(record: &Record, log: &[u32], vector: &[u8]) -> (u32, [u32; PATHS]) {
+    let record = to_engine(record);
+    let answer =
+        unsafe { engine::joukerpan_compare_vector(record, log.as_ptr(), log.len(), vector.as_ptr(), vector.len()) };
+    (answer.number, answer.answers)
+}
+
+/// The number, whether an entry is named, and the entry.
+pub fn forecast(record: &Record, log: &[u32], lowest: [u16; OFFICES], highest: [u16; OFFICES]) -> (u32, bool, u32) {
+    let (lowest, highest) = (Weights { of: lowest }, Weights { of: highest });
+    let answer = unsafe { engine::joukerpan_forecast(to_engine(record), log.as_ptr(), log.len(), lowest, highest) };
+    (answer.number, answer.named, answer.entry)
 }

@@ -3,16 +3,20 @@
 use std::io::{Error, ErrorKind, Result};
 use std::process::ExitCode;
 
+mod alike;
 mod benchmark;
 mod breaks;
 mod by_value;
 mod calls;
+mod earlier;
 mod engine;
+mod forecasts;
 mod forge;
 mod households;
 mod samples;
 mod sheets;
 mod stack;
+mod vectors;
 
 const USAGE: &str = "usage:
   compare calls SEED ROUNDS     random records, logs, messages and outputs; stops at the first difference

@@ -5,7 +5,7 @@ use second::record::{Record, LINES};
 use second::samples::{any_households, damaged_households, Sample};
 use second::sheet::{sheet, Row, HOUSEHOLDS, HOUSEHOLD_SIZE};
 
-use crate::calls::same;
+use crate::alike::same;
 use crate::engine;
 use crate::samples::Family;
 
