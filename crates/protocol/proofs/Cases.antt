@@ -14,9 +14,11 @@ use Rattle.protocol.specs.Counts.{countIn, countsAfter, quieterBy}
 use Rattle.protocol.specs.SettledRule.{bySettled}
 use Rattle.protocol.specs.Office.{Office, Message, votes, fresh}
 use Rattle.lists.specs.Tests.{both, pick}
-use Rattle.protocol.specs.Issue.{refusalAt, refuseIssue}
+use Rattle.protocol.specs.Limits.{lengthLimit}
+use Rattle.protocol.specs.Issue.{refusalAt}
 use Rattle.protocol.specs.Take.{rebase, catchUp, withTake, refuseTake}
 use Rattle.protocol.specs.Elect.{settle, electing, withElect, electCount}
+use Rattle.protocol.specs.Folding.{Folded, refuseFoldedIssue}
 use Rattle.protocol.proofs.World.{World, take, names, refusal, done, step}
 
 -- ── the cases' entries, weights and states ──
@@ -42,6 +44,10 @@ usual = three 40 35 25
 -- a log, and the ballots of offices 0, 1 and 2; the others have none
 abbrev pub state : List ℕ → List ℕ → List ℕ → List ℕ → Office
 state l x y z = record { log = l; tails = x ∷ y ∷ z ∷ [] ∷ [] ∷ [] ∷ [] ∷ [] ∷ [] }
+
+-- the state behind so many dropped entries, with nothing noted
+abbrev pub behind : ℕ → Office → Folded
+behind dropped o = record { dropped = dropped; held = o; noted = replicate 8 0 }
 
 abbrev from : ℕ → Office → Message
 from k o = record { sender = k; state = o }
@@ -157,13 +163,13 @@ mistakes = ((refl, refl), refl, refl, (refl, refl, refl, (refl, refl)), (refl, r
 
 -- "Tails of 31 and 32, lengths of 1023 and 1024, line 63 and 64, code 9999 and 10000": the number of an issue at the only office of a frame, whose
 -- part of the tail is all of it, so that 11 stands where 4 stood; line 65 is the first past the lines of moves
-abbrev full : ℕ → ℕ → Office
-full settled own = state (replicate settled a) (replicate own a) [] []
+abbrev full : ℕ → ℕ → Folded
+full settled own = behind 0 (state (replicate settled a) (replicate own a) [] [])
 
 pub limits :
-    (refuseIssue 1 0 63 9999 (full 0 0) ≡ 0) × (refuseIssue 1 0 65 9999 (full 0 0) ≡ 3) × (refuseIssue 1 0 63 10000 (full 0 0) ≡ 3) ×
-    (refuseIssue 1 0 63 9999 (full 0 31) ≡ 0) × (refuseIssue 1 0 63 9999 (full 0 32) ≡ 11) × (refuseIssue 1 0 65 9999 (full 0 32) ≡ 3) ×
-    (refuseIssue 1 0 63 9999 (full 1023 0) ≡ 0) × (refuseIssue 1 0 63 9999 (full 1024 0) ≡ 5) × (refuseIssue 1 0 63 9999 (full 992 31) ≡ 0) ×
-    (refuseIssue 1 0 63 9999 (full 993 31) ≡ 5) × (refuseIssue 1 0 63 9999 (full 992 32) ≡ 5)
-unfolding refuseIssue refusalAt proper both pick countIn
+    (refuseFoldedIssue 1 0 63 9999 (full 0 0) ≡ 0) × (refuseFoldedIssue 1 0 65 9999 (full 0 0) ≡ 3) × (refuseFoldedIssue 1 0 63 10000 (full 0 0) ≡ 3) ×
+    (refuseFoldedIssue 1 0 63 9999 (full 0 31) ≡ 0) × (refuseFoldedIssue 1 0 63 9999 (full 0 32) ≡ 11) × (refuseFoldedIssue 1 0 65 9999 (full 0 32) ≡ 3) ×
+    (refuseFoldedIssue 1 0 63 9999 (full 1023 0) ≡ 0) × (refuseFoldedIssue 1 0 63 9999 (full 1024 0) ≡ 5) × (refuseFoldedIssue 1 0 63 9999 (full 992 31) ≡ 0) ×
+    (refuseFoldedIssue 1 0 63 9999 (full 993 31) ≡ 5) × (refuseFoldedIssue 1 0 63 9999 (full 992 32) ≡ 5)
+unfolding refuseFoldedIssue refusalAt lengthLimit proper both pick countIn
 limits = (refl, refl, refl, refl, refl, refl, refl, refl, refl, refl, refl)

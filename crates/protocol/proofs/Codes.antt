@@ -3,6 +3,7 @@
 --     codes-append                       a log in two parts: the second goes on from the codes of the first
 --     codes-length                       as many codes
 --     codes-at                           each is the number of the last edit of its line: the settled frame
+--     kept-edit                          (xiv) the last edit, from the codes that dropped entries left, is that of the whole log
 -- Assumes nothing.
 use mathlib.Core.Path.{_≡_, refl, sym, ap, _∙_}
 use mathlib.Core.List.{List, [], _∷_, _++_, foldl-append}
@@ -10,14 +11,15 @@ use mathlib.Core.Option.{Option, none, some}
 use Prim.Native.Nat.{ℕ, zero, suc, _<_}
 use native.Mathlib.Omega.{arith}
 use lib.Dec.{eqb}
-use lib.ListN.{length, getD, length-set}
+use lib.ListN.{length, getD, length-set, length-replicate}
 use lib.Seq.{getD-set-same, getD-set-other}
 use borrow.Author.Tests.{eqb-true, eqb-false}
 use Rattle.lists.specs.Tests.{pick}
-use Rattle.lists.proofs.Tests.{pick-cases}
+use Rattle.lists.proofs.Tests.{pick-cases, getD-replicate}
 use Rattle.protocol.specs.Entry.{lineOf, codeOf}
-use Rattle.protocol.specs.Frames.{editAfter}
-use Rattle.protocol.specs.Codes.{cell, ofCell, coded, codesAfter}
+use Rattle.protocol.specs.Frames.{editAfter, lastEdit}
+use Rattle.protocol.specs.Codes.{cell, ofCell, noCodes, coded, codesAfter}
+use Rattle.protocol.proofs.Frames.{edit-append}
 
 pub cell-apart : (code : ℕ) → cell (some code) ≡ cell none → ⊥
 cell-apart code e = omega arith
@@ -53,3 +55,9 @@ edits-at codes (v ∷ log) line h =
 
 pub codes-at : (codes log : List ℕ) (line : ℕ) → line < length codes → getD (codesAfter codes log) line 0 ≡ cell (editAfter line (ofCell (getD codes line 0)) log)
 codes-at codes log line h = sym (cell-of (getD (codesAfter codes log) line 0)) ∙ ap cell (edits-at codes log line h)
+
+pub kept-edit : (p l : List ℕ) (line : ℕ) → line < 64 → editAfter line (ofCell (getD (codesAfter noCodes p) line 0)) l ≡ lastEdit line (p ++ l)
+kept-edit p l line h =
+    ap (λ (o : Option ℕ). editAfter line o l)
+    (edits-at noCodes p line (rw (length-replicate {A = ℕ} 64 0) h) ∙ ap (λ (c : ℕ). editAfter line (ofCell c) p) (getD-replicate {A = ℕ} 64 0 line))
+    ∙ sym (edit-append line none p l)

@@ -15,8 +15,8 @@ use lib.Dec.{eqb}
 use lib.ListN.{length, getD, length-append}
 use Rattle.protocol.specs.Vote.{Rule}
 use Rattle.protocol.specs.Moves.{weightsAfter}
-use Rattle.protocol.specs.Counts.{noCounts, quieter}
-use Rattle.protocol.specs.SettledRule.{bySettled}
+use Rattle.protocol.specs.Counts.{quieter}
+use Rattle.protocol.specs.SettledRule.{ruleFrom}
 use Rattle.protocol.specs.Winning.{Wins}
 use Rattle.protocol.specs.Office.{Office, first, votes}
 use Rattle.protocol.specs.Elect.{lose, settle, tailEntries, next, electing, withElect, electCount}
@@ -158,9 +158,9 @@ module _ (rule : Rule) (law : NamesVoted rule) where
       let whole : l ≡ length (o .log ++ (e ∷ [])) + length (g .0) = ap length (g .1) ∙ length-append (o .log ++ (e ∷ [])) (g .0) in
       omega (arith, ap (λ (r : Office). length (r .log)) (elect-some o e q), whole, length-append (o .log) (e ∷ []))
 
--- the frame's rule: after elect no entry wins, by the weights and the tie order of the log as it is then
-pub elect-no-winner : (founding : List ℕ) (o : Office) (e : ℕ)
-    → let r : Office = withElect (bySettled founding) o in Wins (weightsAfter founding (r .log)) (quieter (noCounts 8) (r .log)) (votes r) e → ⊥
-elect-no-winner founding o e w =
-    let r : Office = withElect (bySettled founding) o in
-    winner-none (weightsAfter founding (r .log)) (quieter (noCounts 8) (r .log)) (votes r) .0 (elect-stops (bySettled founding) (byLog-voted (weightsAfter founding) (quieter (noCounts 8))) o) e w
+-- the frame's rule, from whatever is kept: after elect no entry wins, by the weights and the tie order of the log as it is then
+pub elect-no-winner : (weights counts : List ℕ) (o : Office) (e : ℕ)
+    → let r : Office = withElect (ruleFrom weights counts) o in Wins (weightsAfter weights (r .log)) (quieter counts (r .log)) (votes r) e → ⊥
+elect-no-winner weights counts o e w =
+    let r : Office = withElect (ruleFrom weights counts) o in
+    winner-none (weightsAfter weights (r .log)) (quieter counts (r .log)) (votes r) .0 (elect-stops (ruleFrom weights counts) (byLog-voted (weightsAfter weights) (quieter counts)) o) e w

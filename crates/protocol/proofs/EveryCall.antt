@@ -2,18 +2,19 @@
 use mathlib.Core.Path.{_≡_, refl, sym, ap, _∙_}
 use mathlib.Core.List.{List, [], _∷_}
 use mathlib.Core.Option.{Option, none, some, Option·some-injective}
-use mathlib.Core.Bool.{Bool, true, false, _&&_, _||_, cond, true≢false}
+use mathlib.Core.Bool.{Bool, true, false, _&&_, _||_, not, cond, true≢false}
 use mathlib.Core.Logic.{_⊎_, inl, inr}
-use Prim.Native.Nat.{ℕ, zero, suc, _+_, _<_}
+use Prim.Native.Nat.{ℕ, zero, suc, _<_}
 use native.Mathlib.Omega.{arith}
 use lib.Dec.{eqb, ltb}
 use lib.ListN.{length, getElem?}
 use borrow.Author.Tests.{eqb-true, ltb-true}
-use Rattle.protocol.specs.Entry.{value}
+use Rattle.lists.specs.Tests.{pick}
+use Rattle.protocol.specs.Entry.{value, proper}
 use Rattle.protocol.specs.Beginning.{_⊑_, _⊏_, begins}
 use Rattle.protocol.specs.Vote.{Rule}
-use Rattle.protocol.specs.Office.{Message, tail}
-use Rattle.protocol.specs.Issue.{withIssue}
+use Rattle.protocol.specs.Office.{Message}
+use Rattle.protocol.specs.Issue.{withIssue, refuseEntry}
 use Rattle.protocol.specs.Take.{refuseTake}
 use Rattle.protocol.specs.Elect.{withElect}
 use Rattle.protocol.proofs.World.{World, Call, issue, send, take, elect, idle, names, taking, refuseTaking, refusal, done, step}
@@ -23,7 +24,6 @@ use Rattle.protocol.proofs.Lawful.{Lawful}
 use Rattle.protocol.proofs.History.{past-refl, after, after-length, officeAt, logAt}
 use Rattle.protocol.proofs.Known.{Sent}
 use Rattle.protocol.proofs.Invariant.{Invariant, NextWorld, advance, same-left, same-next, put-next, invariant-start}
-use Rattle.protocol.proofs.Limits.{issue-never}
 use Rattle.protocol.proofs.IssueKeeps.{issue-change}
 use Rattle.protocol.proofs.TakeKeeps.{known-message, taking-change}
 use Rattle.protocol.proofs.ElectKeeps.{elect-change}
@@ -32,6 +32,11 @@ use Rattle.protocol.proofs.ElectKeeps.{elect-change}
 ten-not : (t : Bool) → t ≡ true → _≡_ {A = ℕ} (cond t 0 10) 10 → ⊥
 ten-not true e h = omega arith
 ten-not false e h = true≢false (sym e)
+
+issue-not : (a : Bool) → _≡_ {A = ℕ} (pick a 3 0) 10 → ⊥
+unfolding pick
+issue-not true h = omega arith
+issue-not false h = omega arith
 
 send-not : (a : Bool) → _≡_ {A = ℕ} (cond a 0 6) 10 → ⊥
 send-not true h = omega arith
@@ -100,8 +105,8 @@ module _ (rule : Rule) (n : ℕ) (law : Lawful rule) where
       go false (inr z) h = ten-not _ (ap (λ (b : Bool). begins l (m .state .log) || b) (begins-of (m .state .log) l (⊏-⊑ (m .state .log) l z)) ∙ or-right (begins l (m .state .log))) h
 
   pub never-10 : (cs : List Call) → Invariant rule n law cs → (c : Call) → refusal (after rule n cs) c ≡ 10 → ⊥
-  unfolding refusal
-  never-10 cs inv (issue k line code) h = issue-never (length (after rule n cs .offices)) k line code (officeAt rule n k cs) .no-10 h
+  unfolding refusal refuseEntry
+  never-10 cs inv (issue k line code) h = issue-not (not (proper (length (after rule n cs .offices)) line code)) h
   never-10 cs inv (send k room) h = send-not room h
   never-10 cs inv (take k i) h = take-never cs inv k (getElem? (after rule n cs .sent) i) i refl h
   never-10 cs inv (elect k) h = omega arith

@@ -8,8 +8,11 @@ use Rattle.lists.specs.Tests.{both, pick, allB}
 use Rattle.protocol.specs.Entry.{value, proper}
 use Rattle.protocol.specs.Counts.{countIn, countsAfter}
 use Rattle.protocol.specs.Fair.{part, fair}
-use Rattle.protocol.specs.Issue.{refusalAt, refuseIssue}
-use Rattle.protocol.proofs.Cases.{a, b, c, state}
+use Rattle.protocol.specs.Limits.{lengthLimit}
+use Rattle.protocol.specs.Issue.{refusalAt}
+use Rattle.protocol.specs.Folding.{refuseFoldedIssue}
+use Rattle.protocol.specs.Office.{Office}
+use Rattle.protocol.proofs.Cases.{a, b, c, state, behind}
 
 -- office 0 hands 5 to office 1
 abbrev handed : ℕ
@@ -36,13 +39,17 @@ pub tails :
 unfolding both allB countsAfter fair
 tails = (refl, refl, refl, refl, refl, refl, refl, refl, refl, refl, refl, refl, refl, refl, refl, refl, refl)
 
+-- with nothing dropped
+abbrev number : ℕ → ℕ → ℕ → ℕ → Office → ℕ
+number n k line code o = refuseFoldedIssue n k line code (behind 0 o)
+
 pub issues :
     -- the busy office is refused while another still adds behind the same tail
-    (refuseIssue 3 0 5 1 (state [] (replicate 10 a) [] []) ≡ 11) × (refuseIssue 3 1 5 1 (state [] [] (replicate 10 a) []) ≡ 0) ×
-    (refuseIssue 3 0 5 1 (state [] (replicate 9 a ++ (handed ∷ [])) [] []) ≡ 11) × (refuseIssue 3 0 5 1 (state [] (replicate 9 a ++ replicate 10 b) [] []) ≡ 0) ×
+    (number 3 0 5 1 (state [] (replicate 10 a) [] []) ≡ 11) × (number 3 1 5 1 (state [] [] (replicate 10 a) []) ≡ 0) ×
+    (number 3 0 5 1 (state [] (replicate 9 a ++ (handed ∷ [])) [] []) ≡ 11) × (number 3 0 5 1 (state [] (replicate 9 a ++ replicate 10 b) [] []) ≡ 0) ×
     -- 3 and 5 come first
-    (refuseIssue 3 0 66 0 (state [] (replicate 10 a) [] []) ≡ 3) × (refuseIssue 3 0 5 1 (state (replicate 1014 b) (replicate 10 a) [] []) ≡ 5) ×
+    (number 3 0 66 0 (state [] (replicate 10 a) [] []) ≡ 3) × (number 3 0 5 1 (state (replicate 1014 b) (replicate 10 a) [] []) ≡ 5) ×
     -- the part of the tail, and not of the path
-    (refuseIssue 3 0 5 1 (state (replicate 20 a) (replicate 9 a) [] []) ≡ 0)
-unfolding both pick proper countIn refusalAt refuseIssue
+    (number 3 0 5 1 (state (replicate 20 a) (replicate 9 a) [] []) ≡ 0)
+unfolding both pick proper countIn lengthLimit refusalAt refuseFoldedIssue
 issues = (refl, refl, refl, refl, refl, refl, refl)

@@ -27,7 +27,7 @@ module _ (rule : Rule) (n : ℕ) where
   unfolding refusal
   issued-office most cs l p e i =
       let few : length (after rule n (i .moment) .offices) ≤ 8 = rw (after-length rule n (i .moment)) most in
-      parts-of (length (after rule n (i .moment) .offices)) (i .k) (i .line) (i .code) (officeAt rule n (i .k) (i .moment)) few (i .done) e (i .entry) .office
+      parts-of (length (after rule n (i .moment) .offices)) (i .k) (i .line) (i .code) few (i .done) e (i .entry) .office
 
   -- right after its issue the entry is its office's vote
   pub issued-voted : (cs : List Call) (l p : List ℕ) (e : ℕ) (i : Issued rule n cs l p e) → Voted rule n cs (i .k) p e

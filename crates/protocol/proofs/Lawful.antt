@@ -1,4 +1,5 @@
 -- What the one order needs of an election rule, and that the frame's has it.
+--     from-lawful         the rule that goes on from kept weights and counts
 --     settled-lawful      the frame's rule
 --     decides-alike       it depends on founding weights, settled log and votes alone
 --     hears-alike         and two offices that decide at one log decide alike, whichever votes they have heard
@@ -11,7 +12,7 @@ use Prim.Native.Nat.{ℕ}
 use Rattle.protocol.specs.Vote.{Votes, Rule, byLog}
 use Rattle.protocol.specs.Moves.{weightsAfter}
 use Rattle.protocol.specs.Counts.{noCounts, countsAfter, quieter}
-use Rattle.protocol.specs.SettledRule.{bySettled}
+use Rattle.protocol.specs.SettledRule.{ruleFrom, bySettled}
 use Rattle.protocol.specs.Office.{Office, votes}
 use Rattle.protocol.specs.Winning.{Wins, Asymmetric}
 use Rattle.protocol.proofs.Vote.{Grows, NamesVoted, wins-unique, wins-grows, wins-voted, winner-wins}
@@ -38,9 +39,13 @@ byLog-lawful weights before asym = record {
   voted = λ l v e w. let s = wins-voted (weights l) (before l) v e w in (s .0, s .2);
 }
 
+-- the rule for logs behind entries that left these weights and these counts
+pub from-lawful : (weights counts : List ℕ) → Lawful (ruleFrom weights counts)
+from-lawful weights counts = byLog-lawful (weightsAfter weights) (quieter counts) (λ log. quieter-asymmetric (countsAfter counts log))
+
 -- the frame's rule
 pub settled-lawful : (founding : List ℕ) → Lawful (bySettled founding)
-settled-lawful founding = byLog-lawful (weightsAfter founding) (quieter (noCounts 8)) (λ log. quieter-asymmetric (countsAfter (noCounts 8) log))
+settled-lawful founding = from-lawful founding (noCounts 8)
 
 -- (iii) "The order depends on the settled log alone, so every office that decides at that log decides alike": of two offices of a frame with
 -- equal settled logs and equal votes both settle the same entry, or both none

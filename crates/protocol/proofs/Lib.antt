@@ -16,6 +16,7 @@ pub mod Counts
 pub mod Quieter
 pub mod Fair
 pub mod Limits
+pub mod Issue
 pub mod FiveFirst
 -- demand 3: the world, what is asked of the rule, the four invariants, each call, the theorem
 pub mod World
@@ -40,3 +41,17 @@ pub mod Held
 pub mod Twice
 pub mod Join
 pub mod Swap
+-- request (xiv): what is kept of dropped entries, the world with folding, each call on whole logs, one order
+pub mod Kept
+pub mod FoldedWorld
+pub mod Whole
+pub mod Folding
+pub mod FoldedSound
+pub mod FoldedMoves
+pub mod FoldedKeeps
+pub mod FoldedOrder
+pub mod FoldedKept
+pub mod FoldedMachine
+pub mod FoldedLimits
+pub mod FoldedLaws
+pub mod FoldedCases

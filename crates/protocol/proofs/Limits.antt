@@ -1,39 +1,34 @@
 -- The limits of an office's state, as facts by name, and that every call keeps them.
 --     Fine, fine, fine-of       the facts behind the test `officeFine`, and both ways between them
 --     Head, head, head-true     the same of the numbers that founding is given
---     fresh-fine, issue-fine, settle-fine, elect-fine, catchUp-fine, take-fine      each call keeps them
---     issue-done, take-done     what a call that is done found
---     below-stopped, never-4    (v) what stops an office below its part; a full tail has the own office's part
+--     fresh-fine, settle-fine, elect-fine, catchUp-fine, take-fine      each call keeps them; issue has a file of its own (Issue)
+--     take-done                 what a take that is done found
 -- Assumes nothing.
 use mathlib.Core.Path.{_≡_, refl, sym, ap, subst, _∙_}
-use mathlib.Core.Bool.{Bool, true, false, _||_, not, cond, true≢false}
+use mathlib.Core.Bool.{Bool, true, false, _||_, cond, true≢false}
 use mathlib.Core.List.{List, [], _∷_, _++_, append-nil}
 use mathlib.Core.Option.{none, some, Option·none-ne-some, Option·some-injective}
 use mathlib.Core.Logic.{_⊎_, inl, inr}
 use Prim.Native.Nat.{ℕ, zero, suc, _+_, _-_, _<_, _≤_}
-use native.Mathlib.Decide.{decLt}
 use native.Mathlib.Omega.{arith}
-use lib.Dec.{eqb, leb}
-use lib.ListN.{length, drop, replicate, length-append, length-map, length-set, length-drop}
+use lib.Dec.{eqb}
+use lib.ListN.{length, drop, replicate, length-append, length-map, length-drop}
 use lib.Seq.{drop-set-lt}
-use borrow.Author.Tests.{eqb-true, eqb-false, leb-true, leb-false, ltb-true, eq-eqb, ne-eqb, le-leb, lt-leb, lt-ltb}
-use Rattle.lists.specs.Tests.{allB, pick}
-use Rattle.protocol.specs.Entry.{value, officeOf, lineOf, codeOf, proper, isEntry}
-use Rattle.protocol.specs.Counts.{countIn}
-use Rattle.protocol.specs.Fair.{part, fair}
+use borrow.Author.Tests.{eqb-true, eqb-false, leb-true, ltb-true, eq-eqb, le-leb, lt-ltb}
+use Rattle.lists.specs.Tests.{allB}
+use Rattle.protocol.specs.Entry.{isEntry}
+use Rattle.protocol.specs.Fair.{fair}
 use Rattle.protocol.specs.Beginning.{_⊑_, _⊏_, begins, extends}
 use Rattle.protocol.specs.Vote.{Rule}
 use Rattle.protocol.specs.Office.{Office, Message, fresh, tail, first, votes}
 use Rattle.protocol.specs.Limits.{isOffice, total, weightsFine, headFine, Head, isEmpty, logFine, tailFine, tailsFine, officeFine}
-use Rattle.protocol.specs.Issue.{withIssue, refusalAt, refuseIssue}
 use Rattle.protocol.specs.Take.{rebased, rebase, catchUp, adopt, adopts, adopting, offers, withTake, refuseTake}
 use Rattle.protocol.specs.Elect.{lose, settle, electing, withElect}
 use Rattle.lists.proofs.Tests.{both-0, both-1, both-true, all-getD, all-one, all-append, all-map, all-set, all-drop, all-replicate, drop-map, if-cases}
 use Rattle.protocol.proofs.Beginning.{⊑-refl, ⊑-cases, ⊏-⊑, ⊑-⊏-trans, ⊑-length, ⊏-length, ⊏-irrefl, ⊑-append, ⊑-trans, begins-true, extends-true, extends-false}
 use Rattle.protocol.proofs.Vote.{NamesVoted}
 use Rattle.protocol.proofs.Office.{rebased-nil, next-cases}
-use Rattle.protocol.proofs.Moves.{proper-true, value-parts, value-entry}
-use Rattle.protocol.proofs.Fair.{fair-nil, fair-drop, fair-behind, fair-append, fair-short, below-short}
+use Rattle.protocol.proofs.Fair.{fair-nil, fair-drop, fair-behind}
 
 -- ── the facts by name ──
 pub record FineTail (n settled : ℕ) (t : List ℕ) : Type 0 where
@@ -128,97 +123,6 @@ fresh-fine n = record {
   tails = all-replicate (tailFine n 0) 8 [] (fine-tail-of n 0 [] (nil-fine n 0 (omega arith)));
   rest = all-drop isEmpty n (replicate 8 []) (all-replicate isEmpty 8 [] refl);
 }
-
--- ── issue ──
-more-fine : (n settled : ℕ) (t : List ℕ) (e : ℕ) → FineTail n settled t → isEntry n e ≡ true → countIn (officeOf e) t < part n → settled + length t < 1024 → FineTail n settled (t ++ (e ∷ []))
-more-fine n settled t e old p below l =
-    let more : length (t ++ (e ∷ [])) ≡ length t + 1 = length-append t (e ∷ []) in
-    let all : allB (isEntry n) (t ++ (e ∷ [])) ≡ true = all-append (isEntry n) t (e ∷ []) (old .entries) (all-one (isEntry n) e p) in
-    let parts : fair n (t ++ (e ∷ [])) ≡ true = fair-append n e t (old .parts) below in
-    record { short = fair-short n (t ++ (e ∷ [])) parts all; room = omega arith; entries = all; parts = parts }
-
-pub issue-fine : (n k e : ℕ) (o : Office) → Fine n o → k < n → isEntry n e ≡ true → countIn (officeOf e) (tail o k) < part n → length (o .log) + length (tail o k) < 1024 → Fine n (withIssue k e o)
-unfolding withIssue
-issue-fine n k e o f h p below room =
-    let new : List ℕ = tail o k ++ (e ∷ []) in
-    let settled : ℕ = length (o .log) in
-    record {
-      eight = length-set (o .tails) k new ∙ f .eight;
-      most = f .most;
-      entries = f .entries;
-      tails = all-set (tailFine n settled) (o .tails) k new (f .tails) (fine-tail-of n settled new (more-fine n settled (tail o k) e (tail-at n o f k) p below room));
-      rest = rw (drop-set-lt n (o .tails) k new h) (f .rest);
-    }
-
--- what a done issue found
-pub record IssueDone (n k line code : ℕ) (o : Office) : Type 0 where
-  pub limits : proper n line code ≡ true
-  pub room : length (o .log) + length (tail o k) ≡ 1024 → ⊥
-  pub below : countIn k (tail o k) < part n
-
-pub issue-done : (n k line code : ℕ) (o : Office) → refuseIssue n k line code o ≡ 0 → IssueDone n k line code o
-unfolding refuseIssue refusalAt pick
-issue-done n k line code o h = go (proper n line code) refl (eqb (length (o .log) + length (tail o k)) 1024) refl (leb (part n) (countIn k (tail o k))) refl h
-  where
-    go : (a : Bool) → proper n line code ≡ a → (c : Bool) → eqb (length (o .log) + length (tail o k)) 1024 ≡ c → (d : Bool) → leb (part n) (countIn k (tail o k)) ≡ d
-        → _≡_ {A = ℕ} (pick (not a) 3 (pick c 5 (pick d 11 0))) 0 → IssueDone n k line code o
-    go false p c r d s x = absurd (omega arith)
-    go true p true r d s x = absurd (omega arith)
-    go true p false r true s x = absurd (omega arith)
-    go true p false r false s x = record {
-      limits = p;
-      room = eqb-false (length (o .log) + length (tail o k)) 1024 r;
-      below = leb-false (part n) (countIn k (tail o k)) s;
-    }
-
--- (v) "An office below its part is never stopped by the others' edits, save by 5": whatever its own tail and the other ballots hold, an entry that
--- it may issue is done where there is room in the log
-pub below-stopped : (n k line code : ℕ) (o : Office) → proper n line code ≡ true → countIn k (tail o k) < part n
-    → refuseIssue n k line code o ≡ pick (eqb (length (o .log) + length (tail o k)) 1024) 5 0
-unfolding refuseIssue refusalAt pick
-below-stopped n k line code o p h = rw (p, lt-leb (part n) (countIn k (tail o k)) h) refl
-
--- (v) "number 4 is to be shown never to occur": where the own tail is 32 long, the own office has its part of it, so that 11 holds where 4 did
-pub never-4 : (n k : ℕ) (o : Office) → Fine n o → k < n → length (tail o k) ≡ 32 → part n ≤ countIn k (tail o k)
-never-4 n k o f h e = go (decLt (countIn k (tail o k)) (part n))
-  where
-    go : Dec (countIn k (tail o k) < part n) → part n ≤ countIn k (tail o k)
-    go (yes b) = let t = tail-at n o f k in absurd (omega (arith, below-short n k (tail o k) h (t .parts) (t .entries) b))
-    go (no b) = omega arith
-
--- an issue is done, or refused with 3, 5 or 11: never with 1, which the state of a sound record does not meet, never with document 01's 4, and
--- never with 10
-pub record IssueNever (x : ℕ) : Type 0 where
-  pub no-1 : x ≡ 1 → ⊥
-  pub no-4 : x ≡ 4 → ⊥
-  pub no-10 : x ≡ 10 → ⊥
-
-pub issue-never : (n k line code : ℕ) (o : Office) → IssueNever (refuseIssue n k line code o)
-unfolding refuseIssue refusalAt pick
-issue-never n k line code o = go (not (proper n line code)) (eqb (length (o .log) + length (tail o k)) 1024) (leb (part n) (countIn k (tail o k)))
-  where
-    other : (x : ℕ) → (x ≡ 1 → ⊥) → (x ≡ 4 → ⊥) → (x ≡ 10 → ⊥) → IssueNever x
-    other x p q r = record { no-1 = p; no-4 = q; no-10 = r }
-
-    go : (a b c : Bool) → IssueNever (pick a 3 (pick b 5 (pick c 11 0)))
-    go true b c = other 3 (λ e. omega arith) (λ e. omega arith) (λ e. omega arith)
-    go false true c = other 5 (λ e. omega arith) (λ e. omega arith) (λ e. omega arith)
-    go false false true = other 11 (λ e. omega arith) (λ e. omega arith) (λ e. omega arith)
-    go false false false = other 0 (λ e. omega arith) (λ e. omega arith) (λ e. omega arith)
-
-pub issue-done-fine : (n k line code : ℕ) (o : Office) → Fine n o → k < n → n ≤ 8 → refuseIssue n k line code o ≡ 0 → Fine n (withIssue k (value k line code) o)
-issue-done-fine n k line code o f h m r =
-    let d = issue-done n k line code o r in
-    let t = tail-at n o f k in
-    let own : officeOf (value k line code) ≡ k = value-parts n k line code m (proper-true n line code (d .limits)) .0 in
-    issue-fine n k (value k line code) o f h (value-entry n k line code h m (d .limits)) (rw own (d .below)) (below _ 1024 (t .room) (d .room))
-  where
-    below : (x y : ℕ) → x ≤ y → (x ≡ y → ⊥) → x < y
-    below x y a b = go (decLt x y)
-      where
-        go : Dec (x < y) → x < y
-        go (yes c) = c
-        go (no c) = absurd (b (omega arith))
 
 -- ── elect ──
 -- e, and so many entries after it, had room behind the log before e was settled

@@ -103,13 +103,13 @@ module _ (m : Machine) (rule : Rule) (n : ℕ) (f : Follows m rule n) where
   view-runs w [] s = refl
   view-runs w (c ∷ cs) s = view-runs (m .move w c) cs (f .sound-move w c s) ∙ ap (λ (x : World). run rule x (calls m (m .move w c) cs)) (f .moves w c s)
 
-  theirs : List (m .C) → List Call
+  pub theirs : List (m .C) → List Call
   theirs cs = calls m (m .start) cs
 
   sound-at : (cs : List (m .C)) → f .Sound (reached m cs)
   sound-at cs = sound-runs (m .start) cs (f .sound-start)
 
-  view-at : (cs : List (m .C)) → world rule n (theirs cs) ≡ m .view (reached m cs)
+  pub view-at : (cs : List (m .C)) → world rule n (theirs cs) ≡ m .view (reached m cs)
   unfolding theirs
   view-at cs = sym (view-runs (m .start) cs (f .sound-start) ∙ ap (λ (x : World). run rule x (calls m (m .start) cs)) (f .starts))
 

@@ -1,17 +1,16 @@
 -- Request (i), computed on the definitions: what a settled move does, the limits of moves, and elections with moves in them. Assumes nothing.
 use mathlib.Core.Path.{_≡_, refl}
-use mathlib.Core.List.{List, [], _∷_}
+use mathlib.Core.List.{[], _∷_}
 use mathlib.Core.Bool.{true, false}
 use Prim.Native.Nat.{ℕ, _+_}
 use Rattle.lists.specs.Tests.{both, pick}
 use Rattle.protocol.specs.Entry.{value, proper}
 use Rattle.protocol.specs.Limits.{isWeight}
 use Rattle.protocol.specs.Moves.{isMove, canShift, move, weightsAfter}
-use Rattle.protocol.specs.Counts.{countIn, countsAfter, quieterBy}
+use Rattle.protocol.specs.Counts.{countsAfter, quieterBy}
 use Rattle.protocol.specs.Vote.{tally, unheard, supported, wins, winner}
-use Rattle.protocol.specs.Issue.{refusalAt, refuseIssue}
+use Rattle.protocol.specs.Issue.{refuseEntry}
 use Rattle.protocol.specs.Elect.{settle, electing, withElect}
-use Rattle.protocol.specs.Office.{fresh}
 use Rattle.protocol.proofs.Cases.{a, b, d, three, usual, state, Elects}
 
 -- office `from` moves x to office `to`
@@ -37,8 +36,8 @@ pub limits :
     (proper 3 63 0 ≡ true) × (proper 3 63 9999 ≡ true) × (proper 3 63 10000 ≡ false) ×
     (proper 3 64 0 ≡ false) × (proper 3 64 1 ≡ true) × (proper 3 66 9999 ≡ true) × (proper 3 66 10000 ≡ false) × (proper 3 67 1 ≡ false) ×
     (proper 1 64 1 ≡ true) × (proper 1 65 1 ≡ false) × (proper 8 71 1 ≡ true) × (proper 8 72 1 ≡ false) × (proper 8 255 1 ≡ false) ×
-    (refuseIssue 3 0 66 1 fresh ≡ 0) × (refuseIssue 3 0 67 1 fresh ≡ 3) × (refuseIssue 3 0 66 0 fresh ≡ 3)
-unfolding both pick proper refusalAt refuseIssue countIn
+    (refuseEntry 3 66 1 ≡ 0) × (refuseEntry 3 67 1 ≡ 3) × (refuseEntry 3 66 0 ≡ 3)
+unfolding both pick proper refuseEntry
 limits = (refl, refl, refl, refl, refl, refl, refl, refl, refl, refl, refl, refl, refl, refl, refl, refl)
 
 pub elections :

@@ -12,13 +12,13 @@ use Rattle.protocol.specs.Beginning.{_⊑_}
 use Rattle.protocol.specs.Vote.{Rule}
 use Rattle.protocol.specs.SettledRule.{bySettled}
 use Rattle.protocol.specs.Office.{Office, fresh, path}
-use Rattle.protocol.specs.Issue.{refuseIssue}
+use Rattle.protocol.specs.Issue.{refuseEntry}
 use Rattle.protocol.specs.Longest.{longest}
 use Rattle.lists.proofs.Tests.{getD-map}
 use Rattle.protocol.proofs.Beginning.{⊑-trans, snoc-same, take-⊑}
 use Rattle.protocol.proofs.Longest.{longest-is}
 use Rattle.protocol.proofs.World.{World, Call, issue, at, founded, refusal, run}
-use Rattle.protocol.proofs.Limits.{issue-done}
+use Rattle.protocol.proofs.Issue.{entry-done}
 use Rattle.protocol.proofs.Moves.{proper-true, value-parts}
 use Rattle.protocol.proofs.Lawful.{Lawful, settled-lawful}
 use Rattle.protocol.proofs.History.{Past, now, before, past-refl, past-trans, past-cases, after, after-length, logAt}
@@ -104,15 +104,15 @@ find (d ∷ cs) h c m p = go (find cs (d ∷ h) c m p)
     go (inl q) = here (past-cases q)
     go (inr q) = inr (d ∷ q .0, q .1, ap (λ (l : List Call). d ∷ l) (q .2), q .3)
 
--- a done issue keeps the limits, so its office, line and code are in the value
+-- a done issue has a line and a code within the limits, so its office, line and code are in the value
 pub record Parts (k line code e : ℕ) : Type 0 where
   pub office : officeOf e ≡ k
   pub line-is : lineOf e ≡ line
   pub code-is : codeOf e ≡ code
 
-pub parts-of : (n k line code : ℕ) (o : Office) → n ≤ 8 → refuseIssue n k line code o ≡ 0 → (e : ℕ) → value k line code ≡ e → Parts k line code e
-parts-of n k line code o m h e q =
-    let s = value-parts n k line code m (proper-true n line code (issue-done n k line code o h .limits)) in
+pub parts-of : (n k line code : ℕ) → n ≤ 8 → refuseEntry n line code ≡ 0 → (e : ℕ) → value k line code ≡ e → Parts k line code e
+parts-of n k line code m h e q =
+    let s = value-parts n k line code m (proper-true n line code (entry-done n line code h)) in
     subst (λ (v : ℕ). Parts k line code v) q (record { office = s .0; line-is = s .1; code-is = s .2 })
 
 module _ (rule : Rule) (n : ℕ) where
@@ -141,7 +141,7 @@ module _ (rule : Rule) (n : ℕ) where
       go (inr q) =
           let w = after rule n (i .moment) in
           let few : length (w .offices) ≤ 8 = rw (after-length rule n (i .moment)) most in
-          let parts = parts-of (length (w .offices)) (i .k) (i .line) (i .code) (at w (i .k)) few (i .done) e (i .entry) in
+          let parts = parts-of (length (w .offices)) (i .k) (i .line) (i .code) few (i .done) e (i .entry) in
           let same : after rule n (i .moment) ≡ world rule n (q .0) = ap (after rule n) (q .3) ∙ sym (world-after (q .0)) in
           record {
             k = i .k;

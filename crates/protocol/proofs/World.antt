@@ -9,7 +9,7 @@ use lib.ListN.{length, getD, set, replicate, getElem?}
 use Rattle.protocol.specs.Entry.{value}
 use Rattle.protocol.specs.Vote.{Rule}
 use Rattle.protocol.specs.Office.{Office, Message, fresh}
-use Rattle.protocol.specs.Issue.{withIssue, refuseIssue}
+use Rattle.protocol.specs.Issue.{withIssue, refuseEntry}
 use Rattle.protocol.specs.Take.{withTake, refuseTake}
 use Rattle.protocol.specs.Elect.{withElect}
 
@@ -55,9 +55,9 @@ abbrev pub taking : ℕ → Option Message → Office → Office
 taking k none o = o
 taking k (some m) o = withTake k m o
 
--- the call's number, 0 when it is done
+-- the call's number, 0 when it is done. The limits of what an office holds are not this world's: an issue that meets one is viewed as `idle`
 unfoldable pub refusal : World → Call → ℕ
-refusal w (issue k line code) = refuseIssue (length (w .offices)) k line code (at w k)
+refusal w (issue k line code) = refuseEntry (length (w .offices)) line code
 refusal w (send k room) = cond room 0 6
 refusal w (take k m) = refuseTaking k (getElem? (w .sent) m) (at w k)
 refusal w (elect k) = 0

@@ -12,6 +12,7 @@ pub mod SettledRule
 pub mod Issue
 pub mod Take
 pub mod Elect
+pub mod Folding
 pub mod Frames
 pub mod Codes
 pub mod Longest

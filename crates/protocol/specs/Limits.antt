@@ -61,3 +61,15 @@ tailsFine n settled ts = both (eqb (length ts) 8) (both (allB (tailFine n settle
 -- the log and the tails of an office's state within their limits
 unfoldable pub officeFine : ℕ → Office → Bool
 officeFine n o = both (logFine n (o .log)) (tailsFine n (length (o .log)) (o .tails))
+
+-- (xiv) "Dropped entries included, length plus tail is at most 2^63"
+unfoldable pub lengthLimit : ℕ
+lengthLimit = 9223372036854775808
+
+-- of a settled length, dropped entries included, and the tails behind it
+unfoldable pub lengthsFine : ℕ → List (List ℕ) → Bool
+lengthsFine settled ts = both (leb settled lengthLimit) (allB (λ (t : List ℕ). leb (settled + length t) lengthLimit) ts)
+
+-- the state of an office, or of a message, that has dropped so many entries: "the 1024 limit then covers what is undropped"
+unfoldable pub foldedFine : ℕ → ℕ → Office → Bool
+foldedFine n dropped o = both (officeFine n o) (lengthsFine (dropped + length (o .log)) (o .tails))

@@ -5,6 +5,11 @@ use Rattle.protocol.specs.Vote.{Rule, byLog}
 use Rattle.protocol.specs.Moves.{weightsAfter}
 use Rattle.protocol.specs.Counts.{noCounts, quieter}
 
--- of a frame with these founding weights: the weights are those of the settled log (i), and a tie goes to the office with fewer entries in it (iii)
+-- for logs behind entries that left these weights and these counts: the weights are those of the settled log (i), and a tie goes to the office
+-- with fewer entries in it (iii)
+abbrev pub ruleFrom : List ℕ → List ℕ → Rule
+ruleFrom weights counts = byLog (weightsAfter weights) (quieter counts)
+
+-- of a frame with these founding weights
 abbrev pub bySettled : List ℕ → Rule
-bySettled founding = byLog (weightsAfter founding) (quieter (noCounts 8))
+bySettled founding = ruleFrom founding (noCounts 8)
