@@ -1,0 +1,2 @@
+-- Laws of the limit of lengths.
+pub mod Limit
