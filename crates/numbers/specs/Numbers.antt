@@ -9,19 +9,25 @@ use Rattle.lists.specs.Tests.{both}
 abbrev pub Bytes : List ℕ → Type 0
 Bytes s = (i : ℕ) → getD s i 0 < 256
 
--- a number as two bytes, and as four
+-- a number as two bytes, as four, and as eight: the four of its upper half, then those of its lower
 unfoldable pub bytes16 : ℕ → List ℕ
 bytes16 v = v / 256 % 256 ∷ v % 256 ∷ []
 
 unfoldable pub bytes32 : ℕ → List ℕ
 bytes32 v = v / 16777216 % 256 ∷ v / 65536 % 256 ∷ v / 256 % 256 ∷ v % 256 ∷ []
 
--- the number that the first two bytes spell, and the first four
+unfoldable pub bytes64 : ℕ → List ℕ
+bytes64 v = bytes32 (v / 4294967296) ++ bytes32 (v % 4294967296)
+
+-- the number that the first two bytes spell, the first four, and the first eight
 unfoldable pub be16 : List ℕ → ℕ
 be16 s = getD s 0 0 * 256 + getD s 1 0
 
 unfoldable pub be32 : List ℕ → ℕ
 be32 s = getD s 0 0 * 16777216 + (getD s 1 0 * 65536 + (getD s 2 0 * 256 + getD s 3 0))
+
+unfoldable pub be64 : List ℕ → ℕ
+be64 s = be32 s * 4294967296 + be32 (drop 4 s)
 
 -- the items' bytes, one after the other
 unfoldable pub run : (ℕ → List ℕ) → List ℕ → List ℕ

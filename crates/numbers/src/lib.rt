@@ -4,7 +4,7 @@ ghost use mathlib.Core.Path.{_≡_};
 ghost use Prim.Native.Nat.{_+_, _<_, _≤_};
 ghost use lib.ListN.{length, drop};
 ghost use lib.Seq.{sets};
-ghost use Rattle.numbers.specs.Numbers.{bytes16, bytes32, be16, be32};
+ghost use Rattle.numbers.specs.Numbers.{bytes16, bytes32, bytes64, be16, be32, be64};
 
 // A byte as a number to compute with.
 pub fn wide(x: u8) -> u32
@@ -29,6 +29,14 @@ pub fn be32_at(s: &[u8], at: usize) -> u32
     wide(s[at]) * 16777216 + (wide(s[at + 1]) * 65536 + (wide(s[at + 2]) * 256 + wide(s[at + 3])))
 }
 
+// The number in the eight bytes at a position.
+pub fn be64_at(s: &[u8], at: usize) -> u64
+    requires { ⌜ at + 8 ≤ length (now s) ⌝ }
+    ensures { λ r. ⌜ r ≡ be64 (drop at (now (s .entry))) ⌝ }
+{
+    be32_at(s, at) as u64 * 4294967296 + be32_at(s, at + 4) as u64
+}
+
 // A number into the two bytes at a position.
 pub fn put16(out: &mut [u8], at: usize, v: u16)
     requires { ⌜ at + 2 ≤ length (now out) ⌝ }
@@ -47,4 +55,13 @@ pub fn put32(out: &mut [u8], at: usize, v: u32)
     out[at + 1] = (v / 65536 % 256) as u8;
     out[at + 2] = (v / 256 % 256) as u8;
     out[at + 3] = (v % 256) as u8;
+}
+
+// A number into the eight bytes at a position.
+pub fn put64(out: &mut [u8], at: usize, v: u64)
+    requires { ⌜ at + 8 ≤ length (now out) ⌝ }
+    ensures { λ _. ⌜ now (out .exit) ≡ sets (now (out .entry)) at (bytes64 v) ⌝ }
+{
+    put32(out, at, (v / 4294967296) as u32);
+    put32(out, at + 4, (v % 4294967296) as u32);
 }

@@ -1,4 +1,4 @@
--- The settled entries in the message that are written to the part of a log that is lent. Assumes nothing.
+-- The undropped entries in the message that are written to the part of a log that is lent. Assumes nothing.
 use Prim.Native.Nat.{ℕ, _*_, _-_, _≤_, suc, zero, _+_, _<_}
 use mathlib.Core.Bool.{true}
 use mathlib.Core.List.{List, [], _++_, _∷_, append-nil}
@@ -40,25 +40,25 @@ run-rest w g (suc k) (suc i) s h =
     let q : suc k - suc i ≡ k - i = omega arith in
     rw (q, drop-more) (run-rest w g k i (drop w s) (omega arith))
 
--- the missing entries, stored into the part of the log from settled on
-pub extend-stores : (settled k : ℕ) (log ys rest : List ℕ) → settled ≤ k → settled ≤ length log
-    → ys ≡ sets (take (length log - settled) (drop settled log)) 0 (runAt 6 recordAt (k - settled) (drop (6 * settled) rest))
-    → take settled log ++ (ys ++ drop (length log - settled) (drop settled log)) ≡ sets log settled (drop settled (runAt 6 recordAt k rest))
-extend-stores settled k log ys rest h j e =
-    part-back settled log ys (runAt 6 recordAt (k - settled) (drop (6 * settled) rest)) j e ∙ rw (run-rest 6 recordAt k settled rest h)
+-- the missing entries, stored into the part of the log behind the first that are held
+pub extend-stores : (held k : ℕ) (log ys rest : List ℕ) → held ≤ k → held ≤ length log
+    → ys ≡ sets (take (length log - held) (drop held log)) 0 (runAt 6 recordAt (k - held) (drop (6 * held) rest))
+    → take held log ++ (ys ++ drop (length log - held) (drop held log)) ≡ sets log held (drop held (runAt 6 recordAt k rest))
+extend-stores held k log ys rest h j e =
+    part-back held log ys (runAt 6 recordAt (k - held) (drop (6 * held) rest)) j e ∙ rw (run-rest 6 recordAt k held rest h)
 
 -- a turn of the loop that writes them
 pub fill-turn : (part : List ℕ) (k i at : ℕ) (rest : List ℕ) (v p : ℕ) → i < k → v ≡ recordAt (drop at rest) → p ≡ at + 6
     → sets (set part i v) (i + 1) (runAt 6 recordAt (k - (i + 1)) (drop p rest)) ≡ sets part i (runAt 6 recordAt (k - i) (drop at rest))
 fill-turn part k i at rest v p h ev ep = rw (ev, ep) (fill-step 6 recordAt part k i at rest h)
 
--- ---- what the log is once the missing entries are written: the message's settled log, and the later words as they were
+-- ---- what the log is once the missing entries are written: the message's log, and the later words as they were
 
-pub extended : (log theirs : List ℕ) (settled : ℕ) → settled ≤ length theirs → length theirs ≤ length log → begins (take settled log) theirs ≡ true
-    → sets log settled (drop settled theirs) ≡ theirs ++ drop (length theirs) log
-extended log theirs settled h j e =
-    let l : length (take settled log) ≡ settled = length-take-le settled log (omega arith) in
-    let d : length (drop settled theirs) ≡ length theirs - settled = length-drop settled theirs in
-    let s : settled + length (drop settled theirs) ≡ length theirs = omega arith in
-    let q : take settled log ++ drop settled theirs ≡ theirs = rw l at (⊑-rest (take settled log) theirs (begins-true (take settled log) theirs e)) in
-    sets-eq (drop settled theirs) log settled (omega arith) ∙ rw s (ap (λ (x : List ℕ). x ++ drop (length theirs) log) q)
+pub extended : (log theirs : List ℕ) (held : ℕ) → held ≤ length theirs → length theirs ≤ length log → begins (take held log) theirs ≡ true
+    → sets log held (drop held theirs) ≡ theirs ++ drop (length theirs) log
+extended log theirs held h j e =
+    let l : length (take held log) ≡ held = length-take-le held log (omega arith) in
+    let d : length (drop held theirs) ≡ length theirs - held = length-drop held theirs in
+    let s : held + length (drop held theirs) ≡ length theirs = omega arith in
+    let q : take held log ++ drop held theirs ≡ theirs = rw l at (⊑-rest (take held log) theirs (begins-true (take held log) theirs e)) in
+    sets-eq (drop held theirs) log held (omega arith) ∙ rw s (ap (λ (x : List ℕ). x ++ drop (length theirs) log) q)

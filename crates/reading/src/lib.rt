@@ -2,12 +2,14 @@
 use ballots::Ballot;
 use ballots::fine;
 use numbers::be16_at;
+use numbers::be64_at;
 use numbers::wide;
 use reader::read_ballot;
 use reader::read_end;
 use reader::read_entry;
 use reader::read_log;
 use spelling::OFFICES;
+use spelling::dropped_place;
 use spelling::head_size;
 use spelling::length_place;
 ghost use mathlib.Core.Path.{_≡_};
@@ -16,17 +18,15 @@ ghost use lib.ListN.{length, drop};
 ghost use lib.Seq.{sets};
 ghost use Rattle.numbers.specs.Numbers.{be16, runAt};
 ghost use Rattle.spelling.specs.Reading.{recordAt, reading};
-ghost use Rattle.reading.specs.Read.{headWithin, logCoding, logWithin, eightWeights, badReading, readingOf};
+ghost use Rattle.reading.specs.Read.{headWithin, logCoding, logWithin, eightWeights, badReading, headReading, readingOf};
 
-// The most settled entries.
-const LOG: u16 = 1024;
-
-// What a message says. Its settled entries stay in it, six bytes each after the head.
+// What a message says. Its undropped entries, as many as are held, stay in it, six bytes each after the head.
 pub struct Reading {
     pub sender: usize,
     pub n: usize,
     pub weights: [u16; 8],
-    pub settled: usize,
+    pub dropped: u64,
+    pub held: usize,
     pub head: usize,
     pub ballots: [Ballot; 8],
     pub ok: bool,
@@ -114,7 +114,12 @@ fn head_within(s: &[u8]) -> bool
     if s.len() < head_size(n) {
         return false;
     }
-    be16_at(s, length_place(n)) <= LOG
+    let settled = be64_at(s, length_place(n));
+    let dropped = be64_at(s, dropped_place(n));
+    if dropped > settled {
+        return false;
+    }
+    (settled - dropped) as usize <= Ballot::PATH
 }
 
 // No message.
@@ -127,31 +132,57 @@ fn bad_reading() -> Reading
         sender: 0,
         n: 0,
         weights: [0u16; 8],
-        settled: 0,
+        dropped: 0,
+        held: 0,
         head: 0,
         ballots: [none; 8],
     }
 }
 
+// What the head of a message says, with no ballots yet, or a refusal.
+fn read_head(s: &[u8]) -> Reading
+    ensures { λ r. ⌜ r ≡ headReading (now (s .entry)) ⌝ }
+{
+    if !head_within(s) {
+        return bad_reading();
+    }
+    let n = wide(s[3]) as usize;
+    let dropped = be64_at(s, dropped_place(n));
+    let held = (be64_at(s, length_place(n)) - dropped) as usize;
+    let sender = wide(s[2]) as usize;
+    let weights = weights_at(s, 4, n);
+    let head = head_size(n);
+    let none = Ballot::none();
+    Reading {
+        ok: true,
+        sender,
+        n,
+        weights,
+        dropped,
+        held,
+        head,
+        ballots: [none; 8],
+    }
+}
+
 // What a message says, or a refusal. "The rest of the message after the head" is handed on to the record readers: the log records first,
-// then the ballots, offices rising, then the end; the ballots are tested as a record's are. They are gathered here, since a function that
-// handed them on would copy them.
+// then the ballots, offices rising, then the end; the ballots, and the settled length beside them, are tested as a record's are. They are
+// gathered here, since a function that handed them on would copy them.
 pub fn read(msg: &[u8]) -> Reading
     ensures { λ r. ⌜ r ≡ readingOf (reading (now (msg .entry))) ⌝ }
 {
-    if !head_within(msg) {
-        return bad_reading();
+    let mut m = read_head(msg);
+    if !m.ok {
+        return m;
     }
-    let n = wide(msg[3]) as usize;
-    let settled = be16_at(msg, length_place(n)) as usize;
-    let head = head_size(n);
+    let n = m.n;
+    let held = m.held;
+    let head = m.head;
     let rest = &msg[head..];
-    if !log_within(rest, n, settled) {
+    if !log_within(rest, n, held) {
         return bad_reading();
     }
-    let none = Ballot::none();
-    let mut ballots = [none; 8];
-    let mut at = 6 * settled;
+    let mut at = 6 * held;
     for o in 0..n {
         let step = read_ballot(rest, at, o);
         if !step.ok {
@@ -159,25 +190,18 @@ pub fn read(msg: &[u8]) -> Reading
         }
         let b = step.ballot;
         if b.len > 0 {
-            ballots[o] = b;
+            m.ballots[o] = b;
         }
         at = step.next;
     }
     let end = read_end(rest, at);
-    if !(end.ok & fine(ballots, n, settled)) {
+    if !(end.ok & fine(m.ballots, n, held)) {
         return bad_reading();
     }
-    let weights = weights_at(msg, 4, n);
-    let sender = wide(msg[2]) as usize;
-    Reading {
-        ok: true,
-        sender,
-        n,
-        weights,
-        settled,
-        head,
-        ballots,
+    if !lengths::within(m.dropped + held as u64, m.ballots) {
+        return bad_reading();
     }
+    m
 }
 
 // The values of the k log records from a position on, written to the start of a part of the log.
@@ -193,11 +217,11 @@ fn fill(part: &mut [u32], rest: &[u8], from: usize, k: usize)
     }
 }
 
-// "Writes the missing entries from its own length onward": those of the message's k log records past the settled length. Public only for the
-// crate above, which proves what it requires.
-pub fn extend(log: &mut [u32], settled: usize, rest: &[u8], k: usize)
-    requires { ⌜ (settled ≤ k) × ((k ≤ length (now log)) × (6 * k ≤ length (now rest))) ⌝ }
-    ensures { λ _. ⌜ now (log .exit) ≡ sets (now (log .entry)) settled (drop settled (runAt 6 recordAt k (now (rest .entry)))) ⌝ }
+// "Writes the missing entries from its own length onward": those of the message's k log records past the first that are held. Public only for
+// the crate above, which proves what it requires.
+pub fn extend(log: &mut [u32], held: usize, rest: &[u8], k: usize)
+    requires { ⌜ (held ≤ k) × ((k ≤ length (now log)) × (6 * k ≤ length (now rest))) ⌝ }
+    ensures { λ _. ⌜ now (log .exit) ≡ sets (now (log .entry)) held (drop held (runAt 6 recordAt k (now (rest .entry)))) ⌝ }
 {
-    fill(&mut log[settled..], rest, 6 * settled, k - settled)
+    fill(&mut log[held..], rest, 6 * held, k - held)
 }

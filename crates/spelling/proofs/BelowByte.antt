@@ -12,7 +12,7 @@ use Rattle.protocol.proofs.Limits.{fine-tail}
 use Rattle.lists.specs.Tests.{allB}
 use Rattle.lists.proofs.Tests.{all-append, all-at, all-drop, all-getD, both-true}
 use Rattle.spelling.specs.Content.{Content, validContent}
-use Rattle.numbers.specs.Numbers.{Bytes, bytes16, bytes32, run}
+use Rattle.numbers.specs.Numbers.{Bytes, bytes16, bytes32, bytes64, run}
 use Rattle.spelling.specs.Spelling.{ballotBytes, ballotsBytes, endBytes, headBytes, logRecord, spelling}
 use Rattle.spelling.proofs.Valid.{Valid, valid-facts, tails-fine}
 
@@ -49,6 +49,10 @@ all-32 : (v : ℕ) → allB isByte (bytes32 v) ≡ true
 unfolding bytes32
 all-32 v = low (v / 16777216) _ (low (v / 65536) _ (low (v / 256) _ (low v _ nothing)))
 
+all-64 : (v : ℕ) → allB isByte (bytes64 v) ≡ true
+unfolding bytes64
+all-64 v = all-append isByte (bytes32 (v / 4294967296)) (bytes32 (v % 4294967296)) (all-32 (v / 4294967296)) (all-32 (v % 4294967296))
+
 all-record : (v : ℕ) → allB isByte (logRecord v) ≡ true
 unfolding logRecord
 all-record v = byte 0x4C _ (omega arith) (byte 0x47 _ (omega arith) (all-32 v))
@@ -69,20 +73,21 @@ all-end : allB isByte endBytes ≡ true
 unfolding endBytes
 all-end = byte 0x45 _ (omega arith) (byte 0x4E _ (omega arith) nothing)
 
-all-head : (c : Content) → Valid c → allB isByte (headBytes (c .sender) (c .n) (c .weights) (length (c .log))) ≡ true
+all-head : (c : Content) → Valid c → allB isByte (headBytes (c .sender) (c .n) (c .weights) (c .dropped + length (c .log)) (c .dropped)) ≡ true
 unfolding headBytes
 all-head c v =
     byte 0x53 _ (omega arith)
     (byte 0x48 _ (omega arith)
     (byte (c .sender) _ (omega (arith, v .sender-below, v .few-offices))
     (byte (c .n) _ (omega (arith, v .few-offices))
-    (all-append isByte (run bytes16 (c .weights)) (bytes16 (length (c .log))) (all-run bytes16 all-16 (c .weights)) (all-16 (length (c .log)))))))
+    (all-append isByte (run bytes16 (c .weights)) _ (all-run bytes16 all-16 (c .weights))
+    (all-append isByte (bytes64 (c .dropped + length (c .log))) (bytes64 (c .dropped)) (all-64 (c .dropped + length (c .log))) (all-64 (c .dropped)))))))
 
 pub spelling-bytes : (c : Content) → validContent c ≡ true → Bytes (spelling c)
 unfolding spelling
 spelling-bytes c e =
     let v = valid-facts c e in
     all-bytes (spelling c)
-    (all-append isByte (headBytes (c .sender) (c .n) (c .weights) (length (c .log))) _ (all-head c v)
+    (all-append isByte (headBytes (c .sender) (c .n) (c .weights) (c .dropped + length (c .log)) (c .dropped)) _ (all-head c v)
     (all-append isByte (run logRecord (c .log)) _ (all-run logRecord all-record (c .log))
     (all-append isByte (ballotsBytes 0 (c .tails)) endBytes (all-ballots (c .n) (length (c .log)) 0 (c .tails) (omega (arith, v .tails-length, v .few-offices)) (tails-fine c v)) all-end)))

@@ -1,5 +1,5 @@
 -- The three items: a weight of two bytes, a value of four, a log record of six. Assumes nothing.
-use Prim.Native.Nat.{ℕ, zero, suc, _+_, _*_, _/_, _≤_, _<_}
+use Prim.Native.Nat.{ℕ, zero, suc, _+_, _*_, _/_, _≤_}
 use mathlib.Core.Bool.{Bool, true}
 use mathlib.Core.List.{List, [], _∷_, _++_}
 use mathlib.Core.Path.{_≡_, refl, sym, ap, _∙_}
@@ -12,10 +12,10 @@ use Rattle.protocol.specs.Entry.{isEntry, proper}
 use Rattle.protocol.specs.Limits.{isWeight}
 use Rattle.lists.specs.Tests.{both}
 use Rattle.lists.proofs.Tests.{both-1, both-0, both-true}
-use Rattle.numbers.specs.Numbers.{bytes32, be16, Bytes, bytes16, be32, runOk}
+use Rattle.numbers.specs.Numbers.{bytes32, be16, bytes16, be32, runOk}
 use Rattle.spelling.specs.Reading.{recordAt, recordHere}
 use Rattle.spelling.specs.Spelling.{logRecord}
-use Rattle.numbers.proofs.Numbers.{be16-bytes16, be32-bytes32, bytes16-be16, bytes32-be32}
+use Rattle.numbers.proofs.Numbers.{be16-bytes16, be32-bytes32, be16-back, be16-below, be32-back, be32-below}
 use Rattle.numbers.proofs.Runs.{Item, bytes-drop}
 
 -- a number of 32 bits
@@ -36,26 +36,6 @@ room-for w zero s h = refl
 room-for w (suc k) s h =
     let e : w * suc k ≡ w + w * k = omega arith in
     both-true _ _ (le-leb w (length s) (omega arith)) (room-for w k (drop w s) (rw length-drop (omega arith)))
-
-pub be16-back : (s : List ℕ) → Bytes s → 2 ≤ length s → bytes16 (be16 s) ++ drop 2 s ≡ s
-be16-back [] b h = absurd (omega arith)
-be16-back (x ∷ []) b h = absurd (omega arith)
-be16-back (x ∷ y ∷ r) b h = rw (bytes16-be16 x y r (b 0) (b 1))
-
-pub be16-below : (s : List ℕ) → Bytes s → be16 s < 65536
-unfolding be16
-be16-below s b = omega (arith, b 0, b 1)
-
-be32-back : (s : List ℕ) → Bytes s → 4 ≤ length s → bytes32 (be32 s) ++ drop 4 s ≡ s
-be32-back [] b h = absurd (omega arith)
-be32-back (x ∷ []) b h = absurd (omega arith)
-be32-back (x ∷ y ∷ []) b h = absurd (omega arith)
-be32-back (x ∷ y ∷ z ∷ []) b h = absurd (omega arith)
-be32-back (x ∷ y ∷ z ∷ u ∷ r) b h = rw (bytes32-be32 x y z u r (b 0) (b 1) (b 2) (b 3))
-
-be32-below : (s : List ℕ) → Bytes s → be32 s < 4294967296
-unfolding be32
-be32-below s b = omega (arith, b 0, b 1, b 2, b 3)
 
 -- a mark of two bytes
 mark-back : (s : List ℕ) (x y : ℕ) → 2 ≤ length s → eqb (getD s 0 0) x ≡ true → eqb (getD s 1 0) y ≡ true → x ∷ y ∷ drop 2 s ≡ s

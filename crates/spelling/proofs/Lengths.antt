@@ -1,4 +1,4 @@
--- How long a spelling is: the sum of its parts, at most 7032 bytes, which some valid content reaches. Assumes nothing.
+-- How long a spelling is: the sum of its parts, at most 7046 bytes, which some valid content reaches. Assumes nothing.
 use Prim.Native.Nat.{ℕ, _*_, _+_, _-_, _<_, _≤_, suc, zero}
 use mathlib.Core.Bool.{true}
 use mathlib.Core.List.{List, [], _∷_}
@@ -11,12 +11,12 @@ use borrow.Author.Tests.{leb-true, leb-false}
 use Rattle.protocol.specs.Entry.{isEntry, proper, value}
 use Rattle.protocol.specs.Counts.{countsAfter}
 use Rattle.protocol.specs.Fair.{fair}
-use Rattle.protocol.specs.Limits.{isEmpty, isWeight, tailFine}
-use Rattle.protocol.proofs.Limits.{FineTail, fine-tail}
+use Rattle.protocol.specs.Limits.{isWeight, lengthLimit, lengthsFine, tailFine}
+use Rattle.protocol.proofs.Limits.{fine-tail}
 use Rattle.lists.specs.Tests.{allB, both, pick}
 use Rattle.lists.proofs.Tests.{all-replicate, both-0, both-1}
-use Rattle.spelling.specs.Content.{Content, asMessage, eightTails, validContent}
-use Rattle.numbers.specs.Numbers.{be16, be32, bytes16, bytes32}
+use Rattle.spelling.specs.Content.{Content, asPacket, eightTails, validContent}
+use Rattle.numbers.specs.Numbers.{be16, be32, bytes16, bytes32, bytes64}
 use Rattle.spelling.specs.Reading.{recordAt, recordHere}
 use Rattle.spelling.specs.Spelling.{ballotBytes, ballotsBytes, endBytes, headBytes, headSize, logRecord, spelling}
 use Rattle.spelling.proofs.Ballots.{by-test}
@@ -30,9 +30,9 @@ unfolding ballotBytes
 ballot-length o [] = omega arith
 ballot-length o (v ∷ vs) = omega (arith, run-length 4 bytes32 be32 (roomFor 4) isWord valueItem (v ∷ vs))
 
--- "22 + 5952 + 1056 + 2": the head, the log records, the ballots, the end
+-- the head, the log records, the ballots, the end
 pub spelling-length : (c : Content) → length (spelling c) ≡ headSize (length (c .weights)) + (6 * length (c .log) + (length (ballotsBytes 0 (c .tails)) + 2))
-unfolding spelling headBytes bytes16 endBytes
+unfolding spelling headBytes bytes64 bytes32 endBytes
 spelling-length c =
     let w = run-length 2 bytes16 be16 (roomFor 2) isWeight weightItem (c .weights) in
     let l = run-length 6 logRecord recordAt recordHere isWord recordItem (c .log) in
@@ -49,19 +49,19 @@ ballots-most n k m o (suc j) (t ∷ ts) h f e =
     let b : length (ballotsBytes (suc o) ts) ≤ j * m = ballots-most n k m (suc o) j ts (omega arith) f (both-1 (tailFine n k t) _ e) in
     rw (length-append, suc-mul) (omega (arith, ballot-length o t))
 
--- "the longest, at settled length 992, is 22 + 5952 + 1056 + 2 = 7032 bytes"
-pub longest : (c : Content) → validContent c ≡ true → length (spelling c) ≤ 7032
+-- "the longest message is then 7046 bytes": with 992 undropped entries, 36 + 5952 + 1056 + 2
+pub longest : (c : Content) → validContent c ≡ true → length (spelling c) ≤ 7046
 longest c e = by-test _ (leb (length (c .log)) 992) (λ q. few (leb-true _ _ q)) (λ q. many (leb-false _ _ q))
   where
     v : Valid c
     v = valid-facts c e
 
-    few : length (c .log) ≤ 992 → length (spelling c) ≤ 7032
+    few : length (c .log) ≤ 992 → length (spelling c) ≤ 7046
     few h =
         let b : length (ballotsBytes 0 (c .tails)) ≤ 8 * 132 = ballots-most (c .n) (length (c .log)) 132 0 8 (c .tails) (omega (arith, v .tails-length, v .few-offices)) (λ t q. omega (arith, fine-tail (c .n) (length (c .log)) t q)) (tails-fine c v) in
         omega (arith, spelling-length c, v .weights-length, v .few-offices)
 
-    many : 992 < length (c .log) → length (spelling c) ≤ 7032
+    many : 992 < length (c .log) → length (spelling c) ≤ 7046
     many h =
         let m : ℕ = 4 + 4 * (1024 - length (c .log)) in
         let b : length (ballotsBytes 0 (c .tails)) ≤ 8 * m = ballots-most (c .n) (length (c .log)) m 0 8 (c .tails) (omega (arith, v .tails-length, v .few-offices)) (λ t q. omega (arith, fine-tail (c .n) (length (c .log)) t q)) (tails-fine c v) in
@@ -75,9 +75,9 @@ fours (suc k) = let e : ℕ = value k 0 0 in e ∷ e ∷ e ∷ e ∷ fours k
 fullTail : List ℕ
 fullTail = fours 8
 
--- a content of 992 settled entries and eight tails of 32
+-- a content of 992 undropped entries and eight tails of 32
 longestContent : Content
-longestContent = record { sender = 0; n = 8; weights = replicate 8 1; log = replicate 992 0; tails = replicate 8 fullTail }
+longestContent = record { sender = 0; n = 8; weights = replicate 8 1; dropped = 0; log = replicate 992 0; tails = replicate 8 fullTail }
 
 zero-entry : isEntry 8 0 ≡ true
 unfolding isEntry proper both pick
@@ -98,7 +98,7 @@ unfolding isWeight
 one-weight = refl
 
 longest-facts : Valid longestContent
-unfolding longestContent asMessage eightTails allB
+unfolding longestContent asPacket eightTails allB lengthsFine lengthLimit fullTail fours both
 longest-facts =
     record {
       some-office = omega arith;
@@ -114,11 +114,12 @@ longest-facts =
         tails = rw length-replicate (all-replicate (tailFine 8 992) 8 fullTail full-fine);
         rest = refl;
       };
+      lengths = refl;
     }
 
-longest-length : length (spelling longestContent) ≡ 7032
+longest-length : length (spelling longestContent) ≡ 7046
 unfolding longestContent
 longest-length = omega (arith, spelling-length longestContent, length-replicate {A = ℕ} 992 0, full-length 0 8)
 
-pub longest-reached : (c : Content) × (validContent c ≡ true) × (length (spelling c) ≡ 7032)
+pub longest-reached : (c : Content) × (validContent c ≡ true) × (length (spelling c) ≡ 7046)
 longest-reached = (longestContent, valid-test longestContent longest-facts, longest-length)

@@ -1,6 +1,6 @@
 -- The strict reading: whether bytes are of the layout (..Ok), and what they say (..At). Each definition speaks of the bytes from a
 -- position on. The layout's tests say nothing of the limits: `validContent` does. Assumes nothing.
-use Prim.Native.Nat.{ℕ, zero, suc, _+_, _*_}
+use Prim.Native.Nat.{ℕ, zero, suc, _+_, _-_, _*_}
 use mathlib.Core.Bool.{Bool, true}
 use mathlib.Core.List.{List, [], _∷_}
 use mathlib.Core.Option.{Option, none, some}
@@ -8,10 +8,10 @@ use lib.Dec.{leb, eqb}
 use lib.ListN.{length, getD, drop}
 use Rattle.lists.specs.Tests.{both, pick}
 use Rattle.spelling.specs.Content.{Content, validContent}
-use Rattle.spelling.specs.Spelling.{lengthPlace, headSize}
-use Rattle.numbers.specs.Numbers.{be16, be32, runAt, runOk}
+use Rattle.spelling.specs.Spelling.{lengthPlace, droppedPlace, headSize}
+use Rattle.numbers.specs.Numbers.{be16, be32, be64, runAt, runOk}
 
--- the head: its mark, and room for all of it
+-- the head: its mark, room for all of it, and no more dropped than settled
 abbrev pub senderAt : List ℕ → ℕ
 senderAt s = getD s 2 0
 
@@ -19,10 +19,21 @@ abbrev pub countAt : List ℕ → ℕ
 countAt s = getD s 3 0
 
 unfoldable pub settledAt : List ℕ → ℕ
-settledAt s = be16 (drop (lengthPlace (countAt s)) s)
+settledAt s = be64 (drop (lengthPlace (countAt s)) s)
+
+unfoldable pub droppedAt : List ℕ → ℕ
+droppedAt s = be64 (drop (droppedPlace (countAt s)) s)
+
+-- how many entries follow
+abbrev pub heldAt : List ℕ → ℕ
+heldAt s = settledAt s - droppedAt s
 
 unfoldable pub headOk : List ℕ → Bool
-headOk s = both (leb 4 (length s)) (both (eqb (getD s 0 0) 0x53) (both (eqb (getD s 1 0) 0x48) (leb (headSize (countAt s)) (length s))))
+headOk s =
+    both (leb 4 (length s))
+    (both (eqb (getD s 0 0) 0x53)
+    (both (eqb (getD s 1 0) 0x48)
+    (both (leb (headSize (countAt s)) (length s)) (leb (droppedAt s) (settledAt s)))))
 
 -- "the rest of the message after the head"
 unfoldable pub restAt : List ℕ → List ℕ
@@ -69,12 +80,12 @@ unfoldable pub ballotsOk : List ℕ → ℕ → ℕ → Bool
 ballotsOk s o zero = endOk s
 ballotsOk s o (suc c) = both (ballotOk s o) (ballotsOk (afterBallot s o) (suc o) c)
 
--- the records after the head of a message with n offices and k settled entries
+-- the records after the head of a message with n offices and k undropped entries
 unfoldable pub recordsOk : List ℕ → ℕ → ℕ → Bool
 recordsOk s n k = both (runOk 6 recordHere k s) (ballotsOk (drop (6 * k) s) 0 n)
 
 unfoldable pub layoutOk : List ℕ → Bool
-layoutOk s = both (headOk s) (recordsOk (restAt s) (countAt s) (settledAt s))
+layoutOk s = both (headOk s) (recordsOk (restAt s) (countAt s) (heldAt s))
 
 unfoldable pub contentAt : List ℕ → Content
 contentAt s =
@@ -82,8 +93,9 @@ contentAt s =
       sender = senderAt s;
       n = countAt s;
       weights = runAt 2 be16 (countAt s) (drop 4 s);
-      log = runAt 6 recordAt (settledAt s) (restAt s);
-      tails = tailsAt (drop (6 * settledAt s) (restAt s)) 0 (countAt s);
+      dropped = droppedAt s;
+      log = runAt 6 recordAt (heldAt s) (restAt s);
+      tails = tailsAt (drop (6 * heldAt s) (restAt s)) 0 (countAt s);
     }
 
 -- what a message says, if it is one: of the layout, and within the limits

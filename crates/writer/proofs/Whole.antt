@@ -19,7 +19,7 @@ use borrow.Author.Tests.{lt-ltb, le-ltb}
 use Rattle.ballots.specs.declared.Ballot.{Ballot}
 use Rattle.lists.specs.Tests.{pick}
 use Rattle.protocol.specs.Limits.{isWeight}
-use Rattle.numbers.specs.Numbers.{be16, bytes16, run}
+use Rattle.numbers.specs.Numbers.{be16, bytes16, bytes32, bytes64, run}
 use Rattle.spelling.specs.Reading.{recordAt, recordHere}
 use Rattle.spelling.specs.Spelling.{ballotsBytes, endBytes, headBytes, headSize, lengthPlace, logRecord, spelling}
 use Rattle.spelling.proofs.Items.{isWord, roomFor, recordItem, weightItem}
@@ -29,71 +29,76 @@ use Rattle.writer.specs.Written.{Writes, contentOf, frontBytes, messageO
 use Rattle.writer.proofs.Ballots.{ToCount, rest-none}
 
 -- the head
-pub head-stores : (sender n : ℕ) (ws : List ℕ) (settled : ℕ) (l : List ℕ) {l1 l2 : List ℕ} {p : ℕ} → length ws ≡ n → p ≡ lengthPlace n
-    → l1 ≡ sets (set (set (set (set l 0 0x53) 1 0x48) 2 sender) 3 n) 4 (run bytes16 ws) → l2 ≡ sets l1 p (bytes16 settled) → l2 ≡ sets l 0 (headBytes sender n ws settled)
-unfolding headBytes
-head-stores sender n ws settled l e ep e1 e2 =
+pub head-stores : (sender n : ℕ) (ws : List ℕ) (settled dropped : ℕ) (l : List ℕ) {l1 l2 l3 : List ℕ} {p : ℕ} → length ws ≡ n → p ≡ lengthPlace n
+    → l1 ≡ sets (set (set (set (set l 0 0x53) 1 0x48) 2 sender) 3 n) 4 (run bytes16 ws) → l2 ≡ sets l1 p (bytes64 settled) → l3 ≡ sets l2 (p + 8) (bytes64 dropped)
+    → l3 ≡ sets l 0 (headBytes sender n ws settled dropped)
+unfolding headBytes bytes64 bytes32
+head-stores sender n ws settled dropped l {l1} e ep e1 e2 e3 =
     let r : length (run bytes16 ws) ≡ 2 * n = run-length 2 bytes16 be16 (roomFor 2) isWeight weightItem ws ∙ ap (λ (k : ℕ). 2 * k) e in
-    rw (e2, e1, ep) (sym (sets-append (set (set (set (set l 0 0x53) 1 0x48) 2 sender) 3 n) 4 (run bytes16 ws) (bytes16 settled) ∙ rw r))
+    let q : sets (sets l1 (lengthPlace n) (bytes64 settled)) (lengthPlace n + 8) (bytes64 dropped) ≡ sets l1 (lengthPlace n) (bytes64 settled ++ bytes64 dropped) =
+    sym (sets-append l1 (lengthPlace n) (bytes64 settled) (bytes64 dropped)) in
+    rw (e3, e2, ep, q, e1) (sym (sets-append (set (set (set (set l 0 0x53) 1 0x48) 2 sender) 3 n) 4 (run bytes16 ws) (bytes64 settled ++ bytes64 dropped) ∙ rw r))
 
-pub head-length : (sender n : ℕ) (ws : List ℕ) (settled : ℕ) → length ws ≡ n → length (headBytes sender n ws settled) ≡ headSize n
-unfolding headBytes bytes16
-head-length sender n ws settled e = omega (arith, run-length 2 bytes16 be16 (roomFor 2) isWeight weightItem ws, length-append (run bytes16 ws) (bytes16 settled))
+pub head-length : (sender n : ℕ) (ws : List ℕ) (settled dropped : ℕ) → length ws ≡ n → length (headBytes sender n ws settled dropped) ≡ headSize n
+unfolding headBytes bytes64 bytes32
+head-length sender n ws settled dropped e =
+    omega (arith, run-length 2 bytes16 be16 (roomFor 2) isWeight weightItem ws, length-append (run bytes16 ws) (bytes64 settled ++ bytes64 dropped))
 
 -- the head, and the log records behind it
-pub front-stores : (sender n : ℕ) (ws : List ℕ) (settled : ℕ) (logs l : List ℕ) {l1 l2 : List ℕ} {h : ℕ} → length ws ≡ n → h ≡ headSize n
-    → l1 ≡ sets l 0 (headBytes sender n ws settled) → l2 ≡ sets l1 h logs → l2 ≡ sets l 0 (headBytes sender n ws settled ++ logs)
-front-stores sender n ws settled logs l e eh e1 e2 =
-    let q : 0 + length (headBytes sender n ws settled) ≡ headSize n = omega (arith, head-length sender n ws settled e) in
-    rw (e2, e1, eh) (sym (sets-append l 0 (headBytes sender n ws settled) logs ∙ ap (λ (x : ℕ). sets (sets l 0 (headBytes sender n ws settled)) x logs) q))
+pub front-stores : (sender n : ℕ) (ws : List ℕ) (settled dropped : ℕ) (logs l : List ℕ) {l1 l2 : List ℕ} {h : ℕ} → length ws ≡ n → h ≡ headSize n
+    → l1 ≡ sets l 0 (headBytes sender n ws settled dropped) → l2 ≡ sets l1 h logs → l2 ≡ sets l 0 (headBytes sender n ws settled dropped ++ logs)
+front-stores sender n ws settled dropped logs l e eh e1 e2 =
+    let head : List ℕ = headBytes sender n ws settled dropped in
+    let q : 0 + length head ≡ headSize n = omega (arith, head-length sender n ws settled dropped e) in
+    rw (e2, e1, eh) (sym (sets-append l 0 head logs ∙ ap (λ (x : ℕ). sets (sets l 0 head) x logs) q))
 
-module _ (sender n : ℕ) (ws log : List ℕ) (settled : ℕ) (of : List Ballot) (hn : n ≤ length ws) (hk : settled ≤ length log) where
+module _ (sender n : ℕ) (ws : List ℕ) (dropped : ℕ) (log : List ℕ) (held : ℕ) (of : List Ballot) (hn : n ≤ length ws) (hk : held ≤ length log) where
   all : List ℕ
-  all = messageOf sender n ws log settled of
+  all = messageOf sender n ws dropped log held of
 
   heads : List ℕ
-  heads = headBytes sender n (take n ws) settled
+  heads = headBytes sender n (take n ws) (dropped + held) dropped
 
   logs : List ℕ
-  logs = run logRecord (take settled log)
+  logs = run logRecord (take held log)
 
   ballots : List ℕ
   ballots = ballotsBytes 0 (tailsOf n of)
 
   spelled : all ≡ heads ++ (logs ++ (ballots ++ endBytes))
   unfolding all heads logs ballots spelling contentOf
-  spelled = rw (length-take-le settled log hk)
+  spelled = rw (length-take-le held log hk)
 
   heads-length : length heads ≡ headSize n
   unfolding heads
-  heads-length = head-length sender n (take n ws) settled (length-take-le n ws hn)
+  heads-length = head-length sender n (take n ws) (dropped + held) dropped (length-take-le n ws hn)
 
-  logs-length : length logs ≡ 6 * settled
+  logs-length : length logs ≡ 6 * held
   unfolding logs
-  logs-length = run-length 6 logRecord recordAt recordHere isWord recordItem (take settled log) ∙ ap (λ (k : ℕ). 6 * k) (length-take-le settled log hk)
+  logs-length = run-length 6 logRecord recordAt recordHere isWord recordItem (take held log) ∙ ap (λ (k : ℕ). 6 * k) (length-take-le held log hk)
 
   -- the length of the message: the head, the log records and the end, and then the ballots
-  pub message-length : length (messageOf sender n ws log settled of) ≡ headSize n + 6 * settled + 2 + length (ballotsBytes 0 (tailsOf n of))
+  pub message-length : length (messageOf sender n ws dropped log held of) ≡ headSize n + 6 * held + 2 + length (ballotsBytes 0 (tailsOf n of))
   unfolding all ballots endBytes
   message-length =
       ap length spelled
       ∙ omega (arith, heads-length, logs-length, length-append heads (logs ++ (ballots ++ endBytes)), length-append logs (ballots ++ endBytes), length-append ballots endBytes)
 
   -- the size that the walk of the ballots has counted is that length
-  pub counted : (base size o : ℕ) → base ≡ headSize n + 6 * settled + 2 → ToCount base n of size o → n ≤ o → size ≡ length (messageOf sender n ws log settled of)
+  pub counted : (base size o : ℕ) → base ≡ headSize n + 6 * held + 2 → ToCount base n of size o → n ≤ o → size ≡ length (messageOf sender n ws dropped log held of)
   counted base size o e inv h = omega (arith, message-length, ap length (rest-none n of o h))
 
   -- the stores, one after the other: the front, the ballots, the end
   module _
       (l l1 l2 l3 : List ℕ)
       (b e : ℕ)
-      (eb : b ≡ headSize n + 6 * settled)
-      (e1 : l1 ≡ sets l 0 (frontBytes sender n ws log settled))
+      (eb : b ≡ headSize n + 6 * held)
+      (e1 : l1 ≡ sets l 0 (frontBytes sender n ws dropped log held))
       (ee : e ≡ b + length (ballotsBytes 0 (tailsOf n of)))
       (e2 : l2 ≡ sets l1 b (ballotsBytes 0 (tailsOf n of)))
       (e3 : l3 ≡ sets l2 e endBytes)
     where
-      whole-stores : l3 ≡ sets l 0 (messageOf sender n ws log settled of)
+      whole-stores : l3 ≡ sets l 0 (messageOf sender n ws dropped log held of)
       unfolding all heads logs ballots
       whole-stores =
           let q : sets l 0 all ≡ sets (sets (sets l 0 (heads ++ logs)) b ballots) e endBytes =
@@ -105,9 +110,9 @@ module _ (sender n : ℕ) (ws log : List ℕ) (settled : ℕ) (of : List Ballot)
           rw (q, e3, e2, e1)
 
       -- stores from the start of a buffer that has room leave its later bytes
-      pub whole-written : length (messageOf sender n ws log settled of) ≤ length l
-          → l3 ≡ messageOf sender n ws log settled of ++ drop (length (messageOf sender n ws log settled of)) l
-      whole-written room = whole-stores ∙ sets-eq (messageOf sender n ws log settled of) l 0 (rw zero-add room) ∙ rw zero-add
+      pub whole-written : length (messageOf sender n ws dropped log held of) ≤ length l
+          → l3 ≡ messageOf sender n ws dropped log held of ++ drop (length (messageOf sender n ws dropped log held of)) l
+      whole-written room = whole-stores ∙ sets-eq (messageOf sender n ws dropped log held of) l 0 (rw zero-add room) ∙ rw zero-add
 
 -- ---- what writing answers and leaves
 

@@ -1,5 +1,5 @@
 -- A record's fields as the content of its message, what writing it answers and leaves, and what the writer requires. Assumes nothing.
-use Prim.Native.Nat.{ℕ, _<_, _≤_}
+use Prim.Native.Nat.{ℕ, _+_, _<_, _≤_}
 use mathlib.Core.Bool.{true}
 use mathlib.Core.List.{List, _++_, map}
 use mathlib.Core.Path.{_≡_}
@@ -8,6 +8,7 @@ use lib.ListN.{drop, length, take}
 use Rattle.ballots.specs.Ballots.{tailOf, ballotShape}
 use Rattle.ballots.specs.declared.Ballot.{Ballot}
 use Rattle.lists.specs.Tests.{allB, pick}
+use Rattle.protocol.specs.Limits.{lengthLimit}
 use Rattle.spelling.specs.Content.{Content}
 use Rattle.numbers.specs.Numbers.{run}
 use Rattle.spelling.specs.Spelling.{headBytes, logRecord, spelling}
@@ -16,18 +17,18 @@ use Rattle.spelling.specs.Spelling.{headBytes, logRecord, spelling}
 unfoldable pub tailsOf : ℕ → List Ballot → List (List ℕ)
 tailsOf n ballots = map tailOf (take n ballots)
 
--- what the message of a record says: the sender, n, its n weights, its settled log, the n offices' tails
-unfoldable pub contentOf : ℕ → ℕ → List ℕ → List ℕ → ℕ → List Ballot → Content
-contentOf sender n weights log settled ballots =
-    record { sender = sender; n = n; weights = take n weights; log = take settled log; tails = tailsOf n ballots }
+-- what the message of a record says: the sender, n, its n weights, its dropped count, the entries that it holds, the n offices' tails
+unfoldable pub contentOf : ℕ → ℕ → List ℕ → ℕ → List ℕ → ℕ → List Ballot → Content
+contentOf sender n weights dropped log held ballots =
+    record { sender = sender; n = n; weights = take n weights; dropped = dropped; log = take held log; tails = tailsOf n ballots }
 
 -- the message's bytes
-abbrev pub messageOf : ℕ → ℕ → List ℕ → List ℕ → ℕ → List Ballot → List ℕ
-messageOf sender n weights log settled ballots = spelling (contentOf sender n weights log settled ballots)
+abbrev pub messageOf : ℕ → ℕ → List ℕ → ℕ → List ℕ → ℕ → List Ballot → List ℕ
+messageOf sender n weights dropped log held ballots = spelling (contentOf sender n weights dropped log held ballots)
 
 -- its head and its log records
-abbrev pub frontBytes : ℕ → ℕ → List ℕ → List ℕ → ℕ → List ℕ
-frontBytes sender n weights log settled = headBytes sender n (take n weights) settled ++ run logRecord (take settled log)
+abbrev pub frontBytes : ℕ → ℕ → List ℕ → ℕ → List ℕ → ℕ → List ℕ
+frontBytes sender n weights dropped log held = headBytes sender n (take n weights) (dropped + held) dropped ++ run logRecord (take held log)
 
 -- what writing a message answers: its length, and 0 where the buffer is shorter
 unfoldable pub writtenLength : List ℕ → List ℕ → ℕ
@@ -42,9 +43,10 @@ abbrev pub Writes : List ℕ → List ℕ → ℕ → List ℕ → Type 0
 Writes message out answer after = (answer ≡ writtenLength message out) × (after ≡ writtenBytes message out)
 
 -- what the writer asks of its caller: every sound record has it
-pub record Writable (sender n : ℕ) (log : List ℕ) (settled : ℕ) (ballots : List Ballot) : Type 0 where
+pub record Writable (sender n dropped : ℕ) (log : List ℕ) (held : ℕ) (ballots : List Ballot) : Type 0 where
   pub few-offices : n ≤ 8
   pub sender-below : sender < n
-  pub settled-few : settled ≤ 1024
-  pub log-long : settled ≤ length log
+  pub held-few : held ≤ 1024
+  pub settled-few : dropped + held ≤ lengthLimit
+  pub log-long : held ≤ length log
   pub shapes : allB ballotShape ballots ≡ true

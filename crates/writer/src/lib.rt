@@ -2,6 +2,7 @@
 use ballots::Ballot;
 use numbers::put16;
 use numbers::put32;
+use numbers::put64;
 use spelling::head_size;
 ghost use mathlib.Core.Path.{_≡_};
 ghost use Prim.Native.Nat.{_+_, _*_, _<_, _≤_};
@@ -79,17 +80,25 @@ fn put_ballot(out: &mut [u8], at: usize, o: usize, b: Ballot) -> usize
 }
 
 // The head, at the start of the buffer; the position after it.
-fn put_head(out: &mut [u8], sender: usize, n: usize, weights: [u16; 8], settled: usize) -> usize
-    requires { ⌜ (n ≤ 8) × ((sender < 256) × ((settled ≤ 1024) × (headSize n ≤ length (now out)))) ⌝ }
-    ensures { λ r. ⌜ (r ≡ headSize n) × (now (out .exit) ≡ sets (now (out .entry)) 0 (headBytes sender n (take n weights) settled)) ⌝ }
+fn put_head(
+    out: &mut [u8],
+    sender: usize,
+    n: usize,
+    weights: [u16; 8],
+    dropped: u64,
+    held: usize,
+) -> usize
+    requires { ⌜ (n ≤ 8) × ((sender < 256) × ((dropped + held < 18446744073709551616) × (headSize n ≤ length (now out)))) ⌝ }
+    ensures { λ r. ⌜ (r ≡ headSize n) × (now (out .exit) ≡ sets (now (out .entry)) 0 (headBytes sender n (take n weights) (dropped + held) dropped)) ⌝ }
 {
     out[0] = 0x53;
     out[1] = 0x48;
     out[2] = sender as u8;
     out[3] = n as u8;
     let p = put_weights(out, 4, &weights, n);
-    put16(out, p, settled as u16);
-    p + 2
+    put64(out, p, dropped + held as u64);
+    put64(out, p + 8, dropped);
+    p + 16
 }
 
 // The head and the log records, from the start of the buffer on; the position after them.
@@ -98,14 +107,15 @@ fn put_front(
     sender: usize,
     n: usize,
     weights: [u16; 8],
+    dropped: u64,
     log: &[u32],
-    settled: usize,
+    held: usize,
 ) -> usize
-    requires { ⌜ (n ≤ 8) × ((sender < 256) × ((settled ≤ 1024) × ((settled ≤ length (now log)) × (headSize n + 6 * settled ≤ length (now out))))) ⌝ }
-    ensures { λ r. ⌜ (r ≡ headSize n + 6 * settled) × (now (out .exit) ≡ sets (now (out .entry)) 0 (frontBytes sender n weights (now (log .entry)) settled)) ⌝ }
+    requires { ⌜ (n ≤ 8) × ((sender < 256) × ((dropped + held < 18446744073709551616) × ((held ≤ length (now log)) × (headSize n + 6 * held ≤ length (now out))))) ⌝ }
+    ensures { λ r. ⌜ (r ≡ headSize n + 6 * held) × (now (out .exit) ≡ sets (now (out .entry)) 0 (frontBytes sender n weights dropped (now (log .entry)) held)) ⌝ }
 {
-    let h = put_head(out, sender, n, weights, settled);
-    put_log(out, h, log, settled)
+    let h = put_head(out, sender, n, weights, dropped, held);
+    put_log(out, h, log, held)
 }
 
 // The end, at a position.
@@ -136,15 +146,16 @@ pub fn write(
     sender: usize,
     n: usize,
     weights: [u16; 8],
+    dropped: u64,
     log: &[u32],
-    settled: usize,
+    held: usize,
     ballots: [Ballot; 8],
     out: &mut [u8],
 ) -> usize
-    requires { ⌜ Writable sender n (now log) settled ballots ⌝ }
-    ensures { λ r. ⌜ Writes (messageOf sender n weights (now (log .entry)) settled ballots) (now (out .entry)) r (now (out .exit)) ⌝ }
+    requires { ⌜ Writable sender n dropped (now log) held ballots ⌝ }
+    ensures { λ r. ⌜ Writes (messageOf sender n weights dropped (now (log .entry)) held ballots) (now (out .entry)) r (now (out .exit)) ⌝ }
 {
-    let mut size = head_size(n) + 6 * settled + 2;
+    let mut size = head_size(n) + 6 * held + 2;
     for o in 0..n {
         let b = ballots[o];
         size += ballot_size(o, b);
@@ -152,7 +163,7 @@ pub fn write(
     if out.len() < size {
         return 0;
     }
-    let mut p = put_front(out, sender, n, weights, log, settled);
+    let mut p = put_front(out, sender, n, weights, dropped, log, held);
     for o in 0..n {
         let b = ballots[o];
         p = put_ballot(out, p, o, b);

@@ -1,4 +1,4 @@
--- The part of the log from the settled length on is lent and filled; it comes back as stores into the whole.
+-- The part of the log behind the entries that are held is lent and filled; it comes back as stores into the whole.
 use native.Mathlib.Omega.{arith}
 use borrow.Author.Needs.{needs}
 use Rattle.reading.proofs.Logs.{extend-stores}
@@ -13,7 +13,7 @@ returns : tie.Need-returns
 returns c =
     let f = c .before .before in
     let s = start f in
-    extend-stores (s .args .settled) (s .args .k) (s .args .log .now) (f .fill .last .0) (s .args .rest .now) (s .pre .0) (omega arith) (f .fill .ensures)
+    extend-stores (s .args .held) (s .args .k) (s .args .log .now) (f .fill .last .0) (s .args .rest .now) (s .pre .0) (omega arith) (f .fill .ensures)
 
 pub extend-spec : {M : Type 1} → statement M
 extend-spec =

@@ -27,7 +27,7 @@ returns c =
     let s = start (headed logged) in
     let a = s .args in (
       omega (arith, head .ensures .0, log .ensures .0),
-      front-stores (a .sender) (a .n) _ (a .settled) _ (a .out .now) (length-take-le (a .n) (a .weights) (weights-long s)) (head .ensures .0) (head .ensures .1) (log .ensures .1),
+      front-stores (a .sender) (a .n) _ _ (a .dropped) _ (a .out .now) (length-take-le (a .n) (a .weights) (weights-long s)) (head .ensures .0) (head .ensures .1) (log .ensures .1),
     )
 
 pub put-front-spec : {M : Type 1} → statement M

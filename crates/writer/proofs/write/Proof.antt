@@ -7,6 +7,7 @@ use native.Mathlib.Omega.{arith}
 use lib.ListN.{length}
 use borrow.Author.Needs.{needs}
 use Rattle.ballots.specs.declared.Ballot.{Ballot}
+use Rattle.protocol.specs.Limits.{lengthLimit}
 use Rattle.spelling.specs.Spelling.{ballotsBytes, headSize}
 use Rattle.writer.specs.Written.{messageOf, tailsOf}
 use Rattle.writer.proofs.Ballots.{ToCount, ToPut, count-again, len-at, put-again, put-begins, put-ends, put-room, rest-all}
@@ -15,16 +16,16 @@ use Rattle.writer.proofs.write.Statement.{statement}
 use Rattle.writer.proofs.write.Tie as tie
 
 abbrev Inv-loop : tie.InvT-loop
-Inv-loop sender n weights log settled out ballots size₀ o₀ size o = ToCount size₀ n ballots size o
+Inv-loop sender n weights dropped log held out ballots size₀ o₀ size o = ToCount size₀ n ballots size o
 
 abbrev μ-loop : tie.MeasureT-loop
-μ-loop sender n weights log settled out ballots size₀ o₀ size o = n - o
+μ-loop sender n weights dropped log held out ballots size₀ o₀ size o = n - o
 
 abbrev Inv-loop2 : tie.InvT-loop2
-Inv-loop2 sender n log settled out₀ ballots size p₀ o₀ out p o = ToPut out₀ p₀ n ballots out p o
+Inv-loop2 sender n dropped log held out₀ ballots size p₀ o₀ out p o = ToPut out₀ p₀ n ballots out p o
 
 abbrev μ-loop2 : tie.MeasureT-loop2
-μ-loop2 sender n log settled out₀ ballots size p₀ o₀ out p o = n - o
+μ-loop2 sender n dropped log held out₀ ballots size p₀ o₀ out p o = n - o
 
 abbrev none : Ballot
 none = record { len = 0; cells = [] }
@@ -49,11 +50,11 @@ begun c = start (tested c .before)
 weights-long : (s : tie.Start Inv-loop μ-loop Inv-loop2 μ-loop2) → s .args .n ≤ length (s .args .weights)
 weights-long s = let e : length (s .args .weights) ≡ 8 = search needs in omega arith
 
-ballots-long : (s : tie.Start Inv-loop μ-loop Inv-loop2 μ-loop2) → s .args .n ≤ length (s .args .t6)
-ballots-long s = let e : length (s .args .t6) ≡ 8 = search needs in omega arith
+ballots-long : (s : tie.Start Inv-loop μ-loop Inv-loop2 μ-loop2) → s .args .n ≤ length (s .args .t7)
+ballots-long s = let e : length (s .args .t7) ≡ 8 = search needs in omega arith
 
 ballot-size-requires : tie.Need-ballot-size-requires Inv-loop μ-loop Inv-loop2 μ-loop2
-ballot-size-requires c κs = let s = start (c .before .before) in len-at (s .args .t6) _ _ (s .pre .shapes) (omega (arith, ballots-long s))
+ballot-size-requires c κs = let s = start (c .before .before) in len-at (s .args .t7) _ _ (s .pre .shapes) (omega (arith, ballots-long s))
 
 loop-again : tie.Need-loop-again Inv-loop μ-loop Inv-loop2 μ-loop2
 loop-again c =
@@ -62,36 +63,37 @@ loop-again c =
 
 -- the message that is to be written
 abbrev message : tie.Start Inv-loop μ-loop Inv-loop2 μ-loop2 → List ℕ
-message s = messageOf (s .args .sender) (s .args .n) (s .args .weights) (s .args .log .now) (s .args .settled) (s .args .t6)
+message s = messageOf (s .args .sender) (s .args .n) (s .args .weights) (s .args .dropped) (s .args .log .now) (s .args .held) (s .args .t7)
 
 -- what the first walk has counted is the message's length
 size-counted : (c : tie.After-loop Inv-loop μ-loop Inv-loop2 μ-loop2) → c .before .loop .size ≡ length (message (start (c .before)))
 size-counted c =
     let s = start (c .before) in
-    counted (s .args .sender) (s .args .n) (s .args .weights) (s .args .log .now) (s .args .settled) (s .args .t6) (weights-long s) (s .pre .log-long)
+    counted (s .args .sender) (s .args .n) (s .args .weights) (s .args .dropped) (s .args .log .now) (s .args .held) (s .args .t7) (weights-long s) (s .pre .log-long)
     _ _ _ (omega (arith, c .before .before .head-size .ensures)) (c .before .loop .inv) (c .loop-test .left)
 
 returns : tie.Need-returns Inv-loop μ-loop Inv-loop2 μ-loop2
 returns c = refused (message (start (c .before .before))) _ _ (size-counted (c .before)) (c .if1 .taken)
 
 -- past the test the buffer has room for the message: the head, the log records and the end, and the ballots
-fits : (c : tie.After-put-front-arg Inv-loop μ-loop Inv-loop2 μ-loop2) → let a = begun c .args in headSize (a .n) + 6 * a .settled + 2 + length (ballotsBytes 0 (tailsOf (a .n) (a .t6))) ≤ length (a .out .now)
+fits : (c : tie.After-put-front-arg Inv-loop μ-loop Inv-loop2 μ-loop2) → let a = begun c .args in headSize (a .n) + 6 * a .held + 2 + length (ballotsBytes 0 (tailsOf (a .n) (a .t7))) ≤ length (a .out .now)
 fits c =
     let s = begun c in
-    omega (arith, size-counted (tested c), c .before .if1 .left, message-length (s .args .sender) (s .args .n) (s .args .weights) (s .args .log .now) (s .args .settled) (s .args .t6) (weights-long s) (s .pre .log-long))
+    omega (arith, size-counted (tested c), c .before .if1 .left, message-length (s .args .sender) (s .args .n) (s .args .weights) (s .args .dropped) (s .args .log .now) (s .args .held) (s .args .t7) (weights-long s) (s .pre .log-long))
 
 put-front-requires : tie.Need-put-front-requires Inv-loop μ-loop Inv-loop2 μ-loop2
+unfolding lengthLimit
 put-front-requires c κs = let s = begun c in omega (arith, fits c, s .pre)
 
 -- behind the log records there is room for the ballots and the end
-room : (c : tie.At-loop2 Inv-loop μ-loop Inv-loop2 μ-loop2) → let a = begun (fronted c .before) .args in fronted c .put-front .result + (length (ballotsBytes 0 (tailsOf (a .n) (a .t6))) + 2) ≤ length (fronted c .put-front .last .0)
+room : (c : tie.At-loop2 Inv-loop μ-loop Inv-loop2 μ-loop2) → let a = begun (fronted c .before) .args in fronted c .put-front .result + (length (ballotsBytes 0 (tailsOf (a .n) (a .t7))) + 2) ≤ length (fronted c .put-front .last .0)
 room c = let front = fronted c .put-front in omega (arith, fits (fronted c .before), front .kept .0, front .ensures .0)
 
 put-ballot-requires : tie.Need-put-ballot-requires Inv-loop μ-loop Inv-loop2 μ-loop2
 put-ballot-requires c κs =
     let turn = c .before .before in
     let s = begun (fronted (turn .before) .before) in
-    (len-at (s .args .t6) _ _ (s .pre .shapes) (omega (arith, ballots-long s)), (omega arith, put-room (turn .before .loop2 .inv) none (turn .loop2-test .taken) (ballots-long s) (omega (arith, room (turn .before)))))
+    (len-at (s .args .t7) _ _ (s .pre .shapes) (omega (arith, ballots-long s)), (omega arith, put-room (turn .before .loop2 .inv) none (turn .loop2-test .taken) (ballots-long s) (omega (arith, room (turn .before)))))
 
 loop2-again : tie.Need-loop2-again Inv-loop μ-loop Inv-loop2 μ-loop2
 loop2-again c =
@@ -119,7 +121,7 @@ returns-2 c =
     let size = size-counted (tested (fronted l .before)) in
     let w = written (message s) (a .out .now) _ size (omega arith) in (
       w .0,
-      whole-written (a .sender) (a .n) (a .weights) (a .log .now) (a .settled) (a .t6) (weights-long s) (s .pre .log-long)
+      whole-written (a .sender) (a .n) (a .weights) (a .dropped) (a .log .now) (a .held) (a .t7) (weights-long s) (s .pre .log-long)
           (a .out .now) (front .last .0) _ _ (front .result) _
           (front .ensures .0) (front .ensures .1) (ballots .0) (ballots .1) (c .before .before .put-end .ensures) (omega arith) ∙ w .1,
     )
