@@ -1,6 +1,7 @@
 -- What the walks for counts make.
 --     count-next, count-done       a walk that counts the entries of one office, one word more, and its end
---     counts-next, counts-done     a walk over the offices that stores their counts, one office more, and its end
+--     counts-fit, counts-next, counts-done     a walk over the offices that raises their counts, one office more, and its end
+--     none-room                    no counts have room for a log
 --     counted-in, counted-far      one entry more, of an office that has a count, and of one that has none
 -- Assumes nothing.
 use mathlib.Core.Path.{_≡_, sym, ap, ap₂, _∙_}
@@ -9,13 +10,15 @@ use mathlib.Core.List.{List}
 use Prim.Native.Nat.{ℕ, _+_, _<_, _≤_}
 use native.Mathlib.Omega.{arith}
 use lib.Dec.{eqb}
-use lib.ListN.{length, getD, drop, set, length-replicate, drop-of-length-le}
+use lib.ListN.{length, getD, drop, set, drop-of-length-le}
 use lib.Seq.{set-out}
+use Rattle.lists.proofs.Tests.{getD-replicate}
 use Rattle.lists.proofs.Walk.{rest-step}
-use Rattle.lists.proofs.Fill.{filled, fill-step, fill-end}
+use Rattle.lists.proofs.Fill.{filled, fill-here, fill-step, fill-end}
 use Rattle.protocol.specs.Entry.{officeOf}
 use Rattle.protocol.specs.Counts.{countIn, noCounts, countOf, counted, countsAfter}
-use Rattle.protocol.proofs.Counts.{none-length, count-of}
+use Rattle.protocol.proofs.Counts.{counts-length, counts-at, count-of, count-most}
+use Rattle.counting.specs.Room.{Room}
 
 pub count-next : (office : ℕ) (xs : List ℕ) (i : ℕ) → i < length xs → countIn office (drop i xs) ≡ cond (eqb (officeOf (getD xs i 0)) office) 1 0 + countIn office (drop (i + 1) xs)
 unfolding countIn
@@ -25,17 +28,23 @@ pub count-done : (office : ℕ) (xs : List ℕ) (i : ℕ) → length xs ≤ i �
 unfolding countIn
 count-done office xs i h = rw (drop-of-length-le xs h)
 
-module _ (log cells : List ℕ) (k : ℕ) (inv : cells ≡ filled (countsAfter (noCounts 8) log) (noCounts 8) k) where
-  same : length (countsAfter (noCounts 8) log) ≡ length (noCounts 8)
-  same = none-length 8 log ∙ sym (length-replicate {A = ℕ} 8 0)
+module _ (start log cells : List ℕ) (k : ℕ) (eight : length start ≡ 8) (inv : cells ≡ filled (countsAfter start log) start k) where
+  -- as many counts, and the next is still that of the start
+  same : length (countsAfter start log) ≡ length start
+  same = counts-length start log
 
-  pub counts-next : k < 8 → (count : ℕ) → count ≡ countIn k log → set cells k count ≡ filled (countsAfter (noCounts 8) log) (noCounts 8) (k + 1)
+  counts-here : k < 8 → getD cells k 0 ≡ countOf start k
+  counts-here h = ap (λ (c : List ℕ). getD c k 0) inv ∙ fill-here 0 (countsAfter start log) start k (omega (arith, same)) (omega arith)
+
+  pub counts-fit : k < 8 → (count : ℕ) → count ≡ countIn k log → Room start (length log) → getD cells k 0 + count < 18446744073709551616
+  counts-fit h count e r = omega (arith, counts-here h, r .1 k, count-of 8 log k h, count-most 8 log k)
+
+  pub counts-next : k < 8 → (count : ℕ) → count ≡ countIn k log → set cells k (getD cells k 0 + count) ≡ filled (countsAfter start log) start (k + 1)
   counts-next h count e =
-      ap₂ (λ (s : List ℕ) (x : ℕ). set s k x) inv (e ∙ sym (count-of 8 log k h)) ∙
-      fill-step 0 (countsAfter (noCounts 8) log) (noCounts 8) same k (omega (arith, length-replicate {A = ℕ} 8 0))
+      ap₂ (λ (s : List ℕ) (x : ℕ). set s k x) inv (ap₂ _+_ (counts-here h) e ∙ sym (counts-at start log k (omega arith))) ∙ fill-step 0 (countsAfter start log) start same k (omega arith)
 
-  pub counts-done : 8 ≤ k → cells ≡ countsAfter (noCounts 8) log
-  counts-done h = inv ∙ fill-end 0 (countsAfter (noCounts 8) log) (noCounts 8) same k (omega (arith, length-replicate {A = ℕ} 8 0))
+  pub counts-done : 8 ≤ k → cells ≡ countsAfter start log
+  counts-done h = inv ∙ fill-end 0 (countsAfter start log) start same k (omega arith)
 
 -- the office is that of the word
 module _ (counts : List ℕ) (e k : ℕ) (q : k ≡ officeOf e) where
@@ -44,3 +53,6 @@ module _ (counts : List ℕ) (e k : ℕ) (q : k ≡ officeOf e) where
 
   pub counted-far : length counts ≤ k → counts ≡ counted counts e
   counted-far h = sym (set-out counts k (countOf counts k + 1) h) ∙ counted-in
+
+pub none-room : (len : ℕ) → len < 4294967296 → Room (noCounts 8) len
+none-room len h = (h, λ k. omega (arith, getD-replicate {A = ℕ} 8 0 k))

@@ -1,2 +1,3 @@
 -- The definitions that the contracts of `counting` cite.
+pub mod Room
 pub mod Bytes

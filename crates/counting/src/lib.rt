@@ -7,6 +7,7 @@ ghost use lib.ListN.{length, take};
 ghost use Rattle.protocol.specs.Entry.{officeOf};
 ghost use Rattle.protocol.specs.Counts.{countIn, noCounts, countOf, counted, countsAfter};
 ghost use Rattle.protocol.specs.Fair.{fair};
+ghost use Rattle.counting.specs.Room.{Room};
 ghost use Rattle.counting.specs.Bytes.{Holding, lowBytes};
 
 // The office of a word.
@@ -38,16 +39,17 @@ fn count_of(office: u32, words: &[u32]) -> u32
     count
 }
 
-// How many entries each office has in a log: a walk for each, since one that only counts runs on vectors, in 32 bits on more words at once.
-// Public only for the crates above, which prove what it requires: a log has at most 1024 entries.
-pub fn counts(words: &[u32]) -> [u64; 8]
-    requires { ⌜ length (now words) < 4294967296 ⌝ }
-    ensures { λ r. ⌜ r ≡ countsAfter (noCounts 8) (now (words .entry)) ⌝ }
+// The counts after the entries of a log: a walk for each office, since one that only counts runs on vectors, in 32 bits on more words at once.
+// Public only for the crates above, which prove that the counts have room: a log has at most 1024 entries, and a count is at most 2^63.
+pub fn counts_after(start: [u64; 8], words: &[u32]) -> [u64; 8]
+    requires { ⌜ Room start (length (now words)) ⌝ }
+    ensures { λ r. ⌜ r ≡ countsAfter start (now (words .entry)) ⌝ }
 {
-    let mut cells: [u64; 8] = [0; 8];
+    let mut cells = start;
     for k in 0..8 {
+        let has = cells[k];
         let count = count_of(k as u32, words);
-        cells[k] = count as u64;
+        cells[k] = has + count as u64;
     }
     cells
 }

@@ -11,19 +11,21 @@ use Prim.Native.Nat.{ℕ, _≤_}
 use native.Mathlib.Omega.{arith}
 use lib.ListN.{length, take, drop, length-append, length-map, length-drop, take-append-drop}
 use lib.Seq.{length-take-le, take-append-seam}
+use Rattle.protocol.specs.Counts.{countOf}
 use Rattle.protocol.specs.Office.{Office}
 use Rattle.protocol.specs.Limits.{isEmpty, tailFine}
 use Rattle.lists.proofs.Tests.{all-map, drop-map}
 use Rattle.protocol.proofs.Limits as Limits
 use Rattle.ballots.specs.Ballots.{ballotFine, isNoBallot, tailOf, ballotOf, wordsWith}
 use Rattle.ballots.proofs.Laws as B
-use Rattle.summary.specs.Summary.{startWith, summaryAfter}
-use Rattle.elections.specs.Elections.{heldIn, stateOf, Electable}
+use Rattle.summary.specs.Summary.{summaryAfter}
+use Rattle.kept.specs.declared.Kept.{Kept}
+use Rattle.elections.specs.Elections.{heldIn, stateOf, Steppable, Electable}
 use Rattle.elections.specs.declared.State.{State}
 
 -- the office that a state was made to hold
-pub held-by : (weights : List ℕ) (o : Office) (words : List ℕ) → heldIn (stateOf weights o) (wordsWith (o .log) words) ≡ o
-held-by weights o words = λ i. record {
+pub held-by : (kept : Kept) (o : Office) (words : List ℕ) → heldIn (stateOf kept o) (wordsWith (o .log) words) ≡ o
+held-by kept o words = λ i. record {
   log = take-append-seam (o .log) (drop (length (o .log)) words) i;
   tails = B.tails-of (o .tails) i;
 }
@@ -31,34 +33,42 @@ held-by weights o words = λ i. record {
 pub words-length : (log words : List ℕ) → length log ≤ length words → length (wordsWith log words) ≡ length words
 words-length log words h = rw (length-append, length-drop) (omega arith)
 
-module _ (n : ℕ) (weights : List ℕ) (s : State) (words : List ℕ) (S : Electable n weights s words) where
-  pub log-length : length (take (s .settled) words) ≡ s .settled
-  log-length = length-take-le (s .settled) words (omega arith)
-
-  pub held : stateOf weights (heldIn s words) ≡ s
-  held = λ i. record { summary = sym (S .done) i; settled = log-length i; ballots = B.held-all n (s .settled) (s .ballots) (S .fine) i }
+module _ (n : ℕ) (s : State) (words : List ℕ) (S : Steppable n s words) where
+  pub log-length : length (take (s .held) words) ≡ s .held
+  log-length = length-take-le (s .held) words (let m = S .most in let r = S .room in omega arith)
 
   pub words-kept : wordsWith (heldIn s words .log) words ≡ words
-  words-kept = ap (λ (k : ℕ). take (s .settled) words ++ drop k words) log-length ∙ take-append-drop (s .settled) words
+  words-kept = ap (λ (k : ℕ). take (s .held) words ++ drop k words) log-length ∙ take-append-drop (s .held) words
 
   pub held-fine : Limits.Fine n (heldIn s words)
   held-fine = record {
     eight = length-map (s .ballots) tailOf ∙ S .eight;
     most = omega (arith, log-length, S .most);
     entries = S .entries;
-    tails = rw log-length (all-map (ballotFine n (s .settled)) (tailFine n (s .settled)) tailOf (B.tail-fine n (s .settled)) (s .ballots) (S .fine));
+    tails = rw log-length (all-map (ballotFine n (s .held)) (tailFine n (s .held)) tailOf (B.tail-fine n (s .held)) (s .ballots) (S .fine));
     rest = rw (drop-map tailOf n (s .ballots)) (all-map isNoBallot isEmpty tailOf B.none-empty (drop n (s .ballots)) (S .rest));
   }
 
-module _ (n : ℕ) (weights : List ℕ) (o : Office) (words : List ℕ) (few : n ≤ 8) (F : Limits.Fine n o) (room : 1024 ≤ length words) where
-  pub electable-of : Electable n weights (stateOf weights o) (wordsWith (o .log) words)
-  electable-of = record {
+pub held : (n : ℕ) (kept : Kept) (s : State) (words : List ℕ) → Electable n kept s words → stateOf kept (heldIn s words) ≡ s
+held n kept s words E =
+    let S = E .limits in
+    λ i. record { summary = sym (E .done) i; held = log-length n s words S i; ballots = B.held-all n (s .held) (s .ballots) (S .fine) i }
+
+module _ (n : ℕ) (kept : Kept) (o : Office) (words : List ℕ) (few : n ≤ 8) (F : Limits.Fine n o) (room : 1024 ≤ length words) where
+  steppable-of : Steppable n (stateOf kept o) (wordsWith (o .log) words)
+  steppable-of = record {
     room = rw (words-length (o .log) words (let m = F .most in omega arith)) room;
     few = few;
     most = F .most;
     entries = rw take-append-seam (F .entries);
-    done = ap (summaryAfter (startWith weights)) (sym (take-append-seam (o .log) (drop (length (o .log)) words)));
     eight = length-map (o .tails) ballotOf ∙ F .eight;
     fine = all-map (tailFine n (length (o .log))) (ballotFine n (length (o .log))) ballotOf (B.fine-tail n (length (o .log))) (o .tails) (F .tails);
     rest = rw (drop-map ballotOf n (o .tails)) (all-map isEmpty isNoBallot ballotOf B.empty-none (drop n (o .tails)) (F .rest));
+  }
+
+  pub electable-of : ((k : ℕ) → countOf (kept .counts) k ≤ 9223372036854775808) → Electable n kept (stateOf kept o) (wordsWith (o .log) words)
+  electable-of countable = record {
+    limits = steppable-of;
+    done = ap (summaryAfter (kept .summary)) (sym (take-append-seam (o .log) (drop (length (o .log)) words)));
+    countable = countable;
   }

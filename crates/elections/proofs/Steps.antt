@@ -13,13 +13,13 @@ use mathlib.Core.Option.{none, some}
 use Prim.Native.Nat.{ℕ, zero, suc, _+_, _-_, _<_}
 use native.Mathlib.Omega.{arith}
 use lib.Dec.{eqb}
-use lib.ListN.{length, getD, take, drop, set, replicate, length-map, length-drop, length-replicate}
+use lib.ListN.{length, getD, drop, set, replicate, length-map, length-drop, length-replicate}
 use lib.Seq.{set-getD}
 use borrow.Author.Tests.{eqb-true}
 use Rattle.lists.specs.Tests.{allB}
 use Rattle.protocol.specs.Entry.{isEntry}
-use Rattle.protocol.specs.Vote.{winner}
-use Rattle.protocol.specs.Counts.{noCounts, countsAfter, quieterBy}
+use Rattle.protocol.specs.Vote.{Votes, winner}
+use Rattle.protocol.specs.Counts.{quieterBy}
 use Rattle.protocol.specs.Office.{first, votes}
 use Rattle.protocol.specs.Elect.{lose}
 use Rattle.lists.proofs.Tests.{both-0, both-1, both-true, all-at, all-getD, all-drop, all-mono, drop-map, getD-map}
@@ -32,7 +32,7 @@ use Rattle.tallies.specs.declared.Winner.{Winner}
 use Rattle.tallies.specs.declared.Winner.the-variants.{Entry, Nobody}
 use Rattle.tallies.proofs.Walks.{winner-some, winner-none}
 use Rattle.tallies.proofs.Cells.{vote-none, cast-vote, lost-for, lost-other, lost-none}
-use Rattle.elections.specs.Elections.{heldIn, Electable, winnerIn}
+use Rattle.elections.specs.Elections.{heldIn, Steppable, winnerIn}
 use Rattle.elections.specs.declared.State.{State}
 
 drop-replicate : {A : Type 0} (i n : ℕ) (a : A) → drop i (replicate n a) ≡ replicate (n - i) a
@@ -76,7 +76,7 @@ Settling e bs xs i = xs ≡ filled (map (lost e) bs) bs i
 
 -- the state with these ballots
 abbrev pub withBallots : State → List Ballot → State
-withBallots s bs = record { summary = s .summary; settled = s .settled; ballots = bs }
+withBallots s bs = record { summary = s .summary; held = s .held; ballots = bs }
 
 -- a turn that makes xs of the ballots leaves the rest of the state
 pub next-turn : (s next out : State) (e : ℕ) (bs : List Ballot) (k : ℕ) → next ≡ withBallots s (next .ballots) → (xs : List Ballot) → out ≡ withBallots next xs → Settling e bs xs k
@@ -86,7 +86,7 @@ next-turn s next out e bs k p xs q t =
     let same = ap (λ (x : State). x .ballots) made in
     (made ∙ ap (withBallots s) (sym same), same ∙ t)
 
-module _ (n : ℕ) (weights : List ℕ) (s : State) (words : List ℕ) (S : Electable n weights s words) where
+module _ (n : ℕ) (s : State) (words : List ℕ) (S : Steppable n s words) where
   -- ── the votes ──
   pub votes-step : (vs : List ℕ) (i : ℕ) → Gathered (s .ballots) vs i → i < n → (v : ℕ) → v ≡ cast (getD (s .ballots) i offEnd) → Gathered (s .ballots) (set vs i v) (i + 1)
   votes-step vs i inv h v q =
@@ -111,7 +111,7 @@ module _ (n : ℕ) (weights : List ℕ) (s : State) (words : List ℕ) (S : Elec
   )
 
   entries : allB (λ (b : Ballot). allB (isEntry n) (tailOf b)) (s .ballots) ≡ true
-  entries = all-mono (ballotFine n (s .settled)) (λ (b : Ballot). allB (isEntry n) (tailOf b)) (λ b f. B.fine n (s .settled) b f .entries) (s .ballots) (S .fine)
+  entries = all-mono (ballotFine n (s .held)) (λ (b : Ballot). allB (isEntry n) (tailOf b)) (λ b f. B.fine n (s .held) b f .entries) (s .ballots) (S .fine)
 
   cast-votes : votesIn (map cast (s .ballots)) ≡ votes (heldIn s words)
   unfolding allB
@@ -124,19 +124,15 @@ module _ (n : ℕ) (weights : List ℕ) (s : State) (words : List ℕ) (S : Elec
           ap first (sym (B.tail-at (s .ballots) k))
 
   -- what the winner that is found by the gathered votes says
-  module _ (cs : List ℕ) (counts : cs ≡ countsAfter (noCounts 8) (take (s .settled) words)) (vs : List ℕ) (i : ℕ) (inv : Gathered (s .ballots) vs i) (e : i ≡ n) (w : Winner)
-      (q : w ≡ winnerIs (winner (s .summary .present) (quieterBy cs) (votesIn vs))) where
-    winner-of : winnerIs (winnerIn weights s words) ≡ w
-    winner-of = sym (q ∙ λ j. winnerIs (winner (S .done j .present) (quieterBy (counts j)) (voted j)))
-      where
-        voted : votesIn vs ≡ votes (heldIn s words)
-        voted = ap votesIn (votes-end vs i inv e) ∙ cast-votes
+  module _ (cs vs : List ℕ) (i : ℕ) (inv : Gathered (s .ballots) vs i) (e : i ≡ n) (w : Winner) (q : w ≡ winnerIs (winner (s .summary .present) (quieterBy cs) (votesIn vs))) where
+    winner-of : winnerIs (winnerIn cs s words) ≡ w
+    winner-of = sym (q ∙ ap (λ (v : Votes). winnerIs (winner (s .summary .present) (quieterBy cs) v)) (ap votesIn (votes-end vs i inv e) ∙ cast-votes))
 
-    pub won-by : (f : ℕ) → w ≡ Entry f → winnerIn weights s words ≡ some f
-    won-by f p = winner-some (winnerIn weights s words) f (winner-of ∙ p)
+    pub won-by : (f : ℕ) → w ≡ Entry f → winnerIn cs s words ≡ some f
+    won-by f p = winner-some (winnerIn cs s words) f (winner-of ∙ p)
 
-    pub won-nobody : w ≡ Nobody → winnerIn weights s words ≡ none
-    won-nobody p = winner-none (winnerIn weights s words) (winner-of ∙ p)
+    pub won-nobody : w ≡ Nobody → winnerIn cs s words ≡ none
+    won-nobody p = winner-none (winnerIn cs s words) (winner-of ∙ p)
 
   -- ── the ballots when e is settled ──
   module _ (e : ℕ) where
@@ -150,15 +146,15 @@ module _ (n : ℕ) (weights : List ℕ) (s : State) (words : List ℕ) (S : Elec
       lost-here : getD bs i offEnd ≡ b
       lost-here = let m = S .few in ap (λ (l : List Ballot). getD l i offEnd) inv ∙ fill-here offEnd (map (lost e) (s .ballots)) (s .ballots) i (omega (arith, all-lost)) (omega (arith, S .eight))
 
-      fine-here : ballotFine n (s .settled) (getD bs i offEnd) ≡ true
-      fine-here = let m = S .few in ap (ballotFine n (s .settled)) lost-here ∙ all-at (ballotFine n (s .settled)) offEnd (s .ballots) i (S .fine) (omega (arith, S .eight))
+      fine-here : ballotFine n (s .held) (getD bs i offEnd) ≡ true
+      fine-here = let m = S .few in ap (ballotFine n (s .held)) lost-here ∙ all-at (ballotFine n (s .held)) offEnd (s .ballots) i (S .fine) (omega (arith, S .eight))
 
       pub shape-here : ballotShape (getD bs i offEnd) ≡ true
       unfolding ballotFine
       shape-here = both-0 _ _ fine-here
 
       cells-here : 0 < length (getD bs i offEnd .cells)
-      cells-here = omega (arith, B.fine n (s .settled) (getD bs i offEnd) fine-here .cells)
+      cells-here = omega (arith, B.fine n (s .held) (getD bs i offEnd) fine-here .cells)
 
       lost-write : (x : Ballot) → x ≡ lost e (getD bs i offEnd) → Settling e (s .ballots) (set bs i x) (i + 1)
       lost-write x q =
@@ -176,10 +172,10 @@ module _ (n : ℕ) (weights : List ℕ) (s : State) (words : List ℕ) (S : Elec
       lost-keep q =
           let x = getD bs i offEnd in
           subst (λ (l : List Ballot). Settling e (s .ballots) l (i + 1)) (set-getD bs i offEnd)
-          (lost-write x (sym (B.held n (s .settled) x (B.fine n (s .settled) x fine-here)) ∙ ap ballotOf (lost-none e x q)))
+          (lost-write x (sym (B.held n (s .held) x (B.fine n (s .held) x fine-here)) ∙ ap ballotOf (lost-none e x q)))
 
     pub lost-end : (bs : List Ballot) (i : ℕ) → Settling e (s .ballots) bs i → i ≡ n → bs ≡ map ballotOf (map (lose e) (map tailOf (s .ballots)))
     lost-end bs i inv q =
         inv ∙ ap (filled (map (lost e) (s .ballots)) (s .ballots)) q ∙
-        fill-rest (map (lost e) (s .ballots)) (s .ballots) n (none-lost n (s .settled) e (drop n (s .ballots)) (all-drop (ballotFine n (s .settled)) n (s .ballots) (S .fine)) (S .rest) ∙ sym (drop-map (lost e) n (s .ballots))) ∙
+        fill-rest (map (lost e) (s .ballots)) (s .ballots) n (none-lost n (s .held) e (drop n (s .ballots)) (all-drop (ballotFine n (s .held)) n (s .ballots) (S .fine)) (S .rest) ∙ sym (drop-map (lost e) n (s .ballots))) ∙
         lost-all e (s .ballots)

@@ -1,50 +1,63 @@
 -- What changes of a record, the office's state that it holds with a log's words, and what an election step and elections until no entry wins make of
 -- both. Assumes nothing.
-use Prim.Native.Nat.{ℕ, _≤_}
+use Prim.Native.Nat.{ℕ, _+_, _≤_}
 use mathlib.Core.Path.{_≡_}
 use mathlib.Core.Bool.{true}
 use mathlib.Core.List.{List, map}
 use mathlib.Core.Option.{Option}
-use lib.ListN.{length, take, drop}
+use lib.ListN.{length, take, drop, set}
 use Rattle.lists.specs.Tests.{allB}
 use Rattle.protocol.specs.Entry.{isEntry}
-use Rattle.protocol.specs.SettledRule.{bySettled}
+use Rattle.protocol.specs.Counts.{countOf, quieterBy}
+use Rattle.protocol.specs.Vote.{winner}
 use Rattle.protocol.specs.Office.{Office, votes}
-use Rattle.protocol.specs.Elect.{settle, next, withElect}
-use Rattle.ballots.specs.Ballots.{ballotOf, ballotFine, isNoBallot, officeIn, wordsWith}
-use Rattle.summary.specs.Summary.{startWith, summaryAfter}
+use Rattle.protocol.specs.Elect.{lose, next, withElect}
+use Rattle.ballots.specs.Ballots.{tailOf, ballotOf, ballotFine, isNoBallot, officeIn}
+use Rattle.summary.specs.Summary.{summaryAfter, summaryNext}
+use Rattle.kept.specs.Kept.{ruleBehind}
+use Rattle.kept.specs.declared.Kept.{Kept}
 use Rattle.elections.specs.declared.State.{State}
 
 -- the office's state in a log's words and a record's
 abbrev pub heldIn : State → List ℕ → Office
-heldIn s words = officeIn words (s .settled) (s .ballots)
+heldIn s words = officeIn words (s .held) (s .ballots)
 
--- what holds an office's state, in a frame of these founding weights
-abbrev pub stateOf : List ℕ → Office → State
-stateOf weights o = record { summary = summaryAfter (startWith weights) (o .log); settled = length (o .log); ballots = map ballotOf (o .tails) }
+-- what holds an office's state, behind dropped entries of which this is kept
+abbrev pub stateOf : Kept → Office → State
+stateOf kept o = record { summary = summaryAfter (kept .summary) (o .log); held = length (o .log); ballots = map ballotOf (o .tails) }
 
--- what elections ask: every sound record of n offices with these founding weights has it
-pub record Electable (n : ℕ) (weights : List ℕ) (s : State) (words : List ℕ) : Type 0 where
+-- what a step asks: a state of n offices within the limits, in words with room
+pub record Steppable (n : ℕ) (s : State) (words : List ℕ) : Type 0 where
   pub room : 1024 ≤ length words
   pub few : n ≤ 8
-  pub most : s .settled ≤ 1024
-  pub entries : allB (isEntry n) (take (s .settled) words) ≡ true
-  pub done : s .summary ≡ summaryAfter (startWith weights) (take (s .settled) words)
+  pub most : s .held ≤ 1024
+  pub entries : allB (isEntry n) (take (s .held) words) ≡ true
   pub eight : length (s .ballots) ≡ 8
-  pub fine : allB (ballotFine n (s .settled)) (s .ballots) ≡ true
+  pub fine : allB (ballotFine n (s .held)) (s .ballots) ≡ true
   pub rest : allB isNoBallot (drop n (s .ballots)) ≡ true
 
+-- what elections ask: every sound record of n offices that keeps this has it
+pub record Electable (n : ℕ) (kept : Kept) (s : State) (words : List ℕ) : Type 0 where
+  pub limits : Steppable n s words
+  pub done : s .summary ≡ summaryAfter (kept .summary) (take (s .held) words)
+  pub countable : (k : ℕ) → countOf (kept .counts) k ≤ 9223372036854775808
+
 -- "until no entry wins"
-abbrev pub electedIn : List ℕ → State → List ℕ → Office
-electedIn weights s words = withElect (bySettled weights) (heldIn s words)
+abbrev pub electedIn : Kept → State → List ℕ → Office
+electedIn kept s words = withElect (ruleBehind kept) (heldIn s words)
 
--- the entry that wins, if any
+-- the entry that wins, if any, by the present weights and these counts
 abbrev pub winnerIn : List ℕ → State → List ℕ → Option ℕ
-winnerIn weights s words = bySettled weights (heldIn s words .log) (votes (heldIn s words))
+winnerIn counts s words = winner (s .summary .present) (quieterBy counts) (votes (heldIn s words))
 
--- one step: "the winner is written to the log, the length rises by one"
+-- the state with entry e settled: "the length rises by one"
+abbrev pub settledBy : State → ℕ → State
+settledBy s e = record { summary = summaryNext (s .summary) e; held = s .held + 1; ballots = map ballotOf (map (lose e) (map tailOf (s .ballots))) }
+
+-- one step
 unfoldable pub stepOf : List ℕ → State → List ℕ → State
-stepOf weights s words = next (winnerIn weights s words) s (λ e. stateOf weights (settle e (heldIn s words)))
+stepOf counts s words = next (winnerIn counts s words) s (settledBy s)
 
+-- "the winner is written to the log"
 unfoldable pub stepWords : List ℕ → State → List ℕ → List ℕ
-stepWords weights s words = next (winnerIn weights s words) words (λ e. wordsWith (settle e (heldIn s words) .log) words)
+stepWords counts s words = next (winnerIn counts s words) words (set words (s .held))

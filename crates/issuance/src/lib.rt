@@ -1,10 +1,11 @@
-// The number of an issue, by what it is asked of: the offices, the line and the code, the settled length and the own ballot; and the own ballot
-// with the entry. Public only for the crate above, which proves what the functions require.
+// The number of an issue, by what it is asked of: the offices, the line and the code, the lengths and the own ballot; and the own ballot with
+// the entry. Public only for the crate above, which proves what the functions require.
 ghost use mathlib.Core.Path.{_≡_};
 ghost use Prim.Native.Nat.{_<_, _≤_};
 ghost use Rattle.protocol.specs.Entry.{proper, value};
 ghost use Rattle.protocol.specs.Counts.{countIn};
 ghost use Rattle.protocol.specs.Issue.{refusalAt};
+ghost use Rattle.protocol.specs.Limits.{lengthLimit};
 ghost use Rattle.ballots.specs.Ballots.{tailOf, pushed};
 use ballots::Ballot;
 
@@ -29,16 +30,28 @@ fn proper(n: usize, line: u32, code: u32) -> bool
     ((line - LINES) as usize) < n
 }
 
-// The number of an issue by office `own` of n, on a sound record with this settled length and this own ballot.
-pub fn refusal(n: usize, own: usize, line: u32, code: u32, settled: usize, b: Ballot) -> u32
-    requires { ⌜ (1 ≤ n) × ((own < 8) × ((settled ≤ 1024) × (b .len ≤ 32))) ⌝ }
-    ensures { λ r. ⌜ r ≡ refusalAt n line code settled (b .len) (countIn own (tailOf b)) ⌝ }
+// The number of an issue by office `own` of n, on a sound record with this settled length, this length of the undropped part and this own
+// ballot.
+pub fn refusal(
+    n: usize,
+    own: usize,
+    line: u32,
+    code: u32,
+    settled: u64,
+    held: usize,
+    b: Ballot,
+) -> u32
+    requires { ⌜ (1 ≤ n) × ((own < 8) × ((settled ≤ lengthLimit) × ((held ≤ 1024) × (b .len ≤ 32)))) ⌝ }
+    ensures { λ r. ⌜ r ≡ refusalAt n line code settled held (b .len) (countIn own (tailOf b)) ⌝ }
 {
     if !proper(n, line, code) {
         return 3;
     }
     let len = b.len;
-    if settled + len == Ballot::PATH {
+    if held + len == Ballot::PATH {
+        return 5;
+    }
+    if settled + len as u64 == lengths::LIMIT {
         return 5;
     }
     let cells = b.cells;

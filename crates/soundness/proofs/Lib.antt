@@ -1,3 +1,4 @@
 -- Laws that belong to no one function.
 pub mod Facts
-pub mod Sums
+pub mod Folded
+pub mod Noted

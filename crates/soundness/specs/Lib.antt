@@ -1,2 +1,3 @@
 -- The definition of soundness.
+pub mod Noted
 pub mod Soundness

@@ -1,58 +1,53 @@
 // When a record with its log is sound, by the record's fields.
 ghost use mathlib.Core.Path.{_≡_};
-ghost use lib.Dec.{eqb};
-ghost use lib.ListN.{drop};
-ghost use Rattle.lists.specs.Tests.{allB};
-ghost use Rattle.protocol.specs.Limits.{total, headFine};
+ghost use lib.Dec.{leb};
+ghost use Rattle.lists.specs.Tests.{both};
+ghost use Rattle.protocol.specs.Limits.{headFine};
+ghost use Rattle.soundness.specs.Noted.{limitAt, notedFine};
 ghost use Rattle.soundness.specs.Soundness.{soundFields};
 use ballots::Ballot;
+use kept::Kept;
 use summary::Summary;
 
-// The most offices, and the words of a log.
-const OFFICES: usize = 8;
-
-const LOG: usize = 1024;
-
-// Whether the weights from place n on are zero.
-fn zero_from(weights: [u16; 8], n: usize) -> bool
-    ensures { λ r. ⌜ r ≡ allB (eqb 0) (drop n weights) ⌝ }
+// The most that may be noted at a place: nothing of the office itself, or where there is no office.
+fn limit_at(place: usize, n: usize, own: usize, settled: u64) -> u64
+    ensures { λ r. ⌜ r ≡ limitAt n own settled place ⌝ }
 {
-    for i in n..8 {
-        if weights[i] != 0 {
-            return false;
-        }
+    if (place == own) | (place >= n) {
+        return 0;
     }
-    true
+    settled
 }
 
-// The sum of the weights.
-fn total(weights: [u16; 8]) -> u32
-    ensures { λ r. ⌜ r ≡ total weights ⌝ }
+// Whether a record may have noted these lengths. Every place is looked at.
+fn noted_fine(noted: [u64; 8], n: usize, own: usize, settled: u64) -> bool
+    ensures { λ r. ⌜ r ≡ notedFine n own settled noted ⌝ }
 {
-    let mut sum: u32 = 0;
+    let mut good = true;
     for i in 0..8 {
-        sum = sum + weights[i] as u32;
+        good = good & (noted[i] <= limit_at(i, n, own, settled));
     }
-    sum
+    good
 }
 
-// Whether a record may have these offices and weights.
-pub fn head_fine(n: usize, own: usize, weights: [u16; 8]) -> bool
-    ensures { λ r. ⌜ r ≡ headFine n own weights ⌝ }
+// Whether a record's numbers are within the limits: its offices and weights, no more dropped than settled, and the noted lengths.
+fn numbers_fine(
+    n: usize,
+    own: usize,
+    weights: [u16; 8],
+    noted: [u64; 8],
+    settled: u64,
+    dropped: u64,
+) -> bool
+    ensures { λ r. ⌜ r ≡ both (headFine n own weights) (both (leb dropped settled) (notedFine n own settled noted)) ⌝ }
 {
-    if n < 1 {
+    if !limits::head_fine(n, own, weights) {
         return false;
     }
-    if n > OFFICES {
+    if dropped > settled {
         return false;
     }
-    if own >= n {
-        return false;
-    }
-    if !zero_from(weights, n) {
-        return false;
-    }
-    total(weights) >= 1
+    noted_fine(noted, n, own, settled)
 }
 
 // Whether a record of these fields is sound with its log.
@@ -60,29 +55,38 @@ pub fn sound(
     n: usize,
     own: usize,
     weights: [u16; 8],
+    kept: Kept,
+    noted: [u64; 8],
     summary: Summary,
-    settled: usize,
+    settled: u64,
     ballots: [Ballot; 8],
     log: &[u32],
 ) -> bool
-    ensures { λ r. ⌜ r ≡ soundFields n own weights summary settled ballots (now (log .entry)) ⌝ }
+    ensures { λ r. ⌜ r ≡ soundFields n own weights kept noted summary settled ballots (now (log .entry)) ⌝ }
 {
-    if log.len() < LOG {
+    if log.len() < Ballot::PATH {
         return false;
     }
-    if !head_fine(n, own, weights) {
+    if !numbers_fine(n, own, weights, noted, settled, kept.dropped) {
         return false;
     }
-    if settled > LOG {
+    let held = (settled - kept.dropped) as usize;
+    if held > Ballot::PATH {
         return false;
     }
-    if !entries::all_entries(&log[..settled], n) {
+    if !kept::fine(kept, n, weights) {
         return false;
     }
-    let start = Summary::start(weights);
-    let follows = start.after(&log[..settled]);
+    if !entries::all_entries(&log[..held], n) {
+        return false;
+    }
+    let before = kept.summary;
+    let follows = before.after(&log[..held]);
     if !summary.same(follows) {
         return false;
     }
-    ballots::fine(ballots, n, settled)
+    if !ballots::fine(ballots, n, held) {
+        return false;
+    }
+    lengths::within(settled, ballots)
 }

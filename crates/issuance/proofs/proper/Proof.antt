@@ -1,6 +1,6 @@
 -- The tests of the definition: the code, then the line, and on a line of moves the code and the office.
 use native.Mathlib.Omega.{arith}
-use mathlib.Core.Path.{_≡_, sym, _∙_}
+use mathlib.Core.Path.{sym}
 use Prim.Native.Nat.{_-_}
 use lib.Dec.{ltb}
 use borrow.Author.Needs.{needs}

@@ -1,0 +1,5 @@
+-- Laws that belong to no one function.
+pub mod Sums
+pub mod Facts
+pub mod Laws
+pub mod Moved

@@ -1,0 +1,2 @@
+-- The definitions that the contracts of `kept` cite.
+pub mod Kept
