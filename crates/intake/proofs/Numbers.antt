@@ -1,64 +1,161 @@
--- Each way out of `check`, in the order of its definition: the number, and with it the whole answer. Assumes nothing.
-use mathlib.Core.Path.{_≡_, sym, ap, _∙_}
-use mathlib.Core.Bool.{true, false, not}
+-- Take's number and the places of its comparison, each way out in the order of the definitions.
+--     by-none, by-compared                                  the answer with a number that came to no comparison, and with one that did
+--     past, inside, apart, meets                            16, 17, 10 and 0 by the logs
+--     not-read, other-count, other-weights, own-message     7, 8 and 9
+--     by-logs                                               else it is the logs'
+--     refusal-folded, accepted                              the number is the protocol's; what is known where it is 0
+-- Assumes nothing.
+use mathlib.Core.Path.{_≡_, refl, sym, ap, _∙_}
+use mathlib.Core.Bool.{Bool, true, false, not, cond}
 use mathlib.Core.List.{List}
-use Prim.Native.Nat.{ℕ}
-use lib.ListN.{take}
-use borrow.Author.Tests.{eq-eqb, ne-eqb}
+use Prim.Native.Nat.{ℕ, _+_, _-_, _<_, _≤_}
+use native.Mathlib.Omega.{arith}
+use lib.Dec.{eqb, ltb}
+use lib.ListN.{length, take, drop, length-take}
+use borrow.Author.Tests.{eq-eqb, ne-eqb, lt-ltb, le-ltb, ltb-false}
 use Rattle.lists.specs.Tests.{both, pick, same}
 use Rattle.lists.proofs.Tests.{pick-true, pick-false}
 use Rattle.protocol.specs.Beginning.{comparable}
+use Rattle.protocol.specs.Take.{refuseTake}
+use Rattle.protocol.specs.Folding.{refuseFoldedTake}
+use Rattle.ballots.specs.declared.Ballot.{Ballot}
+use Rattle.ballots.specs.Ballots.{officeIn}
+use Rattle.numbers.proofs.Runs.{runAt-length}
+use Rattle.spelling.specs.Reading.{recordAt}
 use Rattle.reading.specs.declared.Reading.{Reading}
 use Rattle.comparing.specs.FromEnd.{compares, placesFromEnd}
-use Rattle.intake.specs.Intake.{messageIn, refusalOf, checkedOf}
+use Rattle.intake.specs.Intake.{packetIn, logsRefusal, refusalOf, checkedBy, checkedOf}
 use Rattle.intake.specs.declared.Checked.{Checked}
 
+-- ── by the logs ──
+module _ (dropped : ℕ) (log : List ℕ) (other : ℕ) (theirs : List ℕ) where
+  -- both logs from where both have entries
+  abbrev ownPart : List ℕ
+  ownPart = drop (other - dropped) log
+
+  abbrev theirPart : List ℕ
+  theirPart = drop (dropped - other) theirs
+
+  answer : (k p number : ℕ) → k ≡ number → p ≡ pick (compares k) (placesFromEnd ownPart theirPart) 0 → _≡_ {A = Checked} (record { number = k; places = p }) (checkedBy number dropped log other theirs)
+  unfolding checkedBy
+  answer k p number e q = λ i. record { number = e i; places = (q ∙ ap (λ (z : ℕ). pick (compares z) (placesFromEnd ownPart theirPart) 0) e) i }
+
+  pub by-none : (x : Checked) (k number : ℕ) → x ≡ record { number = k; places = 0 } → compares k ≡ false → k ≡ number → x ≡ checkedBy number dropped log other theirs
+  by-none x k number is c e = is ∙ answer k 0 number e (sym (pick-false (compares k) (placesFromEnd ownPart theirPart) 0 c))
+
+  pub by-compared : (k p number : ℕ) → compares k ≡ true → k ≡ number → p ≡ placesFromEnd ownPart theirPart → _≡_ {A = Checked} (record { number = k; places = p }) (checkedBy number dropped log other theirs)
+  by-compared k p number c e q = answer k p number e (q ∙ sym (pick-true (compares k) (placesFromEnd ownPart theirPart) 0 c))
+
+  pub past : length log < other - dropped → 16 ≡ logsRefusal dropped log other theirs
+  unfolding logsRefusal pick
+  past h = rw (lt-ltb (dropped + length log) other (omega arith))
+
+  module _ (h : other - dropped ≤ length log) where
+    abbrev begins-within : ltb (dropped + length log) other ≡ false
+    begins-within = le-ltb (dropped + length log) other (omega arith)
+
+    pub inside : length theirs < dropped - other → 17 ≡ logsRefusal dropped log other theirs
+    unfolding logsRefusal pick
+    inside l = rw (begins-within, lt-ltb (other + length theirs) dropped (omega arith))
+
+    module _ (l : dropped - other ≤ length theirs) where
+      abbrev ends-past : ltb (other + length theirs) dropped ≡ false
+      ends-past = le-ltb (other + length theirs) dropped (omega arith)
+
+      pub apart : comparable ownPart theirPart ≡ false → 10 ≡ logsRefusal dropped log other theirs
+      unfolding logsRefusal pick
+      apart c = rw (begins-within, ends-past, c)
+
+      pub meets : comparable ownPart theirPart ≡ true → 0 ≡ logsRefusal dropped log other theirs
+      unfolding logsRefusal pick
+      meets c = rw (begins-within, ends-past, c)
+
+  -- what is known where the number is 0
+  abbrev Meeting : Type 0
+  Meeting = (other ≤ dropped + length log) × ((dropped ≤ other + length theirs) × (comparable ownPart theirPart ≡ true))
+
+  meeting : logsRefusal dropped log other theirs ≡ 0 → Meeting
+  unfolding logsRefusal pick
+  meeting e = go (ltb (dropped + length log) other) refl (ltb (other + length theirs) dropped) refl (comparable ownPart theirPart) refl e
+    where
+      go : (a : Bool) → ltb (dropped + length log) other ≡ a → (b : Bool) → ltb (other + length theirs) dropped ≡ b → (c : Bool) → comparable ownPart theirPart ≡ c
+          → _≡_ {A = ℕ} (pick a 16 (pick b 17 (pick c 0 10))) 0 → Meeting
+      go true p b q c r z = absurd (omega arith)
+      go false p true q c r z = absurd (omega arith)
+      go false p false q false r z = absurd (omega arith)
+      go false p false q true r z = (omega (arith, ltb-false (dropped + length log) other p), (omega (arith, ltb-false (other + length theirs) dropped q), r))
+
+-- ── by all ──
 -- a message that was read, of these offices and weights
 pub record Alike (n : ℕ) (weights : List ℕ) (m : Reading) : Type 0 where
   pub ok : m .ok ≡ true
   pub count : m .n ≡ n
   pub same-weights : same (m .weights) weights ≡ true
 
-module _ (n own : ℕ) (weights words : List ℕ) (settled : ℕ) (rest : List ℕ) (m : Reading) where
-  abbrev theirs : List ℕ
-  theirs = messageIn rest m .state .log
+module _ (n own : ℕ) (weights : List ℕ) (dropped : ℕ) (words : List ℕ) (held : ℕ) (rest : List ℕ) (m : Reading) where
+  abbrev own-log : List ℕ
+  own-log = take held words
 
-  answer : (k p : ℕ) → k ≡ refusalOf n own weights words settled rest m → p ≡ pick (compares k) (placesFromEnd (take settled words) theirs) 0
-      → _≡_ {A = Checked} (record { number = k; places = p }) (checkedOf n own weights words settled rest m)
+  abbrev message-log : List ℕ
+  message-log = packetIn rest m .state .log
+
+  pub answer-none : (x : Checked) (k : ℕ) → x ≡ record { number = k; places = 0 } → compares k ≡ false → k ≡ refusalOf n own weights dropped words held rest m
+      → x ≡ checkedOf n own weights dropped words held rest m
   unfolding checkedOf
-  answer k p e q = λ i. record { number = e i; places = (q ∙ ap (λ (z : ℕ). pick (compares z) (placesFromEnd (take settled words) theirs) 0) e) i }
+  answer-none x k is c e = by-none dropped own-log (m .dropped) message-log x k (refusalOf n own weights dropped words held rest m) is c e
 
-  -- the whole answer: with a number that came to no comparison, and with one that did
-  pub answer-none : (x : Checked) (k : ℕ) → x ≡ record { number = k; places = 0 } → compares k ≡ false → k ≡ refusalOf n own weights words settled rest m
-      → x ≡ checkedOf n own weights words settled rest m
-  answer-none x k is c e = is ∙ answer k 0 e (sym (pick-false (compares k) (placesFromEnd (take settled words) theirs) 0 c))
-
-  pub answer-compared : (k p : ℕ) → compares k ≡ true → k ≡ refusalOf n own weights words settled rest m → p ≡ placesFromEnd (take settled words) theirs
-      → _≡_ {A = Checked} (record { number = k; places = p }) (checkedOf n own weights words settled rest m)
-  answer-compared k p c e q = answer k p e (q ∙ sym (pick-true (compares k) (placesFromEnd (take settled words) theirs) 0 c))
-
-  pub not-read : m .ok ≡ false → 7 ≡ refusalOf n own weights words settled rest m
+  pub not-read : m .ok ≡ false → 7 ≡ refusalOf n own weights dropped words held rest m
   unfolding refusalOf pick
   not-read e = rw e
 
-  pub other-count : m .ok ≡ true → (m .n ≡ n → ⊥) → 8 ≡ refusalOf n own weights words settled rest m
+  pub other-count : m .ok ≡ true → (m .n ≡ n → ⊥) → 8 ≡ refusalOf n own weights dropped words held rest m
   unfolding refusalOf pick both
   other-count e d = rw (e, ne-eqb (m .n) n d)
 
-  pub other-weights : m .ok ≡ true → m .n ≡ n → same (m .weights) weights ≡ false → 8 ≡ refusalOf n own weights words settled rest m
+  pub other-weights : m .ok ≡ true → m .n ≡ n → same (m .weights) weights ≡ false → 8 ≡ refusalOf n own weights dropped words held rest m
   unfolding refusalOf pick both
   other-weights e q w = rw (e, eq-eqb (m .n) n q, w)
 
   module _ (A : Alike n weights m) where
-    pub own-message : m .sender ≡ own → 9 ≡ refusalOf n own weights words settled rest m
+    pub own-message : m .sender ≡ own → 9 ≡ refusalOf n own weights dropped words held rest m
     unfolding refusalOf pick both
     own-message s = rw (A .ok, eq-eqb (m .n) n (A .count), A .same-weights, eq-eqb (m .sender) own s)
 
-    module _ (d : m .sender ≡ own → ⊥) where
-      pub apart : comparable (take settled words) (messageIn rest m .state .log) ≡ false → 10 ≡ refusalOf n own weights words settled rest m
-      unfolding refusalOf pick both
-      apart c = rw (A .ok, eq-eqb (m .n) n (A .count), A .same-weights, ne-eqb (m .sender) own d, c)
+    refusal-logs : (m .sender ≡ own → ⊥) → logsRefusal dropped own-log (m .dropped) message-log ≡ refusalOf n own weights dropped words held rest m
+    unfolding refusalOf pick both
+    refusal-logs d = rw (A .ok, eq-eqb (m .n) n (A .count), A .same-weights, ne-eqb (m .sender) own d)
 
-      pub accepts : comparable (take settled words) (messageIn rest m .state .log) ≡ true → 0 ≡ refusalOf n own weights words settled rest m
-      unfolding refusalOf pick both
-      accepts c = rw (A .ok, eq-eqb (m .n) n (A .count), A .same-weights, ne-eqb (m .sender) own d, c)
+    pub by-logs : (m .sender ≡ own → ⊥) → (x : Checked) → x ≡ checkedBy (logsRefusal dropped own-log (m .dropped) message-log) dropped own-log (m .dropped) message-log
+        → x ≡ checkedOf n own weights dropped words held rest m
+    unfolding checkedOf
+    by-logs d x is = is ∙ ap (λ (k : ℕ). checkedBy k dropped own-log (m .dropped) message-log) (refusal-logs d)
+
+  -- ── the protocol's number ──
+  own-first : (s a b c : Bool) → _≡_ {A = ℕ} (pick s 9 (pick a 16 (pick b 17 (pick c 0 10)))) (pick s 9 (pick a 16 (pick b 17 (cond s 9 (cond c 0 10)))))
+  unfolding pick
+  own-first true a b c = refl
+  own-first false true b c = refl
+  own-first false false true c = refl
+  own-first false false false true = refl
+  own-first false false false false = refl
+
+  pub refusal-folded : (ballots : List Ballot) (noted : List ℕ) → refusalOf n own weights dropped words held rest m
+      ≡ pick (not (m .ok)) 7 (pick (not (both (eqb (m .n) n) (same (m .weights) weights))) 8 (refuseFoldedTake own (packetIn rest m) (record { dropped = dropped; held = officeIn words held ballots; noted = noted })))
+  unfolding refusalOf logsRefusal refuseFoldedTake refuseTake
+  refusal-folded ballots noted =
+      ap (λ (k : ℕ). pick (not (m .ok)) 7 (pick (not (both (eqb (m .n) n) (same (m .weights) weights))) 8 k))
+      (own-first (eqb (m .sender) own) (ltb (dropped + length own-log) (m .dropped)) (ltb (m .dropped + length message-log) dropped) (comparable (drop (m .dropped - dropped) own-log) (drop (dropped - m .dropped) message-log)))
+
+  -- what is known of a message that is accepted
+  pub accepted : refusalOf n own weights dropped words held rest m ≡ 0
+      → (m .dropped ≤ dropped + held) × ((dropped ≤ m .dropped + m .held) × (comparable (drop (m .dropped - dropped) own-log) (drop (dropped - m .dropped) message-log) ≡ true))
+  unfolding refusalOf pick
+  accepted e =
+      let k = go (m .ok) (both (eqb (m .n) n) (same (m .weights) weights)) (eqb (m .sender) own) e in
+      (omega (arith, k .0, length-take held words), (omega (arith, k .1 .0, runAt-length 6 recordAt (m .held) rest), k .1 .1))
+    where
+      go : (a b c : Bool) → _≡_ {A = ℕ} (pick (not a) 7 (pick (not b) 8 (pick c 9 (logsRefusal dropped own-log (m .dropped) message-log)))) 0 → Meeting dropped own-log (m .dropped) message-log
+      go false b c z = absurd (omega arith)
+      go true false c z = absurd (omega arith)
+      go true true true z = absurd (omega arith)
+      go true true false z = meeting dropped own-log (m .dropped) message-log z

@@ -1,15 +1,16 @@
 -- An office's log and ballots beside a message that was read, and what a take makes of them. Assumes nothing.
-use Prim.Native.Nat.{ℕ, _*_, _<_, _≤_}
+use Prim.Native.Nat.{ℕ, _+_, _-_, _*_, _<_, _≤_}
 use mathlib.Core.Path.{_≡_}
 use mathlib.Core.Bool.{true, not}
-use mathlib.Core.List.{List, map}
+use mathlib.Core.List.{List, [], map}
 use lib.Dec.{ltb, eqb}
 use lib.ListN.{length, take, drop}
 use lib.Seq.{sets}
 use Rattle.lists.specs.Tests.{both, pick, same}
 use Rattle.protocol.specs.Beginning.{comparable}
-use Rattle.protocol.specs.Office.{Office, Message}
+use Rattle.protocol.specs.Office.{Office}
 use Rattle.protocol.specs.Take.{withTake}
+use Rattle.protocol.specs.Folding.{Folded, Packet, caughtUp, fromThere}
 use Rattle.ballots.specs.declared.Ballot.{Ballot}
 use Rattle.ballots.specs.Ballots.{tailOf, ballotOf, officeIn}
 use Rattle.numbers.specs.Numbers.{runAt}
@@ -18,52 +19,100 @@ use Rattle.reading.specs.declared.Reading.{Reading}
 use Rattle.summary.specs.Summary.{summaryAfter}
 use Rattle.comparing.specs.FromEnd.{placesFromEnd, compares}
 use Rattle.elections.specs.declared.State.{State}
+use Rattle.kept.specs.Kept.{keptAfter, Roomy}
+use Rattle.kept.specs.declared.Kept.{Kept}
 use Rattle.intake.specs.declared.Checked.{Checked}
+use Rattle.intake.specs.declared.Intaken.{Intaken}
 
 -- the message that was read: its log records stand in the rest after the head
-abbrev pub messageIn : List ℕ → Reading → Message
-messageIn rest m = record { sender = m .sender; state = record { log = runAt 6 recordAt (m .settled) rest; tails = map tailOf (m .ballots) } }
+abbrev pub packetIn : List ℕ → Reading → Packet
+packetIn rest m = record { sender = m .sender; dropped = m .dropped; state = record { log = runAt 6 recordAt (m .held) rest; tails = map tailOf (m .ballots) } }
 
--- what holds a state that a take made: what the log had done, and the entries behind it
-abbrev pub mergedOf : State → Office → State
-mergedOf s o = record { summary = summaryAfter (s .summary) (drop (s .settled) (o .log)); settled = length (o .log); ballots = map ballotOf (o .tails) }
+-- the office that takes it: its noted lengths are not looked at
+abbrev pub foldedIn : List ℕ → State → Kept → Folded
+foldedIn words s kept = record { dropped = kept .dropped; held = officeIn words (s .held) (s .ballots); noted = [] }
+
+-- ── the number ──
+-- 16: "the message's log begins past the receiver's length"; 17: "it ends inside the receiver's dropped part"; 10: logs that are not comparable on
+-- "the part both still have". Of an office's log behind `dropped` entries, and of a message's behind `other`
+unfoldable pub logsRefusal : ℕ → List ℕ → ℕ → List ℕ → ℕ
+logsRefusal dropped log other theirs =
+    pick (ltb (dropped + length log) other) 16
+    (pick (ltb (other + length theirs) dropped) 17
+    (pick (comparable (drop (other - dropped) log) (drop (dropped - other) theirs)) 0 10))
 
 -- the number of a take on a sound record with these fields. 7: "message not of the layout, .."; 8: "message's n or weights differ from the
--- record's"; 9: the own message; 10: logs that are not comparable
-unfoldable pub refusalOf : ℕ → ℕ → List ℕ → List ℕ → ℕ → List ℕ → Reading → ℕ
-refusalOf n own weights words settled rest m =
+-- record's"; 9: the own message; 16, 17 and 10 by the logs
+unfoldable pub refusalOf : ℕ → ℕ → List ℕ → ℕ → List ℕ → ℕ → List ℕ → Reading → ℕ
+refusalOf n own weights dropped words held rest m =
     pick (not (m .ok)) 7
     (pick (not (both (eqb (m .n) n) (same (m .weights) weights))) 8
     (pick (eqb (m .sender) own) 9
-    (pick (comparable (take settled words) (messageIn rest m .state .log)) 0 10)))
+    (logsRefusal dropped (take held words) (m .dropped) (packetIn rest m .state .log))))
 
--- the number, and how many places the comparison of the logs needed: "0 on any refusal but 10"
-unfoldable pub checkedOf : ℕ → ℕ → List ℕ → List ℕ → ℕ → List ℕ → Reading → Checked
-checkedOf n own weights words settled rest m = record {
-  number = refusalOf n own weights words settled rest m;
-  places = pick (compares (refusalOf n own weights words settled rest m)) (placesFromEnd (take settled words) (messageIn rest m .state .log)) 0;
+-- a number, and how many places the comparison of the logs needed: "0 on any refusal but 10"
+unfoldable pub checkedBy : ℕ → ℕ → List ℕ → ℕ → List ℕ → Checked
+checkedBy number dropped log other theirs = record {
+  number = number;
+  places = pick (compares number) (placesFromEnd (drop (other - dropped) log) (drop (dropped - other) theirs)) 0;
 }
 
--- the office's state after it took the message that was read
-abbrev pub takenIn : List ℕ → ℕ → List Ballot → ℕ → List ℕ → Reading → Office
-takenIn words settled ballots own rest m = withTake own (messageIn rest m) (officeIn words settled ballots)
+unfoldable pub checkedOf : ℕ → ℕ → List ℕ → ℕ → List ℕ → ℕ → List ℕ → Reading → Checked
+checkedOf n own weights dropped words held rest m =
+    checkedBy (refusalOf n own weights dropped words held rest m) dropped (take held words) (m .dropped) (packetIn rest m .state .log)
 
--- "if the message's log extends the settled log, the record writes the missing entries from its own length onward": the settled length
+-- ── the work on an accepted message ──
+-- the office's state after it took the message: "take first drops what the message's sender had dropped"
+abbrev pub takenIn : List ℕ → State → Kept → ℕ → List ℕ → Reading → Office
+takenIn words s kept own rest m = withTake own (fromThere (packetIn rest m) (foldedIn words s kept)) (caughtUp (packetIn rest m) (foldedIn words s kept))
+
+-- what holds a state that a take made: what the log had done, and the entries behind it
+abbrev pub mergedOf : State → Office → State
+mergedOf s o = record { summary = summaryAfter (s .summary) (drop (s .held) (o .log)); held = length (o .log); ballots = map ballotOf (o .tails) }
+
+-- the state when the first k entries of its log are dropped: they have done what they have done
+abbrev pub without : ℕ → State → State
+without k s = record { summary = s .summary; held = s .held - k; ballots = s .ballots }
+
+-- what take makes of the state and of what is kept
+abbrev pub intakenOf : List ℕ → State → Kept → ℕ → List ℕ → Reading → Intaken
+intakenOf words s kept own rest m = record {
+  state = mergedOf (without (m .dropped - kept .dropped) s) (takenIn words s kept own rest m);
+  kept = keptAfter kept (take (m .dropped - kept .dropped) (take (s .held) words));
+}
+
+-- the office's state after it took a message whose log begins where the own one does
+abbrev pub alignedTake : List ℕ → State → ℕ → List ℕ → ℕ → List Ballot → Office
+alignedTake words s own theirs sender offers = withTake own (record { sender = sender; state = record { log = theirs; tails = map tailOf offers } }) (officeIn words (s .held) (s .ballots))
+
+-- "if the message's log extends the settled log, the record writes the missing entries from its own length onward": the held length
 -- and the log's words after that
 unfoldable pub caughtLength : ℕ → List ℕ → ℕ
-caughtLength settled log = pick (ltb settled (length log)) (length log) settled
+caughtLength held log = pick (ltb held (length log)) (length log) held
 
 unfoldable pub caughtWords : List ℕ → ℕ → List ℕ → List ℕ
-caughtWords words settled log = pick (ltb settled (length log)) (sets words settled (drop settled log)) words
+caughtWords words held log = pick (ltb held (length log)) (sets words held (drop held log)) words
 
--- what the work on an accepted message asks: every sound record with such a message has it
-pub record Ready (words : List ℕ) (settled : ℕ) (ballots : List Ballot) (own : ℕ) (rest : List ℕ) (m : Reading) : Type 0 where
-  pub own-below : own < 8
+-- what the work on an accepted message asks, where its log begins as the own one does
+pub record Aligned (words : List ℕ) (s : State) (theirs : List ℕ) (sender : ℕ) (offers : List Ballot) : Type 0 where
+  pub sender-below : sender < 8
+  pub held-within : s .held ≤ length words
+  pub theirs-within : length theirs ≤ length words
+  pub compared : comparable (take (s .held) words) theirs ≡ true
+  pub tails : map ballotOf (map tailOf (s .ballots)) ≡ s .ballots
+  pub eight : length offers ≡ 8
+  pub offers-tails : map ballotOf (map tailOf offers) ≡ offers
+
+-- and where it begins elsewhere: every sound record with such a message has it
+pub record Ready (words : List ℕ) (s : State) (kept : Kept) (rest : List ℕ) (m : Reading) : Type 0 where
   pub sender-below : m .sender < 8
-  pub settled-within : settled ≤ length words
-  pub theirs-within : m .settled ≤ length words
-  pub records-within : 6 * m .settled ≤ length rest
-  pub compared : comparable (take settled words) (runAt 6 recordAt (m .settled) rest) ≡ true
-  pub held : map ballotOf (map tailOf ballots) ≡ ballots
+  pub held-within : s .held ≤ length words
+  pub theirs-within : m .held ≤ length words
+  pub records-within : 6 * m .held ≤ length rest
+  pub begins-within : m .dropped ≤ kept .dropped + s .held
+  pub ends-past : kept .dropped ≤ m .dropped + m .held
+  pub compared : comparable (caughtUp (packetIn rest m) (foldedIn words s kept) .log) (fromThere (packetIn rest m) (foldedIn words s kept) .state .log) ≡ true
+  pub held : map ballotOf (map tailOf (s .ballots)) ≡ s .ballots
   pub theirs-eight : length (m .ballots) ≡ 8
   pub theirs-held : map ballotOf (map tailOf (m .ballots)) ≡ m .ballots
+  pub room : Roomy kept (m .dropped - kept .dropped)

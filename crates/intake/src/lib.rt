@@ -1,19 +1,29 @@
-// Take's number, and its work on what a record holds, from a message that was read: the two logs compared, the log caught up, the ballots
-// brought past it and offered the message's. Public only for the crate above, which proves what the functions require.
+// Take's number, and its work on what a record holds, from a message that was read: the two logs compared on the part that both still have, what
+// the sender had dropped dropped, the log caught up, the ballots brought past it and offered the message's, and the sender's length noted.
+// Public only for the crate above, which proves what the functions require.
 ghost use mathlib.Core.Path.{_≡_};
-ghost use Prim.Native.Nat.{_*_, _≤_};
+ghost use Prim.Native.Nat.{_-_, _*_, _<_, _≤_};
 ghost use lib.ListN.{length, take};
+ghost use Rattle.protocol.specs.Folding.{note};
 ghost use Rattle.numbers.specs.Numbers.{runAt};
 ghost use Rattle.spelling.specs.Reading.{recordAt};
-ghost use Rattle.intake.specs.Intake.{takenIn, mergedOf, checkedOf, caughtLength, caughtWords, Ready};
 ghost use Rattle.ballots.specs.Ballots.{wordsWith};
+ghost use Rattle.intake.specs.Intake.{takenIn, intakenOf, alignedTake, mergedOf, checkedBy, checkedOf, logsRefusal, caughtLength, caughtWords, Aligned, Ready};
+use ballots::Ballot;
 use elections::State;
+use kept::Kept;
 use reading::Reading;
 
 // The number of a take, and how many places the comparison of the logs needed.
 pub struct Checked {
     pub number: u32,
     pub places: usize,
+}
+
+// What takes change of a record: the state, and what is kept of the dropped entries.
+pub struct Intaken {
+    pub state: State,
+    pub kept: Kept,
 }
 
 // The number of a take that came to no comparison.
@@ -23,18 +33,52 @@ fn refused(number: u32) -> Checked
     Checked { number, places: 0 }
 }
 
+// By how many entries a log that begins behind `dropped` entries begins later than one behind `other`.
+fn later(dropped: u64, other: u64) -> usize
+    ensures { λ r. ⌜ r ≡ dropped - other ⌝ }
+{
+    if dropped <= other {
+        return 0;
+    }
+    (dropped - other) as usize
+}
+
+// The number of a take by the logs alone, compared on the part that both still have: the held one, behind `dropped` entries, and the values of a
+// message's k log records, behind `other` entries.
+fn check_logs(dropped: u64, log: &[u32], held: usize, other: u64, rest: &[u8], k: usize) -> Checked
+    requires { ⌜ (held ≤ length (now log)) × (6 * k ≤ length (now rest)) ⌝ }
+    ensures { λ r. ⌜ r ≡ checkedBy (logsRefusal dropped (take held (now (log .entry))) other (runAt 6 recordAt k (now (rest .entry)))) dropped (take held (now (log .entry))) other (runAt 6 recordAt k (now (rest .entry))) ⌝ }
+{
+    let ahead = later(other, dropped);
+    if ahead > held {
+        return refused(16);
+    }
+    let behind = later(dropped, other);
+    if behind > k {
+        return refused(17);
+    }
+    let from = 6 * behind;
+    let c = comparing::compare(&log[ahead..], held - ahead, &rest[from..], k - behind);
+    let places = c.places;
+    if c.differ {
+        return Checked { number: 10, places };
+    }
+    Checked { number: 0, places }
+}
+
 // The number of a take on a sound record with these fields, in the order of the definition; m is what the message was read as.
 pub fn check(
     n: usize,
     own: usize,
     weights: [u16; 8],
+    dropped: u64,
     log: &[u32],
-    settled: usize,
+    held: usize,
     rest: &[u8],
     m: Reading,
 ) -> Checked
-    requires { ⌜ (settled ≤ length (now log)) × (6 * m .settled ≤ length (now rest)) ⌝ }
-    ensures { λ r. ⌜ r ≡ checkedOf n own weights (now (log .entry)) settled (now (rest .entry)) m ⌝ }
+    requires { ⌜ (held ≤ length (now log)) × (6 * m .held ≤ length (now rest)) ⌝ }
+    ensures { λ r. ⌜ r ≡ checkedOf n own weights dropped (now (log .entry)) held (now (rest .entry)) m ⌝ }
 {
     if !m.ok {
         return refused(7);
@@ -49,52 +93,94 @@ pub fn check(
     if m.sender == own {
         return refused(9);
     }
-    let c = comparing::compare(log, settled, rest, m.settled);
-    let places = c.places;
-    if c.differ {
-        return Checked { number: 10, places };
-    }
-    Checked { number: 0, places }
+    check_logs(dropped, log, held, m.dropped, rest, m.held)
 }
 
-// Where the message's log is the longer, writes the missing entries from the settled length onward; answers the new settled length.
-fn catch_up(log: &mut [u32], settled: usize, rest: &[u8], k: usize) -> usize
-    requires { ⌜ (k ≤ length (now log)) × (6 * k ≤ length (now rest)) ⌝ }
-    ensures { λ r. ⌜ (r ≡ caughtLength settled (runAt 6 recordAt k (now (rest .entry)))) × (now (log .exit) ≡ caughtWords (now (log .entry)) settled (runAt 6 recordAt k (now (rest .entry)))) ⌝ }
+// The longest settled length noted for each office, after a message of this one with this settled length.
+pub fn noted(lengths: [u64; 8], sender: usize, length: u64) -> [u64; 8]
+    requires { ⌜ sender < 8 ⌝ }
+    ensures { λ r. ⌜ r ≡ note sender length lengths ⌝ }
 {
-    if k <= settled {
-        return settled;
+    let mut next = lengths;
+    if lengths[sender] < length {
+        next[sender] = length;
     }
-    reading::extend(log, settled, rest, k);
+    next
+}
+
+// Where the message's log is the longer, writes the missing entries from the held length onward; answers the new held length.
+fn catch_up(log: &mut [u32], held: usize, rest: &[u8], k: usize) -> usize
+    requires { ⌜ (k ≤ length (now log)) × (6 * k ≤ length (now rest)) ⌝ }
+    ensures { λ r. ⌜ (r ≡ caughtLength held (runAt 6 recordAt k (now (rest .entry)))) × (now (log .exit) ≡ caughtWords (now (log .entry)) held (runAt 6 recordAt k (now (rest .entry)))) ⌝ }
+{
+    if k <= held {
+        return held;
+    }
+    reading::extend(log, held, rest, k);
     k
 }
 
-// Takes a message whose log is comparable with the settled one: the log catches up, every ballot is brought past the entries that this
-// settled, and each is offered the message's ballot of its office, the own one the sender's; the summary follows. Later words keep their contents.
-pub fn take_in(log: &mut [u32], state: State, own: usize, rest: &[u8], m: Reading) -> State
-    requires { ⌜ Ready (now log) (state .settled) (state .ballots) own (now rest) m ⌝ }
-    ensures state { λ r. ⌜ r ≡ mergedOf state (takenIn (now (log .entry)) (state .settled) (state .ballots) own (now (rest .entry)) m) ⌝ }
-    ensures words { λ _. ⌜ now (log .exit) ≡ wordsWith (takenIn (now (log .entry)) (state .settled) (state .ballots) own (now (rest .entry)) m .log) (now (log .entry)) ⌝ }
+// Takes a message whose k log records begin where the held log does, and are comparable with it: the log catches up, every ballot is brought past
+// the entries that this settled, and each is offered the message's ballot of its office, the own one the sender's; the summary follows.
+fn take_aligned(
+    log: &mut [u32],
+    state: State,
+    own: usize,
+    sender: usize,
+    offers: [Ballot; 8],
+    rest: &[u8],
+    k: usize,
+) -> State
+    requires { ⌜ Aligned (now log) state (runAt 6 recordAt k (now rest)) sender offers × (6 * k ≤ length (now rest)) ⌝ }
+    ensures state { λ r. ⌜ r ≡ mergedOf state (alignedTake (now (log .entry)) state own (runAt 6 recordAt k (now (rest .entry))) sender offers) ⌝ }
+    ensures words { λ _. ⌜ now (log .exit) ≡ wordsWith (alignedTake (now (log .entry)) state own (runAt 6 recordAt k (now (rest .entry))) sender offers .log) (now (log .entry)) ⌝ }
 {
     let summary = state.summary;
-    let settled = state.settled;
+    let held = state.held;
     let ballots = state.ballots;
-    let theirs = m.settled;
-    let sender = m.sender;
-    let offers = m.ballots;
-    let end = catch_up(log, settled, rest, theirs);
-    let next = merging::merge(
-        ballots,
-        offers,
-        own,
-        sender,
-        &log[settled..end],
-        &log[theirs..end],
-    );
-    let after = summary.after(&log[settled..end]);
+    let end = catch_up(log, held, rest, k);
+    let next = merging::merge(ballots, offers, own, sender, &log[held..end], &log[k..end]);
+    let after = summary.after(&log[held..end]);
     State {
         summary: after,
-        settled: end,
+        held: end,
         ballots: next,
+    }
+}
+
+// Takes a message that was accepted: what its sender had dropped is dropped first, and of its log only the part from where the own one begins is
+// taken. Later words keep their contents.
+pub fn take_in(
+    log: &mut [u32],
+    state: State,
+    kept: Kept,
+    own: usize,
+    rest: &[u8],
+    m: Reading,
+) -> Intaken
+    requires { ⌜ Ready (now log) state kept (now rest) m ⌝ }
+    ensures made { λ r. ⌜ r ≡ intakenOf (now (log .entry)) state kept own (now (rest .entry)) m ⌝ }
+    ensures words { λ _. ⌜ now (log .exit) ≡ wordsWith (takenIn (now (log .entry)) state kept own (now (rest .entry)) m .log) (now (log .entry)) ⌝ }
+{
+    let held = state.held;
+    let offers = m.ballots;
+    let ahead = later(m.dropped, kept.dropped);
+    let behind = later(kept.dropped, m.dropped);
+    let mut aligned = state;
+    aligned.held = held - ahead;
+    let from = 6 * behind;
+    let remains = kept.drop_first(log, held, ahead);
+    let next = take_aligned(
+        log,
+        aligned,
+        own,
+        m.sender,
+        offers,
+        &rest[from..],
+        m.held - behind,
+    );
+    Intaken {
+        state: next,
+        kept: remains,
     }
 }

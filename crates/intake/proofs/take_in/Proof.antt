@@ -1,42 +1,42 @@
--- The log catches up to a length that is past both settled lengths and within the words; what the code makes is the protocol's take by `merged`.
+-- What the drop and the take at one beginning make is the protocol's folded take by `intaken`.
 use borrow.Author.Needs.{needs}
-use native.Mathlib.Omega.{arith}
-use Prim.Native.Nat.{_≤_}
-use lib.ListN.{length}
-use Rattle.intake.proofs.Made.{longer, within, merged}
+use Rattle.intake.proofs.Dropping.{droppable, aligned, intaken}
 use Rattle.intake.proofs.take_in.Statement.{statement}
 use Rattle.intake.proofs.take_in.Tie as tie
 
--- the places of the code: the start, and where the log has caught up
-abbrev start : tie.After-catch-up-arg → tie.Start
-start c = c .before .before .before .before .before .before
+-- the places of the code: the start, and where both numbers are there
+abbrev start : tie.After-later2 → tie.Start
+start c = c .before .before .before .before .before
 
-abbrev caught : tie.After-merge → tie.After-slice-known2
-caught c = c .before .before .before .before
+drop-first-requires : tie.Need-drop-first-requires
+drop-first-requires c κs =
+    let n = c .before in
+    let s = start n in
+    let a = s .args in
+    droppable (a .log .now) (a .state) (a .kept) (a .own) (a .rest .now) (a .m) (s .pre) _ _ (n .before .later .ensures) (n .later2 .ensures)
 
--- the settled length that the log catches up to is past both lengths, and within the words
-past-both : (c : tie.After-slice-known2) → let u = c .before .before in let a = start (u .before) .args in (a .state .settled ≤ u .catch-up .result) × (a .m .settled ≤ u .catch-up .result)
-past-both c =
-    let u = c .before .before in
-    let L = longer _ _ _ _ _ _ (start (u .before) .pre) in
-    (omega (arith, L .past-own, u .catch-up .ensures .0), omega (arith, L .past-theirs, u .catch-up .ensures .0))
+abbrev numbered : tie.After-drop-first → tie.After-later2
+numbered c = c .before .before
 
-inside : (c : tie.After-slice-known2) → let u = c .before .before in u .catch-up .result ≤ length (u .catch-up .last .0)
-inside c =
-    let u = c .before .before in
-    omega (arith, within _ _ _ _ _ _ (start (u .before) .pre), u .catch-up .ensures .0, u .catch-up .kept .0)
+take-aligned-requires : tie.Need-take-aligned-requires
+take-aligned-requires c κs =
+    let d = c .before .before .before .before .before in
+    let n = numbered d in
+    let s = start n in
+    let a = s .args in
+    aligned (a .log .now) (a .state) (a .kept) (a .own) (a .rest .now) (a .m) (s .pre) _ _ (n .before .later .ensures) (n .later2 .ensures) _ (d .drop-first .ensures .1)
 
 returns : tie.Need-returns
 returns c =
-    let w = c .before .before .before in
-    let u = caught w .before .before in
-    merged _ _ _ _ _ _ (start (u .before) .pre) _ _ (u .catch-up .ensures .0) (u .catch-up .ensures .1) _ (w .merge .ensures) _ _ (c .after .ensures)
+    let t = c .before .before in
+    let d = t .before .before .before .before .before .before in
+    let n = numbered d in
+    let s = start n in
+    let a = s .args in
+    intaken (a .log .now) (a .state) (a .kept) (a .own) (a .rest .now) (a .m) (s .pre) _ _ (n .before .later .ensures) (n .later2 .ensures) _ (d .drop-first .ensures .1)
+    _ (d .drop-first .ensures .0) _ _ (t .take-aligned .ensures .0) (t .take-aligned .ensures .1)
 
 pub take-in-spec : {M : Type 1} → statement M
 take-in-spec =
-    tie.close (tie.spec (λ c κs. search needs) (λ c. search needs) (λ c. let p = past-both c in omega arith)
-    (λ c. let p = past-both (c .before) in search needs) (λ c. let p = inside (c .before) in search needs)
-    (λ c. search needs) (λ c. let p = past-both (c .before .before) in omega arith) (λ c. let p = past-both (c .before .before) in search needs)
-    (λ c. let p = inside (c .before .before) in search needs) (λ c κs. search needs)
-    (λ c. search needs) (λ c. let p = past-both (caught c) in omega arith) (λ c. let p = past-both (caught (c .before)) in search needs)
-    (λ c. let p = inside (caught (c .before)) in search needs) (λ c κs. search needs) (λ c. search needs) returns)
+    tie.close (tie.spec (λ c κs. search needs) (λ c κs. search needs) (λ c. search needs) (λ c. search needs) drop-first-requires (λ c. search needs) (λ c. search needs) (λ c. search needs)
+    (λ c. search needs) take-aligned-requires (λ c. search needs) returns)
