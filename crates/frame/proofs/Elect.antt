@@ -8,70 +8,90 @@ use mathlib.Core.Path.{_≡_, refl, sym, ap, ap₂, subst₂, _∙_}
 use mathlib.Core.Bool.{Bool, true, false}
 use mathlib.Core.List.{List, _++_}
 use mathlib.Core.Option.{none}
-use Prim.Native.Nat.{ℕ, _-_, _≤_}
+use Prim.Native.Nat.{ℕ, _+_, _-_, _<_, _≤_}
 use native.Mathlib.Omega.{arith}
 use lib.ListN.{length, length-append}
 use Rattle.lists.specs.Tests.{pick}
-use Rattle.protocol.specs.Office.{Office, votes}
+use Rattle.protocol.specs.Office.{votes}
 use Rattle.protocol.specs.Elect.{electCount}
 use Rattle.protocol.proofs.Vote.{NamesVoted}
-use Rattle.protocol.proofs.Limits as Limits
+use Rattle.protocol.specs.Folding as F
+use Rattle.protocol.specs.Folding.{withFoldedElect}
+use Rattle.protocol.proofs.FoldedLimits.{FoldedFine, folded-elect-fine}
 use Rattle.protocol.proofs.Elect.{elect-log, elect-stops}
 use Rattle.ballots.specs.Ballots.{wordsWith}
+use Rattle.kept.specs.Kept.{ruleBehind}
+use Rattle.kept.specs.declared.Kept.{Kept}
 use Rattle.elections.specs.Elections.{stateOf, electedIn}
 use Rattle.elections.specs.declared.State.{State}
 use Rattle.elections.proofs.Run as Run
-use Rattle.frame.specs.State.{heldBy, stateIn, withState, holding}
+use Rattle.frame.specs.State.{heldLength, heldBy, foldedBy, stateIn, withHeld, withState, keptBy, holdingBehind, holding}
 use Rattle.frame.specs.Soundness.{soundB, Sound}
 use Rattle.frame.specs.Electing.{ruleOf, electedOf, electOf, electWords, winnerOf}
 use Rattle.frame.specs.declared.Record.{Record}
 use Rattle.frame.specs.declared.electing.Elected.{Elected}
 use Rattle.frame.proofs.Sound.{sound}
-use Rattle.frame.proofs.State.{log-length, held-by, held-fine, sound-of}
+use Rattle.frame.proofs.State.{log-length, longest, folded-fine, kept-stays, folded-by, sound-of}
 
 -- the winner has a vote
 rule-voted : (r : Record) → NamesVoted (ruleOf r)
-rule-voted r = Run.rule-voted (r .weights)
+rule-voted r = Run.rule-voted (r .kept)
 
 -- ── the whole answer ──
 pub elect-unsound : (r : Record) (words : List ℕ) → soundB r words ≡ false → (_≡_ {A = Elected} (record { «record» = r; number = 1; count = 0 }) (electOf r words)) × (words ≡ electWords r words)
 unfolding electOf electWords pick
 elect-unsound r words e = (simp e, simp e)
 
--- x is what elections make of the record's state s
-module _ (r : Record) (words : List ℕ) (e : soundB r words ≡ true) (s : State) (q : s ≡ stateIn r) (x : State) (p : x ≡ stateOf (r .weights) (electedIn (r .weights) s words)) where
-  elected : x ≡ stateOf (r .weights) (electedOf r words)
-  elected = p ∙ ap (λ (y : State). stateOf (r .weights) (electedIn (r .weights) y words)) q
+-- it drops nothing
+dropped : (r : Record) (words : List ℕ) → electedOf r words .dropped ≡ r .kept .dropped
+unfolding withFoldedElect
+dropped r words = refl
 
-  -- the settled length has not become less
-  pub elect-longer : r .settled ≤ x .settled
+elected-fine : (r : Record) (words : List ℕ) → Sound r words → FoldedFine (r .n) (r .own) (electedOf r words)
+elected-fine r words S = folded-elect-fine (ruleOf r) (rule-voted r) (r .n) (r .own) (foldedBy r words) (folded-fine r words S)
+
+-- x is what elections make of the record's state s
+module _ (r : Record) (words : List ℕ) (e : soundB r words ≡ true) (s : State) (q : s ≡ stateIn r) (x : State) (p : x ≡ stateOf (r .kept) (electedIn (r .kept) s words)) where
+  elected : x ≡ stateOf (r .kept) (electedOf r words .held)
+  unfolding withFoldedElect
+  elected = p ∙ ap (λ (y : State). stateOf (r .kept) (electedIn (r .kept) y words)) q
+
+  -- the held length has not become less
+  pub elect-longer : heldLength r ≤ x .held
+  unfolding withFoldedElect
   elect-longer =
       let g = elect-log (ruleOf r) (heldBy r words) in
-      omega (arith, ap (λ (y : State). y .settled) elected, ap length (g .1), length-append (heldBy r words .log) (g .0), log-length r words (sound r words e))
+      omega (arith, ap (λ (y : State). y .held) elected, ap length (g .1), length-append (heldBy r words .log) (g .0), log-length r words (sound r words e))
 
-  pub elect-made : (next : Record) → next ≡ withState r x → (last : List ℕ) → last ≡ wordsWith (electedIn (r .weights) s words .log) words
-      → (_≡_ {A = Elected} (record { «record» = next; number = 0; count = x .settled - r .settled }) (electOf r words)) × (last ≡ electWords r words)
-  unfolding electOf electWords pick
-  elect-made next n last w =
-      (rw e (λ i. record { «record» = (n ∙ ap (withState r) elected) i; number = 0; count = count i }), rw e (w ∙ ap (λ (y : State). wordsWith (electedIn (r .weights) y words .log) words) q))
+  -- and fits
+  pub elect-fits : r .kept .dropped + x .held < 18446744073709551616
+  elect-fits =
+      let S = sound r words e in
+      omega (arith, ap (λ (y : State). y .held) elected, elected-fine r words S .held .most, longest r words S, S .within)
+
+  pub elect-made : (next : Record) → next ≡ withState r (r .kept) x → (last : List ℕ) → last ≡ wordsWith (electedIn (r .kept) s words .log) words → (held : ℕ) → held ≡ heldLength r
+      → (_≡_ {A = Elected} (record { «record» = next; number = 0; count = x .held - held }) (electOf r words)) × (last ≡ electWords r words)
+  unfolding electOf electWords withFoldedElect pick
+  elect-made next n last w held h =
+      (rw e (λ i. record { «record» = (n ∙ ap (withState r (r .kept)) elected ∙ kept) i; number = 0; count = count i }), rw e (w ∙ ap (λ (y : State). wordsWith (electedIn (r .kept) y words .log) words) q))
     where
-      count : x .settled - r .settled ≡ electCount (ruleOf r) (heldBy r words)
-      count = ap₂ (λ (a b : ℕ). a - b) (ap (λ (y : State). y .settled) elected) (sym (log-length r words (sound r words e)))
+      kept : holdingBehind r (r .kept) (electedOf r words) ≡ holding r words (electedOf r words)
+      kept = ap (λ (k : Kept). holdingBehind r k (electedOf r words)) (sym (kept-stays r words (sound r words e) (electedOf r words) refl))
+
+      count : x .held - held ≡ electCount (ruleOf r) (heldBy r words)
+      count = ap₂ (λ (a b : ℕ). a - b) (ap (λ (y : State). y .held) elected) (h ∙ sym (log-length r words (sound r words e)))
 
 -- ── what elect leaves ──
 pub elect-zero : (r : Record) (words : List ℕ) → soundB r words ≡ true → electOf r words .number ≡ 0
 unfolding electOf pick
 elect-zero r words e = rw e
 
-elected-fine : (r : Record) (words : List ℕ) → Sound r words → Limits.Fine (r .n) (electedOf r words)
-elected-fine r words S = Limits.elect-fine (ruleOf r) (rule-voted r) (r .n) (heldBy r words) (held-fine r words S)
-
 -- a done elect
 pub record ElectDone (r : Record) (words : List ℕ) : Type 0 where
   pub was : Sound r words
-  pub made : electOf r words .«record» ≡ holding r (electedOf r words)
+  pub made : electOf r words .«record» ≡ holding r words (electedOf r words)
   pub counted : electOf r words .count ≡ electCount (ruleOf r) (heldBy r words)
-  pub written : electWords r words ≡ wordsWith (electedOf r words .log) words
+  pub written : electWords r words ≡ wordsWith (electedOf r words .held .log) words
 
 pub elect-done : (r : Record) (words : List ℕ) → electOf r words .number ≡ 0 → ElectDone r words
 unfolding electOf electWords pick
@@ -85,10 +105,17 @@ pub elect-sound : (r : Record) (words : List ℕ) → electOf r words .number �
 elect-sound r words q =
     let D = elect-done r words q in
     let S = D .was in
-    subst₂ Sound (sym (D .made)) (sym (D .written)) (sound-of r (electedOf r words) words (S .head) (elected-fine r words S) (S .room))
+    subst₂ Sound (sym (D .made)) (sym (D .written))
+    (sound-of r words S (electedOf r words) (omega (arith, dropped r words)) (omega (arith, dropped r words, S .within)) (elected-fine r words S))
 
-pub elect-state : (r : Record) (words : List ℕ) → electOf r words .number ≡ 0 → heldBy (electOf r words .«record») (electWords r words) ≡ electedOf r words
-elect-state r words q = let D = elect-done r words q in ap₂ heldBy (D .made) (D .written) ∙ held-by r (electedOf r words) words
+pub elect-state : (r : Record) (words : List ℕ) → electOf r words .number ≡ 0 → foldedBy (electOf r words .«record») (electWords r words) ≡ electedOf r words
+elect-state r words q =
+    let D = elect-done r words q in
+    let S = D .was in
+    ap₂ foldedBy (D .made) (D .written) ∙ folded-by r words S (electedOf r words) (omega (arith, dropped r words)) (omega (arith, dropped r words, S .within))
+
+pub elect-kept : (r : Record) (words : List ℕ) → electOf r words .number ≡ 0 → electOf r words .«record» .kept ≡ keptBy r words (electedOf r words)
+elect-kept r words q = ap (λ (x : Record). x .kept) (elect-done r words q .made)
 
 pub elect-keeps : (r : Record) (words : List ℕ) → (electOf r words .number ≡ 0 → ⊥) → (electOf r words .«record» ≡ r) × (electWords r words ≡ words)
 elect-keeps r words q = go (soundB r words) refl
@@ -100,13 +127,16 @@ elect-keeps r words q = go (soundB r words) refl
 -- "answers how many entries it settled": the count is the log's growth
 pub elect-grows : (r : Record) (words : List ℕ) → electOf r words .number ≡ 0
     → (s : List ℕ) × (heldBy (electOf r words .«record») (electWords r words) .log ≡ heldBy r words .log ++ s) × (length s ≡ electOf r words .count)
+unfolding withFoldedElect
 elect-grows r words q =
     let D = elect-done r words q in
     let g = elect-log (ruleOf r) (heldBy r words) in
-    (g .0, ap (λ (o : Office). o .log) (elect-state r words q) ∙ g .1, g .2 ∙ sym (D .counted))
+    (g .0, ap (λ (f : F.Folded). f .held .log) (elect-state r words q) ∙ g .1, g .2 ∙ sym (D .counted))
 
 -- "until no entry wins"
 pub elect-ends : (r : Record) (words : List ℕ) → electOf r words .number ≡ 0 → winnerOf (electOf r words .«record») (electWords r words) ≡ none
+unfolding withFoldedElect
 elect-ends r words q =
     let D = elect-done r words q in
-    ap₂ (λ (x : Record) (o : Office). ruleOf x (o .log) (votes o)) (D .made) (elect-state r words q) ∙ elect-stops (ruleOf r) (rule-voted r) (heldBy r words)
+    let k = elect-kept r words q ∙ kept-stays r words (D .was) (electedOf r words) refl in
+    ap₂ (λ (x : Kept) (f : F.Folded). ruleBehind x (f .held .log) (votes (f .held))) k (elect-state r words q) ∙ elect-stops (ruleOf r) (rule-voted r) (heldBy r words)

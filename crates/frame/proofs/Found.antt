@@ -12,41 +12,37 @@ use lib.Dec.{leb}
 use lib.ListN.{length, replicate}
 use borrow.Author.Tests.{leb-true, le-leb, lt-leb}
 use Rattle.lists.specs.Tests.{pick}
-use Rattle.protocol.specs.Office.{fresh}
+use Rattle.protocol.specs.Folding.{unfolded}
+use Rattle.protocol.proofs.FoldedLimits.{unfolded-fine}
 use Rattle.protocol.proofs.Limits as Limits
 use Rattle.protocol.specs.Limits.{headFine, Head}
 use Rattle.ballots.specs.Ballots.{noBallot}
-use Rattle.ballots.specs.declared.Ballot.{Ballot}
 use Rattle.summary.specs.Summary.{startWith}
-use Rattle.summary.specs.declared.Summary.{Summary}
 use Rattle.summary.proofs.Laws.{summary-nil}
+use Rattle.kept.specs.Kept.{keptNothing}
+use Rattle.kept.proofs.Laws.{nothing-fine}
 use Rattle.soundness.specs.Soundness.{longEnough}
-use Rattle.frame.specs.State.{heldBy, withHeld, holding, freshRecord, zeroRecord}
+use Rattle.frame.specs.State.{foldedBy, withHeld, holdingBehind, freshRecord, zeroRecord}
 use Rattle.frame.specs.Soundness.{Sound}
 use Rattle.frame.specs.Founding.{foundNumber, foundOf}
 use Rattle.frame.specs.declared.Record.{Record}
 use Rattle.frame.specs.declared.founding.Founded.{Founded}
-use Rattle.frame.proofs.State.{held-by, sound-of}
+use Rattle.frame.proofs.State.{held-behind, sound-behind}
+use Rattle.frame.proofs.Ineffective.{weights-fine}
 
 -- ── each way out of the call ──
--- with what the code makes of no ballot and of a start
-module _ (n own : ℕ) (ws words : List ℕ) (b : Ballot) (p : b ≡ noBallot) where
-  zero-held : (s : Summary) → s ≡ startWith (replicate 8 0) → withHeld zeroRecord s 0 (replicate 8 b) ≡ zeroRecord
-  zero-held s q = λ i. withHeld zeroRecord (q i) 0 (replicate 8 (p i))
-
-  pub found-short : (s : Summary) → s ≡ startWith (replicate 8 0) → length words < 1024 → _≡_ {A = Founded} (record { number = 1; «record» = withHeld zeroRecord s 0 (replicate 8 b) }) (foundOf n own ws words)
+module _ (n own : ℕ) (ws words : List ℕ) where
+  pub found-short : (x : Founded) → x ≡ record { number = 1; «record» = zeroRecord } → length words < 1024 → x ≡ foundOf n own ws words
   unfolding foundOf foundNumber longEnough pick
-  found-short s q h = rw (lt-leb 1024 (length words) h) (λ i. record { number = 1; «record» = zero-held s q i })
+  found-short x e h = e ∙ rw (lt-leb 1024 (length words) h)
 
-  pub found-unfit : (s : Summary) → s ≡ startWith (replicate 8 0) → 1024 ≤ length words → headFine n own ws ≡ false
-      → _≡_ {A = Founded} (record { number = 2; «record» = withHeld zeroRecord s 0 (replicate 8 b) }) (foundOf n own ws words)
+  pub found-unfit : (x : Founded) → x ≡ record { number = 2; «record» = zeroRecord } → 1024 ≤ length words → headFine n own ws ≡ false → x ≡ foundOf n own ws words
   unfolding foundOf foundNumber longEnough pick
-  found-unfit s q h e = rw (le-leb 1024 (length words) h, e) (λ i. record { number = 2; «record» = zero-held s q i })
+  found-unfit x e h f = e ∙ rw (le-leb 1024 (length words) h, f)
 
-  pub found-made : (s : Summary) → s ≡ startWith ws → 1024 ≤ length words → headFine n own ws ≡ true
-      → _≡_ {A = Founded} (record { number = 0; «record» = withHeld (freshRecord n own ws) s 0 (replicate 8 b) }) (foundOf n own ws words)
+  pub found-made : (r : Record) → r ≡ freshRecord n own ws → 1024 ≤ length words → headFine n own ws ≡ true → _≡_ {A = Founded} (record { number = 0; «record» = r }) (foundOf n own ws words)
   unfolding foundOf foundNumber longEnough pick
-  found-made s q h e = rw (le-leb 1024 (length words) h, e) (λ i. record { number = 0; «record» = withHeld (freshRecord n own ws) (q i) 0 (replicate 8 (p i)) })
+  found-made r e h f = rw (le-leb 1024 (length words) h, f) (λ i. record { number = 0; «record» = e i })
 
 -- ── what it leaves ──
 -- what a done founding found, and the record that it made
@@ -65,18 +61,22 @@ found-done n own ws words q = go (leb 1024 (length words)) refl (headFine n own 
     go false e b f z = absurd (omega arith)
 
 module _ (n own : ℕ) (ws words : List ℕ) (q : foundOf n own ws words .number ≡ 0) where
-  -- the fresh record holds the fresh state
-  fresh-held : freshRecord n own ws ≡ holding (freshRecord n own ws) fresh
-  fresh-held = λ i. withHeld (freshRecord n own ws) (sym (summary-nil (startWith ws)) i) 0 (replicate 8 noBallot)
+  -- the fresh record holds an office that has dropped nothing, behind nothing kept
+  fresh-held : freshRecord n own ws ≡ holdingBehind (freshRecord n own ws) (keptNothing ws) unfolded
+  fresh-held = λ i. withHeld (freshRecord n own ws) (keptNothing ws) (replicate 8 0) (sym (summary-nil (startWith ws)) i) 0 (replicate 8 noBallot)
 
   pub found-sound : Sound (foundOf n own ws words .«record») words
   found-sound =
       let D = found-done n own ws words q in
-      subst (λ (r : Record). Sound r words) (sym (D .made ∙ fresh-held)) (sound-of (freshRecord n own ws) fresh words (D .head) (Limits.fresh-fine n) (D .room))
+      subst (λ (r : Record). Sound r words) (sym (D .made ∙ fresh-held))
+      (sound-behind (freshRecord n own ws) (keptNothing ws) unfolded words (D .head) (nothing-fine n ws (weights-fine n own ws (D .head))) refl (unfolded-fine n own) (D .room))
 
   -- "a fresh record has an empty log and no ballots"
-  pub found-fresh : heldBy (foundOf n own ws words .«record») words ≡ fresh
-  found-fresh = let D = found-done n own ws words q in ap (λ (r : Record). heldBy r words) (D .made ∙ fresh-held) ∙ held-by (freshRecord n own ws) fresh words
+  pub found-fresh : foldedBy (foundOf n own ws words .«record») words ≡ unfolded
+  found-fresh = let D = found-done n own ws words q in ap (λ (r : Record). foldedBy r words) (D .made ∙ fresh-held) ∙ held-behind (freshRecord n own ws) (keptNothing ws) unfolded refl words
+
+  pub found-kept : foundOf n own ws words .«record» .kept ≡ keptNothing ws
+  found-kept = ap (λ (r : Record). r .kept) (found-done n own ws words q .made)
 
 pub found-zero : (n own : ℕ) (ws words : List ℕ) → (foundOf n own ws words .number ≡ 0 → ⊥) → foundOf n own ws words .«record» ≡ zeroRecord
 unfolding foundOf foundNumber pick

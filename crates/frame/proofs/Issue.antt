@@ -16,20 +16,25 @@ use borrow.Author.Tests.{eq-eqb, ne-eqb}
 use Rattle.protocol.specs.Entry.{value}
 use Rattle.protocol.specs.Office.{tail}
 use Rattle.protocol.specs.Counts.{countIn}
-use Rattle.protocol.specs.Issue.{withIssue, refusalAt, refuseIssue}
+use Rattle.protocol.specs.Issue.{withIssue, refusalAt}
+use Rattle.protocol.specs.Folding as F
+use Rattle.protocol.specs.Folding.{withFoldedIssue, refuseFoldedIssue}
 use Rattle.lists.proofs.Tests.{pick-true, pick-false, map-set}
-use Rattle.protocol.proofs.Limits as Limits
+use Rattle.protocol.proofs.Issue as Issue
+use Rattle.protocol.proofs.FoldedLimits.{folded-issue-fine}
 use Rattle.protocol.proofs.Moves.{Proper, proper-true}
 use Rattle.ballots.specs.Ballots.{tailOf, ballotOf, offEnd, pushed, wordsWith}
 use Rattle.ballots.specs.declared.Ballot.{Ballot}
+use Rattle.summary.specs.Summary.{summaryAfter}
+use Rattle.kept.specs.declared.Kept.{Kept}
 use Rattle.ballots.proofs.Laws as B
-use Rattle.frame.specs.State.{heldBy, withHeld, ownBallot, withOwn}
+use Rattle.frame.specs.State.{heldLength, heldBy, foldedBy, withHeld, ownBallot, withOwn, keptBy}
 use Rattle.frame.specs.Soundness.{soundB, Sound}
 use Rattle.frame.specs.Issuing.{issueNumber, issuedRecord, issueOf}
 use Rattle.frame.specs.declared.Record.{Record}
 use Rattle.frame.specs.declared.issuing.Issued.{Issued}
 use Rattle.frame.proofs.Sound.{sound, sound-true}
-use Rattle.frame.proofs.State.{log-length, held-by, words-kept, ballot, tail-at, tail-length, held-fine, sound-of}
+use Rattle.frame.proofs.State.{log-length, whole-length, words-kept, ballot, tail-at, tail-length, folded-fine, kept-stays, folded-by, sound-of}
 
 -- ── the number, with the record's fields ──
 pub number-unsound : (r : Record) (words : List ℕ) (line code : ℕ) → soundB r words ≡ false → 1 ≡ issueNumber r words line code
@@ -37,7 +42,7 @@ unfolding issueNumber
 number-unsound r words line code e = sym (pick-false (soundB r words) _ 1 e)
 
 module _ (r : Record) (words : List ℕ) (S : Sound r words) (line code : ℕ) where
-  pub number-sound : (k : ℕ) → k ≡ refuseIssue (r .n) (r .own) line code (heldBy r words) → k ≡ issueNumber r words line code
+  pub number-sound : (k : ℕ) → k ≡ refuseFoldedIssue (r .n) (r .own) line code (foldedBy r words) → k ≡ issueNumber r words line code
   unfolding issueNumber
   number-sound k q = q ∙ sym (pick-true (soundB r words) _ 1 (sound-true r words S))
 
@@ -52,39 +57,46 @@ module _ (r : Record) (words : List ℕ) (S : Sound r words) (line code : ℕ) w
 
   -- an entry more in the own ballot is an entry more in the own tail
   pub issue-held : (b : Ballot) → b ≡ pushed (getD (r .ballots) (r .own) offEnd) entry → len < 32
-      → withHeld r (r .summary) (r .settled) (set (r .ballots) (r .own) b) ≡ issuedRecord r words line code
-  unfolding withIssue
-  issue-held b q h = λ i. withHeld r (S .done i) (sym (log-length r words S) i) (sym ballots i)
+      → withHeld r (r .kept) (r .noted) (r .summary) (r .settled) (set (r .ballots) (r .own) b) ≡ issuedRecord r words line code
+  unfolding withIssue withFoldedIssue
+  issue-held b q h =
+      let k = sym (kept-stays r words S (withFoldedIssue (r .own) entry (foldedBy r words)) refl) in
+      λ i. withHeld r (k i) (r .noted) ((S .done ∙ ap (λ (x : Kept). summaryAfter (x .summary) (heldBy r words .log)) k) i) (sym (whole-length r words S) i) (sym ballots i)
     where
       grown : ballotOf (tail (heldBy r words) (r .own) ++ entry ∷ []) ≡ b
       grown =
           ap (λ (t : List ℕ). ballotOf (t ++ entry ∷ [])) (tail-at r words (r .own)) ∙
-          sym (q ∙ B.push-held (r .n) (r .settled) (getD (r .ballots) (r .own) offEnd) (ballot r words S (r .own) (omega arith)) entry h)
+          sym (q ∙ B.push-held (r .n) (heldLength r) (getD (r .ballots) (r .own) offEnd) (ballot r words S (r .own) (omega arith)) entry h)
 
       ballots : map ballotOf (set (map tailOf (r .ballots)) (r .own) (tail (heldBy r words) (r .own) ++ entry ∷ [])) ≡ set (r .ballots) (r .own) b
       ballots =
           map-set ballotOf (map tailOf (r .ballots)) (r .own) (tail (heldBy r words) (r .own) ++ entry ∷ []) ∙
-          ap₂ (λ (l : List Ballot) (x : Ballot). set l (r .own) x) (B.held-all (r .n) (r .settled) (r .ballots) (S .fine)) grown
+          ap₂ (λ (l : List Ballot) (x : Ballot). set l (r .own) x) (B.held-all (r .n) (heldLength r) (r .ballots) (S .fine)) grown
 
   -- each way out, by the own ballot's length
   tail-is : length (tail (heldBy r words) (r .own)) ≡ len
   tail-is = tail-length r words S (r .own) (omega arith)
 
   -- the number by the record's own length and ballot
-  pub number-at : (b : Ballot) → b ≡ ownBallot r → (k : ℕ) → k ≡ refusalAt (r .n) line code (r .settled) (b .len) (countIn (r .own) (tailOf b)) → k ≡ issueNumber r words line code
-  unfolding refuseIssue
-  number-at b p k q =
-      number-sound k (q ∙ ap (λ (x : Ballot). refusalAt (r .n) line code (r .settled) (x .len) (countIn (r .own) (tailOf x))) p
-      ∙ λ i. refusalAt (r .n) line code (sym (log-length r words S) i) (sym tail-is i) (countIn (r .own) (sym (tail-at r words (r .own)) i)))
+  pub number-at : (b : Ballot) → b ≡ ownBallot r → (held : ℕ) → held ≡ heldLength r → (k : ℕ) → k ≡ refusalAt (r .n) line code (r .settled) held (b .len) (countIn (r .own) (tailOf b))
+      → k ≡ issueNumber r words line code
+  unfolding refuseFoldedIssue
+  number-at b p held h k q =
+      number-sound k (q ∙ ap (λ (x : ℕ). refusalAt (r .n) line code (r .settled) x (b .len) (countIn (r .own) (tailOf b))) h ∙ ap (λ (x : Ballot). refusalAt (r .n) line code (r .settled) (heldLength r) (x .len) (countIn (r .own) (tailOf x))) p
+      ∙ λ i. refusalAt (r .n) line code (sym (whole-length r words S) i) (sym (log-length r words S) i) (sym tail-is i) (countIn (r .own) (sym (tail-at r words (r .own)) i)))
 
-issued-words : (r : Record) (words : List ℕ) (S : Sound r words) (line code : ℕ) → wordsWith (withIssue (r .own) (value (r .own) line code) (heldBy r words) .log) words ≡ words
-unfolding withIssue
+-- the office with the entry issued
+abbrev pub issuedOffice : Record → List ℕ → ℕ → ℕ → F.Folded
+issuedOffice r words line code = withFoldedIssue (r .own) (value (r .own) line code) (foldedBy r words)
+
+issued-words : (r : Record) (words : List ℕ) (S : Sound r words) (line code : ℕ) → wordsWith (issuedOffice r words line code .held .log) words ≡ words
+unfolding withIssue withFoldedIssue
 issued-words r words S line code = words-kept r words S
 
 -- a done issue: what it found, and the record that it made
 pub record IssueMade (r : Record) (words : List ℕ) (line code : ℕ) : Type 0 where
   pub was : Sound r words
-  pub allowed : refuseIssue (r .n) (r .own) line code (heldBy r words) ≡ 0
+  pub allowed : refuseFoldedIssue (r .n) (r .own) line code (foldedBy r words) ≡ 0
   pub made : issueOf r words line code .«record» ≡ issuedRecord r words line code
 
 pub issue-made : (r : Record) (words : List ℕ) (line code : ℕ) → issueOf r words line code .number ≡ 0 → IssueMade r words line code
@@ -92,29 +104,40 @@ unfolding issueOf issueNumber
 issue-made r words line code q = go (soundB r words) refl
   where
     go : (b : Bool) → soundB r words ≡ b → IssueMade r words line code
-    go false e = absurd (omega (arith, q, pick-false (soundB r words) (refuseIssue (r .n) (r .own) line code (heldBy r words)) 1 e))
+    go false e = absurd (omega (arith, q, pick-false (soundB r words) (refuseFoldedIssue (r .n) (r .own) line code (foldedBy r words)) 1 e))
     go true e = record {
       was = sound r words e;
-      allowed = sym (pick-true (soundB r words) (refuseIssue (r .n) (r .own) line code (heldBy r words)) 1 e) ∙ q;
+      allowed = sym (pick-true (soundB r words) (refuseFoldedIssue (r .n) (r .own) line code (foldedBy r words)) 1 e) ∙ q;
       made = pick-true (eqb (issueNumber r words line code) 0) (issuedRecord r words line code) r (eq-eqb (issueNumber r words line code) 0 q);
     }
 
 module _ (r : Record) (words : List ℕ) (line code : ℕ) (q : issueOf r words line code .number ≡ 0) where
+  abbrev office : F.Folded
+  office = issuedOffice r words line code
+
+  -- it drops nothing
+  dropped : office .dropped ≡ r .kept .dropped
+  unfolding withFoldedIssue
+  dropped = refl
+
   -- it leaves a sound record with the same words
   pub issue-sound : Sound (issueOf r words line code .«record») words
   issue-sound =
       let D = issue-made r words line code q in
       let S = D .was in
       let H = S .head in
-      let F = Limits.issue-done-fine (r .n) (r .own) line code (heldBy r words) (held-fine r words S) (H .member) (H .most) (D .allowed) in
-      subst₂ Sound (sym (D .made)) (issued-words r words S line code) (sound-of r (withIssue (r .own) (value (r .own) line code) (heldBy r words)) words H F (S .room))
+      let F = folded-issue-fine (r .n) (r .own) line code (foldedBy r words) (folded-fine r words S) (H .member) (H .most) (D .allowed) in
+      subst₂ Sound (sym (D .made)) (issued-words r words S line code) (sound-of r words S office (omega (arith, dropped)) (omega (arith, dropped, S .within)) F)
 
-  -- and the state with the entry issued
-  pub issue-state : heldBy (issueOf r words line code .«record») words ≡ withIssue (r .own) (value (r .own) line code) (heldBy r words)
+  -- and the office with the entry issued, and what is kept
+  pub issue-state : foldedBy (issueOf r words line code .«record») words ≡ office
   issue-state =
       let D = issue-made r words line code q in
-      let o = withIssue (r .own) (value (r .own) line code) (heldBy r words) in
-      ap₂ heldBy (D .made) (sym (issued-words r words (D .was) line code)) ∙ held-by r o words
+      let S = D .was in
+      ap₂ foldedBy (D .made) (sym (issued-words r words S line code)) ∙ folded-by r words S office (omega (arith, dropped)) (omega (arith, dropped, S .within))
+
+  pub issue-kept : issueOf r words line code .«record» .kept ≡ keptBy r words office
+  issue-kept = ap (λ (x : Record). x .kept) (issue-made r words line code q .made)
 
 -- a refused issue leaves the record
 pub issue-keeps : (r : Record) (words : List ℕ) (line code : ℕ) → (issueOf r words line code .number ≡ 0 → ⊥) → issueOf r words line code .«record» ≡ r
@@ -140,9 +163,9 @@ allowed r words line code q =
     let D = issue-made r words line code q in
     let S = D .was in
     let H = S .head in
-    let d = Limits.issue-done (r .n) (r .own) line code (heldBy r words) (D .allowed) in
+    let d = Issue.issue-done (r .n) (r .own) line code (foldedBy r words) (D .allowed) in
     let F = ballot r words S (r .own) (omega arith) in
-    let short : getD (r .ballots) (r .own) offEnd .len ≡ 32 → ⊥ = λ e. omega (arith, d .below, Limits.never-4 (r .n) (r .own) (heldBy r words) (held-fine r words S) (H .member) (tail-is r words S line code ∙ e)) in
+    let short : getD (r .ballots) (r .own) offEnd .len ≡ 32 → ⊥ = λ e. omega (arith, d .below, Issue.never-4 (r .n) (r .own) (heldBy r words) (folded-fine r words S .held) (H .member) (tail-is r words S line code ∙ e)) in
     record {
       was = S;
       place = omega arith;

@@ -1,7 +1,9 @@
 -- Laws that belong to no one function.
 pub mod Accept
 pub mod Elect
+pub mod Fold
 pub mod Found
+pub mod Ineffective
 pub mod Issue
 pub mod Promise
 pub mod Send
@@ -9,3 +11,4 @@ pub mod Shown
 pub mod Sound
 pub mod State
 pub mod Take
+pub mod Work

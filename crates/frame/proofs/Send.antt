@@ -1,14 +1,14 @@
 -- Send: each way out of the call, and what a done one wrote.
 --     send-unsound                            refused with 1
 --     writable, send-short, send-done         refused with 6 or done, by what was written
---     content-valid, content-message          what the message of a sound record says is valid, and is the own office's state
+--     content-valid, content-packet           what the message of a sound record says is valid, and is the own office's state
 --     send-wrote, send-read                   the bytes of a done send are the message, and it is read back
 -- Assumes nothing.
-use mathlib.Core.Path.{_≡_, refl, sym, ap, _∙_}
+use mathlib.Core.Path.{_≡_, refl, sym, ap, subst, _∙_}
 use mathlib.Core.Bool.{Bool, true, false}
 use mathlib.Core.List.{List}
 use mathlib.Core.Option.{some}
-use Prim.Native.Nat.{ℕ, _<_}
+use Prim.Native.Nat.{ℕ, _+_, _<_, _≤_}
 use native.Mathlib.Omega.{arith}
 use lib.Dec.{ltb}
 use lib.ListN.{length, take, drop}
@@ -17,21 +17,23 @@ use Rattle.lists.specs.Tests.{pick}
 use Rattle.lists.proofs.Tests.{all-mono}
 use Rattle.ballots.specs.Ballots.{ballotFine, ballotShape}
 use Rattle.ballots.proofs.Eight.{shape-of}
-use Rattle.protocol.proofs.Limits.{fine-of}
-use Rattle.spelling.specs.Content.{asMessage, validContent}
+use Rattle.protocol.specs.Folding.{packet}
+use Rattle.protocol.proofs.FoldedLimits.{folded-test}
+use Rattle.spelling.specs.Content.{asPacket, validContent}
 use Rattle.spelling.specs.Reading.{reading}
 use Rattle.spelling.specs.Spelling.{headBytes, spelling}
 use Rattle.spelling.proofs.Laws.{reading-spelling}
+use Rattle.writer.specs.Written as written
 use Rattle.writer.specs.Written.{Writable, writtenBytes, writtenLength}
 use Rattle.writer.proofs.Whole.{answer-fits, answer-short}
 use Rattle.writer.proofs.Contents as contents
-use Rattle.frame.specs.State.{heldBy}
+use Rattle.frame.specs.State.{heldLength, foldedBy}
 use Rattle.frame.specs.Soundness.{soundB, Sound}
 use Rattle.frame.specs.Sending.{contentOf, messageOf, sendNumber, sendOf, sendBytes}
 use Rattle.frame.specs.declared.Record.{Record}
 use Rattle.frame.specs.declared.sending.Sent.{Sent}
 use Rattle.frame.proofs.Sound.{sound, sound-true}
-use Rattle.frame.proofs.State.{held-fine}
+use Rattle.frame.proofs.State.{within-limit, folded-fine}
 
 -- what an answer and the output after it are to be
 abbrev pub Sends : Record → List ℕ → List ℕ → Sent → List ℕ → Type 0
@@ -41,6 +43,10 @@ pub send-unsound : (r : Record) (words out : List ℕ) → soundB r words ≡ fa
 unfolding sendOf sendBytes sendNumber pick
 send-unsound r words out e = (simp e, simp e)
 
+-- the message with this held length
+abbrev messageWith : Record → List ℕ → ℕ → List ℕ
+messageWith r words held = written.messageOf (r .own) (r .n) (r .weights) (r .kept .dropped) words held (r .ballots)
+
 -- a message has its head's bytes at least
 message-some : (r : Record) (words : List ℕ) → 0 < length (messageOf r words)
 unfolding spelling headBytes
@@ -48,28 +54,40 @@ message-some r words = omega arith
 
 module _ (r : Record) (words : List ℕ) (S : Sound r words) where
   -- what the writer requires
-  pub writable : Writable (r .own) (r .n) words (r .settled) (r .ballots)
+  writable : Writable (r .own) (r .n) (r .kept .dropped) words (heldLength r) (r .ballots)
   writable = record {
     few-offices = S .head .most;
     sender-below = S .head .member;
-    settled-few = S .most;
-    log-long = omega arith;
-    shapes = all-mono (ballotFine (r .n) (r .settled)) ballotShape (shape-of (r .n) (r .settled)) (r .ballots) (S .fine);
+    held-few = S .most;
+    settled-few = omega (arith, within-limit r words S, S .within);
+    log-long = omega (arith, S .most, S .room);
+    shapes = all-mono (ballotFine (r .n) (heldLength r)) ballotShape (shape-of (r .n) (heldLength r)) (r .ballots) (S .fine);
   }
+
+  -- with the held length as the code has it
+  pub writable-with : (held : ℕ) → held ≡ heldLength r → Writable (r .own) (r .n) (r .kept .dropped) words held (r .ballots)
+  writable-with held h = subst (λ (x : ℕ). Writable (r .own) (r .n) (r .kept .dropped) words x (r .ballots)) (sym h) writable
 
   pub content-valid : validContent (contentOf r words) ≡ true
   content-valid =
-      contents.content-valid (r .own) (r .n) (r .weights) words (r .settled) (r .ballots) (S .head .most)
-      (fine-of (r .n) (heldBy r words) (held-fine r words S)) (S .head .member) (S .head .eight) (S .head .weights)
+      contents.content-valid (r .own) (r .n) (r .weights) (r .kept .dropped) words (heldLength r) (r .ballots) (S .head .most)
+      (folded-test (r .n) (r .own) (foldedBy r words) (folded-fine r words S)) (S .head .member) (S .head .eight) (S .head .weights)
 
-  -- the message that is sent is the own office's state
-  pub content-message : asMessage (contentOf r words) ≡ record { sender = r .own; state = heldBy r words }
-  content-message =
-      contents.content-message (r .own) (r .n) (r .weights) words (r .settled) (r .ballots) (S .head .most)
-      (fine-of (r .n) (heldBy r words) (held-fine r words S))
+  -- the message that is sent is the own office's state, with its dropped count
+  pub content-packet : asPacket (contentOf r words) ≡ packet (r .own) (foldedBy r words)
+  content-packet =
+      contents.content-packet (r .own) (r .n) (r .weights) (r .kept .dropped) words (heldLength r) (r .ballots) (S .head .most)
+      (folded-test (r .n) (r .own) (foldedBy r words) (folded-fine r words S))
 
   -- the writer's answer k, and the output after it
-  module _ (out : List ℕ) {k : ℕ} {out' : List ℕ} (answer : k ≡ writtenLength (messageOf r words) out) (after : out' ≡ writtenBytes (messageOf r words) out) where
+  module _ (held : ℕ) (h : held ≡ heldLength r) (out : List ℕ) {k : ℕ} {out' : List ℕ} (told : k ≡ writtenLength (messageWith r words held) out)
+      (left : out' ≡ writtenBytes (messageWith r words held) out) where
+    answer : k ≡ writtenLength (messageOf r words) out
+    answer = told ∙ ap (λ (x : ℕ). writtenLength (messageWith r words x) out) h
+
+    after : out' ≡ writtenBytes (messageOf r words) out
+    after = left ∙ ap (λ (x : ℕ). writtenBytes (messageWith r words x) out) h
+
     pub send-short : k ≡ 0 → Sends r words out (record { number = 6; length = 0 }) out'
     unfolding sendOf sendBytes sendNumber writtenBytes pick
     send-short h =

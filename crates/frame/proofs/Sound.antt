@@ -10,8 +10,8 @@ use Rattle.frame.specs.declared.Record.{Record}
 module _ (r : Record) (words : List ℕ) where
   pub sound : soundB r words ≡ true → Sound r words
   unfolding soundB
-  sound e = facts.sound-facts (r .n) (r .own) (r .weights) (r .summary) (r .settled) (r .ballots) words e
+  sound e = facts.sound-facts (r .n) (r .own) (r .weights) (r .kept) (r .noted) (r .summary) (r .settled) (r .ballots) words e
 
   pub sound-true : Sound r words → soundB r words ≡ true
   unfolding soundB
-  sound-true S = facts.sound-true (r .n) (r .own) (r .weights) (r .summary) (r .settled) (r .ballots) words S
+  sound-true S = facts.sound-true (r .n) (r .own) (r .weights) (r .kept) (r .noted) (r .summary) (r .settled) (r .ballots) words S

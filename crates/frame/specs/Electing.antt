@@ -4,33 +4,34 @@ use mathlib.Core.List.{List}
 use mathlib.Core.Option.{Option}
 use Rattle.lists.specs.Tests.{pick}
 use Rattle.protocol.specs.Vote.{Rule}
-use Rattle.protocol.specs.SettledRule.{bySettled}
-use Rattle.protocol.specs.Office.{Office, votes}
-use Rattle.protocol.specs.Elect.{withElect, electCount}
-use Rattle.frame.specs.State.{heldBy, holding}
+use Rattle.protocol.specs.Office.{votes}
+use Rattle.protocol.specs.Elect.{electCount}
+use Rattle.protocol.specs.Folding as F
+use Rattle.kept.specs.Kept.{ruleBehind}
+use Rattle.frame.specs.State.{heldBy, foldedBy, holding}
 use Rattle.ballots.specs.Ballots.{wordsWith}
 use Rattle.frame.specs.Soundness.{soundB}
 use Rattle.frame.specs.declared.Record.{Record}
 use Rattle.frame.specs.declared.electing.Elected.{Elected}
 
--- the rule of the record's frame, by its founding weights
+-- the rule for the held part of the record's log, by the weights and counts that are kept of the dropped part
 abbrev pub ruleOf : Record → Rule
-ruleOf r = bySettled (r .weights)
+ruleOf r = ruleBehind (r .kept)
 
--- the office's state after elect
-abbrev pub electedOf : Record → List ℕ → Office
-electedOf r words = withElect (ruleOf r) (heldBy r words)
+-- the office after elect
+abbrev pub electedOf : Record → List ℕ → F.Folded
+electedOf r words = F.withFoldedElect (ruleOf r) (foldedBy r words)
 
 -- 1: "record unsound, or log below 1024 words", with "count .. 0" and the record as it was
 unfoldable pub electOf : Record → List ℕ → Elected
 electOf r words =
     pick (soundB r words)
-    (record { «record» = holding r (electedOf r words); number = 0; count = electCount (ruleOf r) (heldBy r words) })
+    (record { «record» = holding r words (electedOf r words); number = 0; count = electCount (ruleOf r) (heldBy r words) })
     (record { «record» = r; number = 1; count = 0 })
 
 -- the log's words after elect
 unfoldable pub electWords : Record → List ℕ → List ℕ
-electWords r words = pick (soundB r words) (wordsWith (electedOf r words .log) words) words
+electWords r words = pick (soundB r words) (wordsWith (electedOf r words .held .log) words) words
 
 -- the entry that wins, if any
 abbrev pub winnerOf : Record → List ℕ → Option ℕ

@@ -4,19 +4,19 @@ use mathlib.Core.List.{List}
 use lib.Dec.{eqb}
 use Rattle.lists.specs.Tests.{pick}
 use Rattle.protocol.specs.Entry.{value}
-use Rattle.protocol.specs.Issue.{withIssue, refuseIssue}
-use Rattle.frame.specs.State.{heldBy, holding}
+use Rattle.protocol.specs.Folding.{withFoldedIssue, refuseFoldedIssue}
+use Rattle.frame.specs.State.{foldedBy, holding}
 use Rattle.frame.specs.Soundness.{soundB}
 use Rattle.frame.specs.declared.Record.{Record}
 use Rattle.frame.specs.declared.issuing.Issued.{Issued}
 
 -- 1: "record unsound, or log below 1024 words"; 3, 5 and 11 are the protocol's
 unfoldable pub issueNumber : Record → List ℕ → ℕ → ℕ → ℕ
-issueNumber r words line code = pick (soundB r words) (refuseIssue (r .n) (r .own) line code (heldBy r words)) 1
+issueNumber r words line code = pick (soundB r words) (refuseFoldedIssue (r .n) (r .own) line code (foldedBy r words)) 1
 
 -- the record with the entry issued
 abbrev pub issuedRecord : Record → List ℕ → ℕ → ℕ → Record
-issuedRecord r words line code = holding r (withIssue (r .own) (value (r .own) line code) (heldBy r words))
+issuedRecord r words line code = holding r words (withFoldedIssue (r .own) (value (r .own) line code) (foldedBy r words))
 
 unfoldable pub issueOf : Record → List ℕ → ℕ → ℕ → Issued
 issueOf r words line code = record {

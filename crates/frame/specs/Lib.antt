@@ -8,3 +8,4 @@ pub mod Settling
 pub mod Frames
 pub mod Electing
 pub mod Taking
+pub mod Folding

@@ -7,13 +7,14 @@ use Rattle.lists.specs.Tests.{pick}
 use Rattle.spelling.specs.Content.{Content}
 use Rattle.spelling.specs.Spelling.{spelling}
 use Rattle.writer.specs.Written as written
+use Rattle.frame.specs.State.{heldLength}
 use Rattle.frame.specs.Soundness.{soundB}
 use Rattle.frame.specs.declared.Record.{Record}
 use Rattle.frame.specs.declared.sending.Sent.{Sent}
 
--- what the record's message says: the own office as sender, n, n weights, the settled log, the tails of the n offices
+-- what the record's message says: the own office as sender, n, n weights, the dropped count, the undropped log, the tails of the n offices
 abbrev pub contentOf : Record → List ℕ → Content
-contentOf r words = written.contentOf (r .own) (r .n) (r .weights) words (r .settled) (r .ballots)
+contentOf r words = written.contentOf (r .own) (r .n) (r .weights) (r .kept .dropped) words (heldLength r) (r .ballots)
 
 -- the message's bytes
 abbrev pub messageOf : Record → List ℕ → List ℕ

@@ -1,4 +1,4 @@
--- "Settled hands back the settled part of the lent log." Assumes nothing.
+-- "Settled hands back the settled part of the lent log", since (xiv) "the undropped part". Assumes nothing.
 use Prim.Native.Nat.{ℕ}
 use mathlib.Core.List.{List, []}
 use Rattle.lists.specs.Tests.{pick}

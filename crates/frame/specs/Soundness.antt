@@ -6,8 +6,8 @@ use Rattle.soundness.specs.Soundness.{soundFields, SoundFields}
 use Rattle.frame.specs.declared.Record.{Record}
 
 unfoldable pub soundB : Record → List ℕ → Bool
-soundB r words = soundFields (r .n) (r .own) (r .weights) (r .summary) (r .settled) (r .ballots) words
+soundB r words = soundFields (r .n) (r .own) (r .weights) (r .kept) (r .noted) (r .summary) (r .settled) (r .ballots) words
 
 -- the same as facts by name
 abbrev pub Sound : Record → List ℕ → Type 0
-Sound r words = SoundFields (r .n) (r .own) (r .weights) (r .summary) (r .settled) (r .ballots) words
+Sound r words = SoundFields (r .n) (r .own) (r .weights) (r .kept) (r .noted) (r .summary) (r .settled) (r .ballots) words

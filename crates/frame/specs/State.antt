@@ -1,50 +1,76 @@
--- A record with its log and the office's state that they hold, both ways. A record is made here and nowhere else in the definitions.
--- Assumes nothing.
-use Prim.Native.Nat.{ℕ}
+-- A record with its log, what the office has dropped and holds, and the record made of that. A record is made here and nowhere else in the
+-- definitions. Assumes nothing.
+use Prim.Native.Nat.{ℕ, _+_, _-_}
 use mathlib.Core.List.{List, [], map}
-use lib.ListN.{length, getD, set, replicate}
+use lib.ListN.{length, getD, set, take, replicate}
 use Rattle.protocol.specs.Office.{Office}
+use Rattle.protocol.specs.Folding as F
 use Rattle.ballots.specs.Ballots as B
 use Rattle.ballots.specs.Ballots.{ballotOf, noBallot, officeIn}
 use Rattle.ballots.specs.declared.Ballot.{Ballot}
 use Rattle.summary.specs.Summary.{startWith, summaryAfter}
 use Rattle.summary.specs.declared.Summary.{Summary}
+use Rattle.kept.specs.Kept.{keptNothing, keptAfter}
+use Rattle.kept.specs.declared.Kept.{Kept}
 use Rattle.elections.specs.declared.State.{State}
 use Rattle.frame.specs.declared.Record.{Record}
 
--- the state that the record and its log hold
+-- how many entries the record's log still holds: its settled length, less what was dropped
+abbrev pub heldLength : Record → ℕ
+heldLength r = r .settled - r .kept .dropped
+
+-- the undropped log and the tails that the record and its log hold
 abbrev pub heldBy : Record → List ℕ → Office
-heldBy r words = officeIn words (r .settled) (r .ballots)
+heldBy r words = officeIn words (heldLength r) (r .ballots)
 
--- the record r with another summary, settled length and ballots: offices, own office and founding weights stay
-abbrev pub withHeld : Record → Summary → ℕ → List Ballot → Record
-withHeld r summary settled ballots = record { n = r .n; own = r .own; weights = r .weights; summary = summary; settled = settled; ballots = ballots }
+-- with the dropped count and the noted lengths
+abbrev pub foldedBy : Record → List ℕ → F.Folded
+foldedBy r words = record { dropped = r .kept .dropped; held = heldBy r words; noted = r .noted }
 
--- the same by a state, and the state that the record has: what takes and elections change
-abbrev pub withState : Record → State → Record
-withState r s = withHeld r (s .summary) (s .settled) (s .ballots)
+-- the record r with everything but its offices, own office and founding weights
+abbrev pub withHeld : Record → Kept → List ℕ → Summary → ℕ → List Ballot → Record
+withHeld r kept noted summary settled ballots =
+    record { n = r .n; own = r .own; weights = r .weights; kept = kept; noted = noted; summary = summary; settled = settled; ballots = ballots }
+
+-- with another state behind what is kept, and the state that the record has: what elections change
+abbrev pub withState : Record → Kept → State → Record
+withState r kept s = withHeld r kept (r .noted) (s .summary) (kept .dropped + s .held) (s .ballots)
 
 abbrev pub stateIn : Record → State
-stateIn r = record { summary = r .summary; settled = r .settled; ballots = r .ballots }
+stateIn r = record { summary = r .summary; held = heldLength r; ballots = r .ballots }
 
--- the record with another own ballot, and the own ballot
+-- with other noted lengths
+abbrev pub withNoted : Record → List ℕ → Record
+withNoted r noted = withHeld r (r .kept) noted (r .summary) (r .settled) (r .ballots)
+
+-- with another own ballot, and the own ballot
 abbrev pub withOwn : Record → Ballot → Record
-withOwn r b = withHeld r (r .summary) (r .settled) (set (r .ballots) (r .own) b)
+withOwn r b = withHeld r (r .kept) (r .noted) (r .summary) (r .settled) (set (r .ballots) (r .own) b)
 
 abbrev pub ownBallot : Record → Ballot
 ownBallot r = getD (r .ballots) (r .own) B.offEnd
 
--- what a settled log has done in the record's frame, from its founding weights on
-abbrev pub doneBy : Record → List ℕ → Summary
-doneBy r log = summaryAfter (startWith (r .weights)) log
+-- the entries that a call drops which leaves the office as f: as many as the dropped count rises by, from the front of what was held
+abbrev pub goes : Record → List ℕ → F.Folded → List ℕ
+goes r words f = take (f .dropped - r .kept .dropped) (heldBy r words .log)
 
--- the record r with that state
-abbrev pub holding : Record → Office → Record
-holding r o = withHeld r (doneBy r (o .log)) (length (o .log)) (map ballotOf (o .tails))
+-- what is then kept
+abbrev pub keptBy : Record → List ℕ → F.Folded → Kept
+keptBy r words f = keptAfter (r .kept) (goes r words f)
 
--- "a fresh record has an empty log and no ballots"
+-- the record r with kept values, and an office that holds and has noted what f says behind them: what its log has done follows from both
+abbrev pub holdingBehind : Record → Kept → F.Folded → Record
+holdingBehind r kept f =
+    withHeld r kept (f .noted) (summaryAfter (kept .summary) (f .held .log)) (f .dropped + length (f .held .log)) (map ballotOf (f .held .tails))
+
+-- the record after a call that leaves the office as f
+abbrev pub holding : Record → List ℕ → F.Folded → Record
+holding r words f = holdingBehind r (keptBy r words f) f
+
+-- "a fresh record has an empty log and no ballots"; nothing is dropped, and no office was heard of
 abbrev pub freshRecord : ℕ → ℕ → List ℕ → Record
-freshRecord n own ws = record { n = n; own = own; weights = ws; summary = startWith ws; settled = 0; ballots = replicate 8 noBallot }
+freshRecord n own ws =
+    record { n = n; own = own; weights = ws; kept = keptNothing ws; noted = replicate 8 0; summary = startWith ws; settled = 0; ballots = replicate 8 noBallot }
 
 -- "all-zero record"
 abbrev pub zeroRecord : Record
@@ -52,4 +78,13 @@ zeroRecord = freshRecord 0 0 (replicate 8 0)
 
 -- what an array of records gives past its end
 abbrev pub offEnd : Record
-offEnd = record { n = 0; own = 0; weights = []; summary = record { present = []; codes = [] }; settled = 0; ballots = [] }
+offEnd = record {
+  n = 0;
+  own = 0;
+  weights = [];
+  kept = record { dropped = 0; summary = record { present = []; codes = [] }; counts = [] };
+  noted = [];
+  summary = record { present = []; codes = [] };
+  settled = 0;
+  ballots = [];
+}

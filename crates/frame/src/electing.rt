@@ -22,12 +22,12 @@ impl Record {
                 count: 0,
             };
         }
-        let weights = self.weights;
-        let settled = self.settled;
+        let kept = self.kept;
         let state = self.state();
-        let after = state.elect(self.n, weights, log);
-        let count = after.settled - settled;
-        let next = self.with_state(after);
+        let before = state.held;
+        let after = state.elect(self.n, kept, log);
+        let count = after.held - before;
+        let next = self.with_state(kept, after);
         Elected {
             record: next,
             number: 0,

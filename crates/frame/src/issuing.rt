@@ -22,7 +22,8 @@ impl Record {
         }
         let own = self.own;
         let b = self.own_ballot();
-        let number = issuance::refusal(self.n, own, line, code, self.settled, b);
+        let held = self.held();
+        let number = issuance::refusal(self.n, own, line, code, self.settled, held, b);
         if number != 0 {
             return Issued {
                 record: self,

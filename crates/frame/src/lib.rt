@@ -1,14 +1,16 @@
 // An office's record, and the calls of the shared coding frame on it. A call takes the record by value and its log as a lent slice;
 // its answer has the paper's number, 0 when it is done, behind the next record where there is one.
 ghost use mathlib.Core.Path.{_≡_};
-ghost use Prim.Native.Nat.{_<_};
 ghost use Rattle.frame.specs.Soundness.{soundB};
-ghost use Rattle.frame.specs.State.{stateIn, withState, ownBallot, withOwn};
+ghost use Prim.Native.Nat.{_+_, _<_, _≤_};
+ghost use Rattle.frame.specs.State.{heldLength, stateIn, withState, ownBallot, withOwn};
 use ballots::Ballot;
 use elections::State;
+use kept::Kept;
 use summary::Summary;
 
 pub mod electing;
+pub mod folding;
 pub mod founding;
 pub mod frames;
 pub mod issuing;
@@ -16,20 +18,23 @@ pub mod sending;
 mod settling;
 pub mod taking;
 
-// n offices with their founding weights, the own office, what the settled log has done (the present weights, the settled codes), the settled length and each
-// office's ballot. The settled entries are the log's first words.
+// n offices with their founding weights, the own office, what is kept of the dropped entries, the longest settled length in accepted messages of
+// each other office, what the settled log has done (the present weights, the settled codes), the settled length, dropped entries included, and each
+// office's ballot. The settled entries that are not dropped are the log's first words.
 #[repr(C)]
 pub struct Record {
     pub n: usize,
     pub own: usize,
     pub weights: [u16; 8],
+    pub kept: Kept,
+    pub noted: [u64; 8],
     pub summary: Summary,
-    pub settled: usize,
+    pub settled: u64,
     pub ballots: [Ballot; 8],
 }
 
 impl Record {
-    pub const OFFICES: usize = 8;
+    pub const OFFICES: usize = limits::OFFICES;
 
     // Entries in a tail.
     pub const TAIL: usize = Ballot::CELLS;
@@ -38,47 +43,63 @@ impl Record {
 
     pub const CODES: u32 = issuance::CODES;
 
-    // Entries in the settled log, and words in the lent buffer at least.
-    pub const LOG: usize = 1024;
+    // Entries in the undropped log, and words in the lent buffer at least.
+    pub const LOG: usize = Ballot::PATH;
 
     // Whether the record with its log is sound.
     pub fn sound(self, log: &[u32]) -> bool
         ensures { λ r. ⌜ r ≡ soundB self (now (log .entry)) ⌝ }
     {
         let weights = self.weights;
+        let kept = self.kept;
+        let noted = self.noted;
         let summary = self.summary;
         let ballots = self.ballots;
         soundness::sound(
             self.n,
             self.own,
             weights,
+            kept,
+            noted,
             summary,
             self.settled,
             ballots,
             log,
         )
     }
-    // What takes and elections change of the record, and the record with that changed.
+
+    // How many entries the log still holds.
+    fn held(self) -> usize
+        requires { ⌜ self .kept .dropped ≤ self .settled ⌝ }
+        ensures { λ r. ⌜ r ≡ heldLength self ⌝ }
+    {
+        (self.settled - self.kept.dropped) as usize
+    }
+
+    // What takes and elections change of the record, and the record with that changed, behind what is kept.
     fn state(self) -> State
+        requires { ⌜ self .kept .dropped ≤ self .settled ⌝ }
         ensures { λ r. ⌜ r ≡ stateIn self ⌝ }
     {
         let summary = self.summary;
         let ballots = self.ballots;
         State {
             summary,
-            settled: self.settled,
+            held: (self.settled - self.kept.dropped) as usize,
             ballots,
         }
     }
 
-    fn with_state(self, state: State) -> Record
-        ensures { λ r. ⌜ r ≡ withState self state ⌝ }
+    fn with_state(self, kept: Kept, state: State) -> Record
+        requires { ⌜ kept .dropped + state .held < 18446744073709551616 ⌝ }
+        ensures { λ r. ⌜ r ≡ withState self kept state ⌝ }
     {
         let summary = state.summary;
         let ballots = state.ballots;
         let mut next = self;
+        next.kept = kept;
         next.summary = summary;
-        next.settled = state.settled;
+        next.settled = kept.dropped + state.held as u64;
         next.ballots = ballots;
         next
     }

@@ -22,7 +22,17 @@ impl Record {
         }
         let weights = self.weights;
         let ballots = self.ballots;
-        let length = writer::write(self.own, self.n, weights, log, self.settled, ballots, out);
+        let held = self.held();
+        let length = writer::write(
+            self.own,
+            self.n,
+            weights,
+            self.kept.dropped,
+            log,
+            held,
+            ballots,
+            out,
+        );
         if length == 0 {
             return Sent {
                 number: 6,

@@ -12,7 +12,7 @@ pub struct Taken {
 
 impl Record {
     // Take: an accepted message is worked into the record and its log; a refused one changes nothing. Beside the number it answers how many
-    // places the comparison of the logs needed.
+    // places the comparison of the logs needed. What the sender had dropped is dropped first, and its settled length is noted.
     pub fn take(self, log: &mut [u32], msg: &[u8]) -> Taken
         ensures { λ r. ⌜ (r ≡ takeOf self (now (log .entry)) (now (msg .entry))) × (now (log .exit) ≡ takeWords self (now (log .entry)) (now (msg .entry))) ⌝ }
     {
@@ -26,10 +26,19 @@ impl Record {
         let m = reading::read(msg);
         let head = m.head;
         let rest = &msg[head..];
-        let own = self.own;
         let weights = self.weights;
-        let settled = self.settled;
-        let checked = intake::check(self.n, own, weights, &log[..], settled, rest, m);
+        let kept = self.kept;
+        let held = self.held();
+        let checked = intake::check(
+            self.n,
+            self.own,
+            weights,
+            kept.dropped,
+            &log[..],
+            held,
+            rest,
+            m,
+        );
         let number = checked.number;
         let places = checked.places;
         if number != 0 {
@@ -40,8 +49,13 @@ impl Record {
             };
         }
         let state = self.state();
-        let merged = intake::take_in(log, state, own, rest, m);
-        let next = self.with_state(merged);
+        let taken = intake::take_in(log, state, kept, self.own, rest, m);
+        let behind = taken.kept;
+        let after = taken.state;
+        let lengths = self.noted;
+        let noted = intake::noted(lengths, m.sender, m.dropped + m.held as u64);
+        let mut next = self.with_state(behind, after);
+        next.noted = noted;
         Taken {
             record: next,
             number: 0,

@@ -3,7 +3,7 @@ use mathlib.Core.Path.{sym, _∙_}
 use borrow.Author.Needs.{needs}
 use borrow.Author.Tests.{not-true, not-false}
 use Rattle.frame.specs.Soundness.{Sound}
-use Rattle.frame.proofs.Send.{send-unsound, send-short, send-done, writable}
+use Rattle.frame.proofs.Send.{send-unsound, send-short, send-done, writable-with}
 use Rattle.frame.proofs.Sound.{sound}
 use Rattle.frame.proofs.Record.send.Statement.{statement}
 use Rattle.frame.proofs.Record.send.Tie as tie
@@ -19,22 +19,22 @@ returns c = let a = c .before .before .before .before .args in send-unsound (a .
 
 -- behind the writer
 abbrev tested : tie.After-write → tie.Else1
-tested c = c .before .before .before .before
+tested c = c .before .before .before .before .before
 
 returns-2 : tie.Need-returns-2
 returns-2 c =
     let w = c .before .before .before in
     let a = start (tested w) .args in
-    send-short (a .self) (a .log .now) (passed (tested w)) (a .out .now) (w .write .ensures .0) (w .write .ensures .1) (c .if2 .taken)
+    send-short (a .self) (a .log .now) (passed (tested w)) _ (w .before .before .held .ensures) (a .out .now) (w .write .ensures .0) (w .write .ensures .1) (c .if2 .taken)
 
 returns-3 : tie.Need-returns-3
 returns-3 c =
     let w = c .before .before .before in
     let a = start (tested w) .args in
-    send-done (a .self) (a .log .now) (passed (tested w)) (a .out .now) (w .write .ensures .0) (w .write .ensures .1) (c .if2 .left)
+    send-done (a .self) (a .log .now) (passed (tested w)) _ (w .before .before .held .ensures) (a .out .now) (w .write .ensures .0) (w .write .ensures .1) (c .if2 .left)
 
 pub send-spec : {M : Type 1} → statement M
 send-spec =
     tie.close
-    (tie.spec (λ c κs. search needs) returns (λ c κs. writable _ _ (passed (c .before .before .before))) (λ c. search needs) returns-2 (λ c. search needs)
+    (tie.spec (λ c κs. search needs) returns (λ c κs. passed (c .before .before) .within) (λ c κs. writable-with _ _ (passed (c .before .before .before .before)) _ (c .before .held .ensures)) (λ c. search needs) returns-2 (λ c. search needs)
     returns-3)

@@ -1,10 +1,15 @@
 -- The part is the settled log of a sound record.
-use mathlib.Core.Path.{sym, _∙_}
+use native.Mathlib.Omega.{arith}
+use mathlib.Core.Path.{_≡_, sym, ap, _∙_}
+use mathlib.Core.Bool.{true}
+use Prim.Native.Nat.{ℕ}
+use lib.ListN.{take}
+use lib.Seq.{length-take-le}
 use borrow.Author.Tests.{not-true, not-false}
 use borrow.Author.Needs.{needs}
 use Rattle.lists.specs.Tests.{pick}
 use Rattle.frame.proofs.Sound.{sound}
-use Rattle.frame.proofs.State.{log-length}
+use Rattle.frame.specs.Soundness.{soundB}
 use Rattle.frame.specs.Settling.{settledOf, settledNumber}
 use Rattle.frame.proofs.Record.settled.Statement.{statement}
 use Rattle.frame.proofs.Record.settled.Tie as tie
@@ -13,12 +18,23 @@ returns : tie.Need-returns
 unfolding settledOf settledNumber pick
 returns c = let q = sym (c .before .before .sound .ensures) ∙ not-true _ (c .before .if1 .taken) in (simp q, simp q)
 
+passed : (c : tie.Else1) → let a = c .before .before .before .args in soundB (a .self) (a .log .now) ≡ true
+passed c = sym (c .before .sound .ensures) ∙ not-false _ (c .if1 .left)
+
 slice-aggregate-result-2 : tie.Need-slice-aggregate-result-2
-slice-aggregate-result-2 c = let a = c .before .before .before .before .args in let e = sym (c .before .before .sound .ensures) ∙ not-false _ (c .before .if1 .left) in sym (log-length (a .self) (a .log .now) (sound (a .self) (a .log .now) e))
+slice-aggregate-result-2 c =
+    let e = c .before .before in
+    let S = sound _ _ (passed e) in
+    sym (length-take-le _ _ (omega (arith, c .before .held .ensures, S .most, S .room)))
 
 returns-2 : tie.Need-returns-2
 unfolding settledOf settledNumber pick
-returns-2 c = let q = sym (c .before .before .sound .ensures) ∙ not-false _ (c .before .if1 .left) in (simp q, simp q)
+returns-2 c =
+    let e = c .before .before in
+    let a = e .before .before .before .args in
+    let q = passed e in
+    (simp q (ap (λ (h : ℕ). take h (a .log .now)) (c .before .held .ensures)), simp q)
 
 pub settled-spec : {M : Type 1} → statement M
-settled-spec = tie.close (tie.spec (λ c κs. search needs) (λ c. search needs) returns slice-aggregate-result-2 returns-2)
+settled-spec =
+    tie.close (tie.spec (λ c κs. search needs) (λ c. search needs) returns (λ c κs. sound _ _ (passed c) .within) slice-aggregate-result-2 returns-2)

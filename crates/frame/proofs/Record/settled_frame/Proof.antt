@@ -23,13 +23,13 @@ returns-2 : tie.Need-returns-2
 returns-2 c =
     let e = c .before .before in
     let line = start e .args .line in
-    c .refused2 .ensures ∙ shown-past line _ (omega arith) ∙ frame-shown _ _ line _ (passed e)
+    c .refused2 .ensures ∙ shown-past line _ _ (omega arith) ∙ frame-shown _ _ line _ (passed e)
 
 returns-3 : tie.Need-returns-3
 returns-3 c =
     let e = c .before .before .before .before in
     let line = start e .args .line in
-    shown-done line _ (omega arith) _ (c .stored-edit .ensures ∙ stored-shown _ _ (sound _ _ (passed e)) line (omega arith)) ∙ frame-shown _ _ line _ (passed e)
+    shown-done line _ _ (omega arith) _ (c .stored-edit .ensures ∙ stored-shown _ _ (sound _ _ (passed e)) line (omega arith)) ∙ frame-shown _ _ line _ (passed e)
 
 pub settled-frame-spec : {M : Type 1} → statement M
 settled-frame-spec =

@@ -10,11 +10,10 @@ use Rattle.reading.proofs.Answers.{rest-of-message}
 use Rattle.frame.specs.Soundness.{Sound}
 use Rattle.lists.specs.Tests.{pick}
 use Rattle.comparing.specs.FromEnd.{compares}
-use Rattle.intake.specs.Intake.{checkedOf, refusalOf}
-use Rattle.intake.specs.declared.Checked.{Checked}
 use Rattle.frame.specs.Taking.{takeNumber, takePlaces}
 use Rattle.frame.proofs.Sound.{sound}
-use Rattle.frame.proofs.Take.{not-sound, no-places, number-at, places-at, head-within, log-within, take-refused, ready-in, take-made}
+use Rattle.frame.proofs.Take.{not-sound, no-places, number-found, places-found, head-within, log-within, take-refused}
+use Rattle.frame.proofs.Work.{ready, ready-in, length-fits, state-fits, take-made}
 use Rattle.frame.proofs.Record.take.Statement.{statement}
 use Rattle.frame.proofs.Record.take.Tie as tie
 
@@ -39,7 +38,7 @@ abbrev tested : tie.After-read → tie.Else1
 tested c = c .before
 
 abbrev read : tie.After-check-arg → tie.After-read
-read c = c .before .before .before
+read c = c .before .before .before .before .before
 
 -- the message's head is within it
 within : (c : tie.After-read) → c .read .result .head ≤ length (start (tested c) .args .msg .now)
@@ -49,15 +48,18 @@ check-requires : tie.Need-check-requires
 check-requires c κs =
     let x = read c in
     let S = sounds (tested x) in
-    (omega (arith, S .most, S .room), rw (rest-of-message (start (tested x) .args .msg .now) (x .read .result .head), length-drop) (log-within _ _ _ S _ (x .read .ensures)))
+    (omega (arith, c .before .held .ensures, S .most, S .room), rw (rest-of-message (start (tested x) .args .msg .now) (x .read .result .head), length-drop) (log-within _ _ _ S _ (x .read .ensures)))
 
 -- what is found by the reading is the call's number, and its places
 numbered : (c : tie.After-check) → let a = start (tested (read (c .before))) .args in c .check .result .number ≡ takeNumber (a .self) (a .log .now) (a .msg .now)
-unfolding checkedOf
-numbered c = let x = read (c .before) in ap (λ (y : Checked). y .number) (c .check .ensures) ∙ number-at _ _ _ (sounds (tested x)) _ (x .read .ensures)
+numbered c =
+    let x = read (c .before) in
+    number-found _ _ _ (sounds (tested x)) _ (x .read .ensures) _ (c .before .before .held .ensures) _ (c .check .ensures)
 
 placed : (c : tie.After-check) → let a = start (tested (read (c .before))) .args in c .check .result .places ≡ takePlaces (a .self) (a .log .now) (a .msg .now)
-placed c = let x = read (c .before) in ap (λ (y : Checked). y .places) (c .check .ensures) ∙ places-at _ _ _ (sounds (tested x)) _ (x .read .ensures)
+placed c =
+    let x = read (c .before) in
+    places-found _ _ _ (sounds (tested x)) _ (x .read .ensures) _ (c .before .before .held .ensures) _ (c .check .ensures)
 
 done : (c : tie.Else2) → let a = start (tested (read (c .before .before))) .args in takeNumber (a .self) (a .log .now) (a .msg .now) ≡ 0
 done c = sym (numbered (c .before)) ∙ c .if2 .left
@@ -65,14 +67,35 @@ done c = sym (numbered (c .before)) ∙ c .if2 .left
 take-in-requires : tie.Need-take-in-requires
 take-in-requires c κs = let e = c .before .before in ready-in _ _ _ _ (done e) (read (e .before .before) .read .ensures) _ (c .before .state .ensures)
 
+-- behind the work on the message, and behind the number
+abbrev worked : tie.After-struct-known → tie.After-take-in
+worked c = c .before .before .before .before .before .before
+
+abbrev accepted : tie.After-take-in → tie.Else2
+accepted c = c .before .before .before
+
+add-noted : tie.Need-add-noted
+add-noted c = let e = accepted (worked c) in omega (arith, length-fits _ _ _ _ (done e) (read (e .before .before) .read .ensures))
+
+noted-requires : tie.Need-noted-requires
+noted-requires c κs = let e = accepted (worked c) in ready _ _ _ _ (done e) (read (e .before .before) .read .ensures) .sender-below
+
+with-state-requires : tie.Need-with-state-requires
+with-state-requires c κs =
+    let w = worked (c .before) in
+    let e = accepted w in
+    state-fits _ _ _ _ (done e) (read (e .before .before) .read .ensures) _ (w .before .before .state .ensures) _ _ (w .take-in .ensures .0) (w .take-in .ensures .1)
+
 returns-3 : tie.Need-returns-3
 returns-3 c =
-    let w = c .before .before .before in
-    let x = w .before .before in
-    let e = x .before in
-    take-made _ _ _ _ (done e) (read (e .before .before) .read .ensures) _ (x .state .ensures) _ _ (w .take-in .ensures .0) (w .take-in .ensures .1) _ (placed (e .before)) _ (c .with-state .ensures)
+    let w = worked (c .before .before) in
+    let e = accepted w in
+    take-made _ _ _ _ (done e) (read (e .before .before) .read .ensures) _ (w .before .before .state .ensures) _ _ (w .take-in .ensures .0) (w .take-in .ensures .1) _ (placed (e .before)) _ (c .before .noted .ensures) _ (c .with-state .ensures)
 
 pub take-spec : {M : Type 1} → statement M
 take-spec =
-    tie.close (tie.spec (λ c κs. search needs) (λ c. search needs) returns (λ c κs. search needs) (λ c. omega (arith, within c)) (λ c. let h = within c in search needs) (λ c. search needs)
-    check-requires (λ c. search needs) (λ c. take-refused _ _ _ _ _ (numbered (c .before)) (placed (c .before)) (c .if2 .taken)) (λ c κs. search needs) take-in-requires (λ c κs. search needs) (λ c. search needs) returns-3)
+    tie.close
+    (tie.spec (λ c κs. search needs) (λ c. search needs) returns (λ c κs. search needs) (λ c. omega (arith, within c)) (λ c. let h = within c in search needs) (λ c. search needs)
+    (λ c κs. sounds (tested (c .before .before .before)) .within) check-requires (λ c. search needs)
+    (λ c. take-refused _ _ _ _ _ (numbered (c .before)) (placed (c .before)) (c .if2 .taken)) (λ c κs. sounds (tested (read (c .before .before))) .within) take-in-requires add-noted
+    noted-requires with-state-requires (λ c. search needs) returns-3)

@@ -4,18 +4,18 @@ use mathlib.Core.Bool.{true}
 use mathlib.Core.Path.{_≡_, sym, ap, _∙_}
 use mathlib.Core.List.{List, _++_}
 use Prim.Native.Nat.{ℕ}
-use lib.ListN.{getD, take}
+use lib.ListN.{getD}
 use lib.Seq.{length-take-le}
 use borrow.Author.Tests.{not-true, not-false}
 use borrow.Author.Needs.{needs}
 use Rattle.protocol.specs.Codes.{cell, ofCell}
-use Rattle.protocol.specs.Frames.{lastEdit, editAfter}
+use Rattle.protocol.specs.Frames.{editAfter}
 use Rattle.ballots.specs.Ballots.{tailOf}
 use Rattle.ballots.specs.declared.Ballot.{Ballot}
 use Rattle.ballots.proofs.Laws.{Fine}
 use Rattle.frame.specs.Soundness.{Sound, soundB}
-use Rattle.frame.specs.State.{ownBallot}
-use Rattle.frame.specs.Frames.{editIs}
+use Rattle.frame.specs.State.{heldLength, heldBy, ownBallot}
+use Rattle.frame.specs.Frames.{editIs, keptEdit}
 use Rattle.frame.proofs.Sound.{sound}
 use Rattle.frame.proofs.State.{tail-at, own-fine}
 use Rattle.frame.proofs.Shown.{frame-unsound, frame-shown, shown-past, shown-done, stored-code, behind-shown}
@@ -35,7 +35,7 @@ sounds c = sound _ _ (passed c)
 abbrev tested : tie.After-own-ballot → tie.Else1
 tested c = c .before .before .before .before
 
-fine : (c : tie.After-own-ballot) → let r = start (tested c) .args .self in Fine (r .n) (r .settled) (c .own-ballot .result)
+fine : (c : tie.After-own-ballot) → let r = start (tested c) .args .self in Fine (r .n) (heldLength r) (c .own-ballot .result)
 fine c = own-fine _ _ (sounds (tested c)) _ (c .own-ballot .ensures)
 
 returns : tie.Need-returns
@@ -45,7 +45,7 @@ returns-2 : tie.Need-returns-2
 returns-2 c =
     let e = c .before .before in
     let line = start e .args .line in
-    c .refused2 .ensures ∙ shown-past line _ (omega arith) ∙ frame-shown _ _ line _ (passed e)
+    c .refused2 .ensures ∙ shown-past line _ _ (omega arith) ∙ frame-shown _ _ line _ (passed e)
 
 returns-3 : tie.Need-returns-3
 returns-3 c =
@@ -53,12 +53,13 @@ returns-3 c =
     let e = tested o in
     let a = start e .args in
     let r = a .self in
-    let x = take (r .settled) (a .log .now) in
+    let x = heldBy r (a .log .now) .log in
+    let before = keptEdit r (a .line) in
     let tail = tailOf (ownBallot r) in
-    shown-done (a .line) _ (omega arith) _
-    (c .stored-edit .ensures ∙ behind-shown (a .line) _ _ x tail (stored-code r (a .log .now) (sounds e) (a .line) (omega arith))
+    shown-done (a .line) before _ (omega arith) _
+    (c .stored-edit .ensures ∙ behind-shown (a .line) before _ _ x tail (stored-code r (a .log .now) (sounds e) (a .line) (omega arith))
     (c .before .last-edit .ensures ∙ ap (λ (b : Ballot). cell (editAfter (a .line) (ofCell (getD (r .summary .codes) (a .line) 0)) (tailOf b))) (o .own-ballot .ensures)) ∙
-    ap (λ (t : List ℕ). editIs (lastEdit (a .line) (x ++ t))) (sym (tail-at r (a .log .now) (r .own))))
+    ap (λ (t : List ℕ). editIs (editAfter (a .line) before (x ++ t))) (sym (tail-at r (a .log .now) (r .own))))
     ∙ frame-shown _ _ (a .line) _ (passed e)
 
 pub tentative-frame-spec : {M : Type 1} → statement M

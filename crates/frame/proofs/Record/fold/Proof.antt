@@ -1,0 +1,59 @@
+-- Soundness first; the entries that every office is known to have go, and the rest moves to the front.
+use native.Mathlib.Omega.{arith}
+use mathlib.Core.Path.{_≡_, refl, sym, ap, subst, _∙_}
+use mathlib.Core.Bool.{true}
+use mathlib.Core.List.{List}
+use Prim.Native.Nat.{ℕ}
+use lib.ListN.{drop, take}
+use borrow.Author.Needs.{needs}
+use borrow.Author.Tests.{not-true, not-false}
+use Rattle.ballots.specs.Ballots.{wordsWith}
+use Rattle.frame.specs.Soundness.{soundB, Sound}
+use Rattle.frame.proofs.Sound.{sound}
+use Rattle.frame.proofs.State.{room-for}
+use Rattle.frame.proofs.Fold.{fold-unsound, goneOf, gone-is, gone-within, fold-made}
+use Rattle.frame.proofs.Record.fold.Statement.{statement}
+use Rattle.frame.proofs.Record.fold.Tie as tie
+
+returns : tie.Need-returns
+returns c = fold-unsound _ _ (sym (c .before .sound .ensures) ∙ not-true _ (c .if1 .taken))
+
+-- the places of the code: the call's start, behind the test of soundness, the count
+abbrev start : tie.Else1 → tie.Start
+start c = c .before .before .before .before
+
+passed : (c : tie.Else1) → let a = start c .args in soundB (a .self) (a .log .now) ≡ true
+passed c = sym (c .before .sound .ensures) ∙ not-false _ (c .if1 .left)
+
+sounds : (c : tie.Else1) → let a = start c .args in Sound (a .self) (a .log .now)
+sounds c = sound _ _ (passed c)
+
+abbrev tested : tie.After-held → tie.Else1
+tested c = c .before .before .before
+
+gone : (c : tie.After-known) → let a = start (tested (c .before)) .args in c .known .result ≡ goneOf (a .self) (a .log .now)
+gone c = gone-is _ _ (sounds (tested (c .before))) _ (c .known .ensures)
+
+drop-first-requires : tie.Need-drop-first-requires
+drop-first-requires c κs =
+    let x = c .before in
+    let S = sounds (tested (x .before)) in
+    let h = x .before .held .ensures in
+    let g = gone x in
+    let w = gone-within _ _ S in
+    (room-for _ _ S _ (omega (arith, g, w)), (omega (arith, g, w, h), omega (arith, h, S .most, S .room)))
+
+returns-2 : tie.Need-returns-2
+returns-2 c =
+    let y = c .before .before in
+    let x = y .before .before in
+    let e = tested (x .before) in
+    let a = start e .args in
+    fold-made (a .self) (a .log .now) (passed e) _ (gone x) _ (y .drop-first .ensures .0) _
+    (y .drop-first .ensures .1 ∙ ap (λ (h : ℕ). wordsWith (drop (x .known .result) (take h (a .log .now))) (a .log .now)) (x .before .held .ensures))
+
+pub fold-spec : {M : Type 1} → statement M
+fold-spec =
+    tie.close
+    (tie.spec (λ c κs. search needs) (λ c. search needs) returns (λ c κs. sounds (c .before .before) .within) (λ c κs. sounds (tested c) .head .most) drop-first-requires (λ c. search needs)
+    returns-2)
