@@ -1,6 +1,7 @@
 -- The claims of request (xi) on the two calls.
 --     four-answers      of two vectors of one length the answer is one of four, each given exactly when it should be
 --     version-path      the versions behind the log are the offices' paths
+--     whole-vector      where the dropped entries left the kept counts, a version's vector is that of these entries and the version
 --     read-back         each vector of a done write is read back, and answers "equal" for what it was written from
 -- Assumes nothing.
 use mathlib.Core.Path.{_≡_, refl, sym, ap, ap₂, _∙_}
@@ -16,27 +17,29 @@ use lib.Seq.{ext-getD, getD-take, take-at, drop-at}
 use borrow.Author.Tests.{eq-eqb, le-leb, leb-true, lt-ltb}
 use Rattle.lists.specs.Tests.{allB, pick}
 use Rattle.lists.proofs.Tests.{all-at, all-map, all-of, all-take, both-0, both-1, both-true, getD-map}
-use Rattle.numbers.specs.Numbers.{be32, bytes32, runAt}
+use Rattle.numbers.specs.Numbers.{be64, bytes64, runAt}
 use Rattle.numbers.proofs.Runs.{drop-more, run-said}
-use Rattle.protocol.specs.Counts.{countOf}
+use Rattle.protocol.specs.Counts.{noCounts, countOf, countsAfter}
 use Rattle.protocol.specs.Limits.{tailFine}
 use Rattle.protocol.specs.Office.{path}
-use Rattle.protocol.proofs.Counts.{count-most, none-length}
+use Rattle.protocol.proofs.Counts.{counts-length, counts-most}
 use Rattle.protocol.proofs.Limits.{fine-tail}
 use Rattle.ballots.specs.Ballots.{ballotFine, tailOf}
 use Rattle.ballots.proofs.Laws.{tail-fine}
-use Rattle.spelling.proofs.Items.{isWord, roomFor, valueItem}
-use Rattle.vectors.specs.Vectors.{vectorBytes, vectorOf, versionsBytes}
-use Rattle.vectors.proofs.Vectors.{paths-length, vector-length}
+use Rattle.spelling.proofs.Items.{roomFor}
+use Rattle.vectors.specs.Vectors.{EachAtMost, mostKept, vectorBytes, vectorOf, versionsBytes}
+use Rattle.vectors.proofs.Items.{isCount, countItem}
+use Rattle.vectors.proofs.Vectors.{kept-vector, paths-length, vector-length}
 use Rattle.versions.specs.Versions.{after, answersTo, atMost, before, beside, comparedTo, countsIn, equal, isVector, nine, stands}
-use Rattle.frame.specs.State.{heldBy}
+use Rattle.frame.specs.State.{heldLength, heldBy}
 use Rattle.frame.specs.Soundness.{soundB, Sound}
 use Rattle.frame.specs.declared.Record.{Record}
 use Rattle.frame.proofs.Sound.{sound}
 use Rattle.frame.proofs.State.{log-length}
-use Rattle.archive.specs.Writing.{vectorsOf, versions, writeBytes, writeNumber, writeOf}
+use Rattle.archive.specs.Writing.{startOf, vectorsOf, versions, writeBytes, writeNumber, writeOf}
 use Rattle.archive.specs.Comparison.{compareNumber, compareOf}
-use Rattle.archive.specs.Claims.{EachLeq, FourAnswers, ReadBack, versionAt, writtenAt}
+use Rattle.archive.proofs.Writing.{start-long, start-few}
+use Rattle.archive.specs.Claims.{EachLeq, FourAnswers, ReadBack, vectorAt, versionAt, writtenAt}
 
 -- ── four answers ──
 at-most-leq : (a b : List ℕ) → atMost a b ≡ true → EachLeq a b
@@ -130,42 +133,47 @@ in-range d e [] i h = absurd (not-suc-le-zero h)
 in-range d e (x ∷ xs) zero h = refl
 in-range d e (x ∷ xs) (suc i) h = in-range d e xs i (le-of-suc-le-suc h)
 
-piece : (n : ℕ) (ps : List (List ℕ)) (rest : List ℕ) (i : ℕ) → i < length ps → take (4 * n) (drop (4 * n * i) (versionsBytes n ps ++ rest)) ≡ vectorBytes n (getD ps i [])
-unfolding versionsBytes
-piece n [] rest i h = absurd (not-suc-le-zero h)
-piece n (p ∷ ps) rest zero h =
-    ap (λ (k : ℕ). take (4 * n) (drop k ((vectorBytes n p ++ versionsBytes n ps) ++ rest))) (mul-zero (4 * n))
-    ∙ ap (take (4 * n)) (append-assoc (vectorBytes n p) (versionsBytes n ps) rest) ∙ take-at (vectorBytes n p) (versionsBytes n ps ++ rest) (4 * n) (vector-length n p)
-piece n (p ∷ ps) rest (suc i) h =
-    ap (take (4 * n)) (drop-more (4 * n) i ((vectorBytes n p ++ versionsBytes n ps) ++ rest)
-    ∙ ap (drop (4 * n * i)) (ap (drop (4 * n)) (append-assoc (vectorBytes n p) (versionsBytes n ps) rest) ∙ drop-at (vectorBytes n p) (versionsBytes n ps ++ rest) (4 * n) (vector-length n p)))
-    ∙ piece n ps rest i (le-of-suc-le-suc h)
+-- n counts, from those in `start` on
+module _ (n : ℕ) (start : List ℕ) (long : length start ≡ n) where
+  piece : (ps : List (List ℕ)) (rest : List ℕ) (i : ℕ) → i < length ps → take (8 * n) (drop (8 * n * i) (versionsBytes start ps ++ rest)) ≡ vectorBytes start (getD ps i [])
+  unfolding versionsBytes
+  piece [] rest i h = absurd (not-suc-le-zero h)
+  piece (p ∷ ps) rest zero h =
+      ap (λ (k : ℕ). take (8 * n) (drop k ((vectorBytes start p ++ versionsBytes start ps) ++ rest))) (mul-zero (8 * n))
+      ∙ ap (take (8 * n)) (append-assoc (vectorBytes start p) (versionsBytes start ps) rest) ∙ take-at (vectorBytes start p) (versionsBytes start ps ++ rest) (8 * n) (vector-length n start long p)
+  piece (p ∷ ps) rest (suc i) h =
+      ap (take (8 * n)) (drop-more (8 * n) i ((vectorBytes start p ++ versionsBytes start ps) ++ rest)
+      ∙ ap (drop (8 * n * i)) (ap (drop (8 * n)) (append-assoc (vectorBytes start p) (versionsBytes start ps) rest) ∙ drop-at (vectorBytes start p) (versionsBytes start ps ++ rest) (8 * n) (vector-length n start long p)))
+      ∙ piece ps rest i (le-of-suc-le-suc h)
+
+  -- the vector of a short version, from kept counts, is read back
+  module _ (few : EachAtMost mostKept start) (p : List ℕ) (short : length p ≤ 1024) where
+    each-count : allB isCount (vectorOf start p) ≡ true
+    unfolding isCount
+    each-count = all-of isCount 0 (vectorOf start p) (λ k _. lt-ltb (countOf (vectorOf start p) k) 18446744073709551616 (omega (arith, counts-most start p k, few k)))
+
+    vector-said : countsIn n (vectorBytes start p) ≡ vectorOf start p
+    vector-said =
+        ap₂ (λ (k : ℕ) (s : List ℕ). runAt 8 be64 k s) (sym (counts-length start p ∙ long)) (sym (append-nil (vectorBytes start p)))
+        ∙ run-said 8 bytes64 be64 (roomFor 8) isCount countItem (vectorOf start p) [] each-count
+
+    vector-is : isVector n (vectorBytes start p) ≡ true
+    unfolding isVector
+    vector-is = eq-eqb (length (vectorBytes start p)) (8 * n) (vector-length n start long p)
 
 -- the version at place k + 1 is the path of office k
 pub version-path : (r : Record) (words : List ℕ) → Sound r words → (k : ℕ) → k < r .n → versionAt r words (suc k) ≡ path (heldBy r words) k
 version-path r words S k h =
-    let log = take (r .settled) words in
+    let log = take (heldLength r) words in
     let tails = map tailOf (r .ballots) in
-    let many : length (map (λ (t : List ℕ). log ++ t) (take (r .n) tails)) ≡ r .n = paths-length (r .n) log (r .ballots) (omega (arith, S .eight, S .head .most)) in
+    let many : length (map (λ (t : List ℕ). log ++ t) (take (r .n) tails)) ≡ r .n = paths-length (r .n) (r .ballots) (omega (arith, S .eight, S .head .most)) log in
     in-range [] (log ++ []) (map (λ (t : List ℕ). log ++ t) (take (r .n) tails)) k (omega arith)
     ∙ getD-map (λ (t : List ℕ). log ++ t) [] (take (r .n) tails) k ∙ ap (λ (t : List ℕ). log ++ t) (getD-take (r .n) tails k [] h)
 
--- a short version's vector is read back, and is within the limits
-module _ (n : ℕ) (p : List ℕ) (short : length p ≤ 1024) where
-  each-word : allB isWord (vectorOf n p) ≡ true
-  unfolding isWord
-  each-word = all-of isWord 0 (vectorOf n p) (λ k _. lt-ltb (countOf (vectorOf n p) k) 4294967296 (omega (arith, count-most n p k)))
-
-  vector-said : countsIn n (vectorBytes n p) ≡ vectorOf n p
-  vector-said =
-      ap₂ (λ (k : ℕ) (s : List ℕ). runAt 4 be32 k s) (sym (none-length n p)) (sym (append-nil (vectorBytes n p)))
-      ∙ run-said 4 bytes32 be32 (roomFor 4) isWord valueItem (vectorOf n p) [] each-word
-
-  vector-is : isVector n (vectorBytes n p) ≡ true
-  unfolding isVector
-  vector-is =
-      both-true _ _ (eq-eqb (length (vectorBytes n p)) (4 * n) (vector-length n p))
-      (ap (allB (λ (c : ℕ). leb c 1024)) vector-said ∙ all-of (λ (c : ℕ). leb c 1024) 0 (vectorOf n p) (λ k _. le-leb (countOf (vectorOf n p) k) 1024 (omega (arith, count-most n p k))))
+pub whole-vector : (r : Record) (words : List ℕ) → Sound r words → (former : List ℕ) → r .kept .counts ≡ countsAfter (noCounts 8) former
+    → (i : ℕ) → vectorAt r words i ≡ vectorOf (noCounts (r .n)) (former ++ versionAt r words i)
+whole-vector r words S former e i =
+    ap (λ (c : List ℕ). vectorOf (take (r .n) c) (versionAt r words i)) e ∙ kept-vector (r .n) (S .head .most) former (versionAt r words i)
 
 -- ── a done write ──
 module _ (r : Record) (words out : List ℕ) (done : writeOf r words out .number ≡ 0) where
@@ -185,47 +193,47 @@ module _ (r : Record) (words out : List ℕ) (done : writeOf r words out .number
   sounds = sound r words write-sound
 
   many : length (versions r words) ≡ suc (r .n)
-  many = ap suc (paths-length (r .n) (take (r .settled) words) (r .ballots) (omega (arith, sounds .eight, sounds .head .most)))
+  many = ap suc (paths-length (r .n) (r .ballots) (omega (arith, sounds .eight, sounds .head .most)) (take (heldLength r) words))
 
   -- every version has at most 1024 entries
   short-all : allB (λ (p : List ℕ). leb (length p) 1024) (versions r words) ≡ true
   unfolding allB
   short-all =
-      let log = take (r .settled) words in
+      let log = take (heldLength r) words in
       both-true _ _ (le-leb (length log) 1024 (omega (arith, log-length r words sounds, sounds .most)))
-      (all-map (tailFine (r .n) (r .settled)) (λ (p : List ℕ). leb (length p) 1024) (λ t. log ++ t)
-      (λ t e. le-leb (length (log ++ t)) 1024 (omega (arith, length-append log t, log-length r words sounds, fine-tail (r .n) (r .settled) t e .room)))
+      (all-map (tailFine (r .n) (heldLength r)) (λ (p : List ℕ). leb (length p) 1024) (λ t. log ++ t)
+      (λ t e. le-leb (length (log ++ t)) 1024 (omega (arith, length-append log t, log-length r words sounds, fine-tail (r .n) (heldLength r) t e .room)))
       (take (r .n) (map tailOf (r .ballots)))
-      (all-take (tailFine (r .n) (r .settled)) (r .n) (map tailOf (r .ballots)) (all-map (ballotFine (r .n) (r .settled)) (tailFine (r .n) (r .settled)) tailOf (tail-fine (r .n) (r .settled)) (r .ballots) (sounds .fine))))
+      (all-take (tailFine (r .n) (heldLength r)) (r .n) (map tailOf (r .ballots)) (all-map (ballotFine (r .n) (heldLength r)) (tailFine (r .n) (heldLength r)) tailOf (tail-fine (r .n) (heldLength r)) (r .ballots) (sounds .fine))))
 
   module _ (i : ℕ) (h : i ≤ r .n) where
     short : length (versionAt r words i) ≤ 1024
     short = leb-true (length (versionAt r words i)) 1024 (all-at (λ (p : List ℕ). leb (length p) 1024) [] (versions r words) i short-all (omega (arith, many)))
 
-    written-is : writtenAt r words out i ≡ vectorBytes (r .n) (versionAt r words i)
+    written-is : writtenAt r words out i ≡ vectorBytes (startOf r) (versionAt r words i)
     written-is =
-        ap (λ (s : List ℕ). take (4 * r .n) (drop (4 * r .n * i) s)) wrote
-        ∙ piece (r .n) (versions r words) (drop (length (vectorsOf r words)) out) i (omega (arith, many))
+        ap (λ (s : List ℕ). take (8 * r .n) (drop (8 * r .n * i) s)) wrote
+        ∙ piece (r .n) (startOf r) (start-long r words sounds) (versions r words) (drop (length (vectorsOf r words)) out) i (omega (arith, many))
 
-    says : countsIn (r .n) (writtenAt r words out i) ≡ vectorOf (r .n) (versionAt r words i)
-    says = ap (countsIn (r .n)) written-is ∙ vector-said (r .n) (versionAt r words i) short
+    says : countsIn (r .n) (writtenAt r words out i) ≡ vectorAt r words i
+    says = ap (countsIn (r .n)) written-is ∙ vector-said (r .n) (startOf r) (start-long r words sounds) (start-few r words sounds) (versionAt r words i) short
 
     number-is : compareNumber r words (writtenAt r words out i) ≡ 0
     unfolding compareNumber pick
-    number-is = let v = ap (isVector (r .n)) written-is ∙ vector-is (r .n) (versionAt r words i) short in rw (write-sound, v)
+    number-is = let v = ap (isVector (r .n)) written-is ∙ vector-is (r .n) (startOf r) (start-long r words sounds) (start-few r words sounds) (versionAt r words i) short in rw (write-sound, v)
 
-    answers-is : compareOf r words (writtenAt r words out i) .answers ≡ nine (answersTo (r .n) (countsIn (r .n) (writtenAt r words out i)) (versions r words))
+    answers-is : compareOf r words (writtenAt r words out i) .answers ≡ nine (answersTo (startOf r) (countsIn (r .n) (writtenAt r words out i)) (versions r words))
     unfolding compareOf pick
     answers-is = rw number-is
 
-    answers-are : (j : ℕ) → j ≤ r .n → getD (compareOf r words (writtenAt r words out i) .answers) j beside ≡ comparedTo (vectorOf (r .n) (versionAt r words j)) (vectorOf (r .n) (versionAt r words i))
+    answers-are : (j : ℕ) → j ≤ r .n → getD (compareOf r words (writtenAt r words out i) .answers) j beside ≡ comparedTo (vectorAt r words j) (vectorAt r words i)
     answers-are j g =
-        let f : List ℕ → ℕ = λ (p : List ℕ). comparedTo (vectorOf (r .n) p) (countsIn (r .n) (writtenAt r words out i)) in
+        let f : List ℕ → ℕ = λ (p : List ℕ). comparedTo (vectorOf (startOf r) p) (countsIn (r .n) (writtenAt r words out i)) in
         let l : length (map f (versions r words)) ≡ suc (r .n) = length-map (versions r words) f ∙ many in
         let b : j < length (map f (versions r words)) = omega arith in
         ap (λ (x : List ℕ). getD x j beside) answers-is
         ∙ List·getD-append (map f (versions r words)) (replicate (9 - length (map f (versions r words))) beside) beside j b ∙ in-range beside (f []) (map f (versions r words)) j b
-        ∙ getD-map f [] (versions r words) j ∙ ap (comparedTo (vectorOf (r .n) (versionAt r words j))) says
+        ∙ getD-map f [] (versions r words) j ∙ ap (comparedTo (vectorAt r words j)) says
 
   pub read-back : ReadBack r words out
   unfolding compareOf
@@ -233,5 +241,5 @@ module _ (r : Record) (words out : List ℕ) (done : writeOf r words out .number
     says = says;
     done = number-is;
     answers = λ i j h g. answers-are i h j g;
-    itself = λ i h. answers-are i h i h ∙ four-answers (vectorOf (r .n) (versionAt r words i)) (vectorOf (r .n) (versionAt r words i)) refl .equals .1 refl;
+    itself = λ i h. answers-are i h i h ∙ four-answers (vectorAt r words i) (vectorAt r words i) refl .equals .1 refl;
   }

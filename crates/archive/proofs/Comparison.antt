@@ -8,7 +8,7 @@ use Rattle.lists.specs.Tests.{pick}
 use Rattle.versions.specs.Versions.{answersTo, beside, countsIn, isVector, nine}
 use Rattle.frame.specs.Soundness.{soundB}
 use Rattle.frame.specs.declared.Record.{Record}
-use Rattle.archive.specs.Writing.{versions}
+use Rattle.archive.specs.Writing.{startOf, versions}
 use Rattle.archive.specs.Comparison.{compareNumber, compareOf}
 use Rattle.archive.specs.declared.Compared.{Compared}
 
@@ -26,7 +26,7 @@ module _ (r : Record) (words s : List ℕ) where
     unfolding compareOf compareNumber pick
     compare-no-vector e = rw (sound, e)
 
-    pub compare-done : isVector (r .n) s ≡ true → {answers : List ℕ} → answers ≡ nine (answersTo (r .n) (countsIn (r .n) s) (versions r words))
+    pub compare-done : isVector (r .n) s ≡ true → {answers : List ℕ} → answers ≡ nine (answersTo (startOf r) (countsIn (r .n) s) (versions r words))
         → _≡_ {A = Compared} (record { number = 0; answers = answers }) (compareOf r words s)
     unfolding compareOf compareNumber pick
     compare-done e q = rw (sound, e) (ap (λ (l : List ℕ). record { number = 0; answers = l }) q)

@@ -1,27 +1,31 @@
 -- Each way out of `write`.
+--     start-long, start-few            there are n kept counts, each within the limit of a log
 --     countable                        what the walks over a sound record's ballots ask
 --     write-unsound                    refused with 1
 --     write-short, write-done          refused with 6 or done, by what was written
 -- Assumes nothing.
 use mathlib.Core.Path.{_≡_, sym, ap, _∙_}
 use mathlib.Core.Bool.{false}
-use mathlib.Core.List.{List}
-use Prim.Native.Nat.{ℕ, _<_, _≤_}
+use mathlib.Core.List.{List, [], _∷_}
+use Prim.Native.Nat.{ℕ, zero, suc, _<_, _≤_}
 use native.Mathlib.Omega.{arith}
 use lib.ListN.{length, take}
+use lib.Seq.{length-take-le}
 use Rattle.lists.specs.Tests.{pick}
 use Rattle.lists.proofs.Tests.{all-mono}
+use Rattle.protocol.specs.Counts.{countOf}
 use Rattle.ballots.specs.Ballots.{ballotFine, ballotShape}
 use Rattle.ballots.proofs.Eight.{shape-of}
 use Rattle.writer.specs.Written.{writtenBytes, writtenLength}
 use Rattle.writer.proofs.Whole.{answer-fits, answer-short}
-use Rattle.vectors.specs.Vectors.{Countable}
+use Rattle.vectors.specs.Vectors.{Countable, EachAtMost, mostKept}
 use Rattle.vectors.proofs.Vectors.{size-is}
+use Rattle.frame.specs.State.{heldLength}
 use Rattle.frame.specs.Soundness.{soundB, Sound}
 use Rattle.frame.specs.declared.Record.{Record}
 use Rattle.frame.proofs.Sound.{sound-true}
-use Rattle.frame.proofs.State.{log-length}
-use Rattle.archive.specs.Writing.{vectorsOf, writeBytes, writeNumber, writeOf}
+use Rattle.frame.proofs.State.{log-length, longest, room-for}
+use Rattle.archive.specs.Writing.{startOf, vectorsOf, writeBytes, writeNumber, writeOf}
 use Rattle.archive.specs.declared.Written.{Written}
 
 -- what an answer and the output after it are to be
@@ -32,13 +36,30 @@ pub write-unsound : (r : Record) (words out : List ℕ) → soundB r words ≡ f
 unfolding writeOf writeBytes writeNumber pick
 write-unsound r words out e = (simp e, simp e)
 
+-- the first counts are no larger than all
+take-most : (n : ℕ) (counts : List ℕ) (k : ℕ) → countOf (take n counts) k ≤ countOf counts k
+take-most zero counts k = omega arith
+take-most (suc n) [] k = omega arith
+take-most (suc n) (c ∷ counts) zero = omega arith
+take-most (suc n) (c ∷ counts) (suc k) = take-most n counts k
+
 module _ (r : Record) (words : List ℕ) (S : Sound r words) where
-  pub countable : Countable (r .n) (take (r .settled) words) (r .ballots)
+  kept-few : EachAtMost mostKept (r .kept .counts)
+  kept-few k = omega (arith, room-for r words S 0 (omega arith) .within k, S .within, longest r words S)
+
+  pub start-long : length (startOf r) ≡ r .n
+  start-long = length-take-le (r .n) (r .kept .counts) (omega (arith, S .kept .offices, S .head .most))
+
+  pub start-few : EachAtMost mostKept (startOf r)
+  start-few k = omega (arith, take-most (r .n) (r .kept .counts) k, kept-few k)
+
+  pub countable : Countable (r .n) (r .kept .counts) (take (heldLength r) words) (r .ballots)
   countable = record {
     some = S .head .some;
     most = S .head .most;
+    kept = kept-few;
     few = omega (arith, log-length r words S, S .most);
-    shapes = all-mono (ballotFine (r .n) (r .settled)) ballotShape (shape-of (r .n) (r .settled)) (r .ballots) (S .fine);
+    shapes = all-mono (ballotFine (r .n) (heldLength r)) ballotShape (shape-of (r .n) (heldLength r)) (r .ballots) (S .fine);
   }
 
   offices-some : r .n ≤ length (r .ballots)
@@ -46,7 +67,7 @@ module _ (r : Record) (words : List ℕ) (S : Sound r words) where
 
   -- there is a vector at least, with a count
   vectors-some : 0 < length (vectorsOf r words)
-  vectors-some = omega (arith, size-is (r .n) (take (r .settled) words) (r .ballots) offices-some, S .head .some)
+  vectors-some = omega (arith, size-is (r .n) (startOf r) start-long (take (heldLength r) words) (r .ballots) offices-some, S .head .some)
 
   -- the answer k of what writes, and the output after it
   module _ (out : List ℕ) {k : ℕ} {out' : List ℕ} (answer : k ≡ writtenLength (vectorsOf r words) out) (after : out' ≡ writtenBytes (vectorsOf r words) out) where

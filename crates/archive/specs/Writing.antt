@@ -1,8 +1,9 @@
--- Request (xi): "Write, and answer the length of, the vectors .. of the settled log and then of all n offices' paths". Assumes nothing.
+-- Request (xi): "Write, and answer the length of, the vectors .. of the settled log and then of all n offices' paths"; (xiv) their counts start from
+-- the kept ones. Assumes nothing.
 use Prim.Native.Nat.{ℕ}
 use mathlib.Core.List.{List, _++_}
 use lib.Dec.{eqb, ltb}
-use lib.ListN.{length, drop}
+use lib.ListN.{length, take, drop}
 use Rattle.lists.specs.Tests.{pick}
 use Rattle.vectors.specs.Vectors.{versionsBytes, versionsOf}
 use Rattle.frame.specs.State.{heldBy}
@@ -10,13 +11,17 @@ use Rattle.frame.specs.Soundness.{soundB}
 use Rattle.frame.specs.declared.Record.{Record}
 use Rattle.archive.specs.declared.Written.{Written}
 
--- the log and the n paths of a record with its log
+-- the kept counts of the n offices
+abbrev pub startOf : Record → List ℕ
+startOf r = take (r .n) (r .kept .counts)
+
+-- the log and the n paths of a record with its log, without the dropped entries
 abbrev pub versions : Record → List ℕ → List (List ℕ)
 versions r words = versionsOf (r .n) (heldBy r words)
 
 -- the bytes of their vectors
 abbrev pub vectorsOf : Record → List ℕ → List ℕ
-vectorsOf r words = versionsBytes (r .n) (versions r words)
+vectorsOf r words = versionsBytes (startOf r) (versions r words)
 
 -- 1: "record unsound, or log below 1024 words"; "6, after 1, if the output is too short"
 unfoldable pub writeNumber : Record → List ℕ → List ℕ → ℕ

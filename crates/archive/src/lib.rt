@@ -29,9 +29,10 @@ pub fn write(office: Record, log: &[u32], out: &mut [u8]) -> Written
             length: 0,
         };
     }
-    let settled = office.settled;
+    let held = (office.settled - office.kept.dropped) as usize;
+    let counts = office.kept.counts;
     let ballots = office.ballots;
-    let length = vectors::write(office.n, &log[..settled], ballots, out);
+    let length = vectors::write(office.n, counts, &log[..held], ballots, out);
     if length == 0 {
         return Written {
             number: 6,
@@ -57,8 +58,9 @@ pub fn compare(office: Record, log: &[u32], vector: &[u8]) -> Compared
             answers: [versions::BESIDE; 9],
         };
     }
-    let settled = office.settled;
+    let held = (office.settled - office.kept.dropped) as usize;
+    let counts = office.kept.counts;
     let ballots = office.ballots;
-    let answers = versions::answers(office.n, &log[..settled], ballots, vector);
+    let answers = versions::answers(office.n, counts, &log[..held], ballots, vector);
     Compared { number: 0, answers }
 }

@@ -2,6 +2,7 @@
 --     lacking-set, lacking-most     a store changes the number of cells that are 0 by what it overwrites and what it stores; they are at most all
 --     Asking                        while lines are named: the cells of those named so far are 0, all others 1
 --     noted-kept, noted-stored      what the code does when a word is read
+--     kept-none, kept-some          what it shows of a line: the kept code, or the edit
 --     Walking                       while words are read: what is left to read, from the edits so far, gives what the whole walk gives
 -- Assumes nothing.
 use mathlib.Core.Path.{_≡_, refl, sym, ap, ap₂, subst, fun-ext, _∙_}
@@ -24,13 +25,13 @@ use Rattle.protocol.specs.Entry.{lineOf, codeOf}
 use Rattle.protocol.specs.Codes.{cell, ofCell}
 use Rattle.protocol.specs.Vote.{isNone}
 use Rattle.protocol.proofs.Codes.{cell-of}
-use Rattle.backward.specs.Runs.{Named}
-use Rattle.backward.specs.Walk.{Reading, orElse, editBy, noting, answered, behind, walk, walkBack}
-use Rattle.backward.specs.Cells.{isLacking, lacking, naming, namedCells, isFirst, noted, newEdits, placed, cellsAt, askedOf, walkedOf}
+use Rattle.backward.specs.Runs.{Named, keptEdit}
+use Rattle.backward.specs.Walk.{Reading, orElse, orOther, editBy, noting, answered, behind, walk, walkBack}
+use Rattle.backward.specs.Cells.{isLacking, lacking, naming, namedCells, isFirst, noted, newEdits, orKept, placed, cellsAt, askedOf, walkedOf}
 use Rattle.backward.specs.declared.Asked.{Asked}
 use Rattle.backward.specs.declared.Walked.{Walked}
 use Rattle.backward.proofs.Members.{all-mem, all-each, map-each}
-use Rattle.backward.proofs.Reading.{noting-map}
+use Rattle.backward.proofs.Reading.{other-map}
 
 -- ── how many are 0 ──
 pub lacking-set : (cells : List ℕ) (i x : ℕ) → i < length cells → lacking (set cells i x) + isLacking (getD cells i 0) ≡ lacking cells + isLacking x
@@ -223,6 +224,17 @@ noted-stored cells v line e z =
     let t : isFirst cells v ≡ true = eq-eqb (getD cells (lineOf v) 0) 0 (ap (λ (k : ℕ). getD cells k 0) (sym e) ∙ z) in
     (ap₂ (set cells) e (add-one (codeOf v)) ∙ sym (pick-true _ _ _ t), sym (pick-true _ _ _ t))
 
+pub kept-none : (edit kept : ℕ) → edit ≡ 0 → kept ≡ orKept edit kept
+kept-none edit kept e = sym (ap (λ (c : ℕ). orKept c kept) e)
+
+pub kept-some : (edit kept : ℕ) → (edit ≡ 0 → ⊥) → edit ≡ orKept edit kept
+kept-some zero kept h = absurd (h refl)
+kept-some (suc edit) kept h = refl
+
+kept-cell : (edit kept : ℕ) → cell (orElse (ofCell edit) (ofCell kept)) ≡ orKept edit kept
+kept-cell zero kept = cell-of kept
+kept-cell (suc edit) kept = refl
+
 some-cell : (c : ℕ) → (c ≡ 0 → ⊥) → not (isNone (ofCell c)) ≡ true
 some-cell zero h = absurd (h refl)
 some-cell (suc c) h = refl
@@ -306,7 +318,7 @@ module _ (lines entries : List ℕ) (named : Named lines) where
       stepped : walk end lines entries (told cells lines) ≡ behind 1 next
       stepped =
           ap (λ (n : ℕ). walk n lines entries (told cells lines)) e ∙ walk-goes j lines entries (told cells lines) (not-answered h)
-          ∙ ap (λ (os : List (Option ℕ)). behind 1 (walk j lines entries os)) (noting-map v (λ (line : ℕ). ofCell (getD cells line 0)) lines
+          ∙ ap (λ (os : List (Option ℕ)). behind 1 (walk j lines entries os)) (other-map (editBy v) (λ (line : ℕ). ofCell (getD cells line 0)) lines
           ∙ map-each (λ (line : ℕ). orElse (ofCell (getD cells line 0)) (editBy v line)) (λ (line : ℕ). ofCell (getD (noted cells v) line 0)) lines
           (λ line m. sym (noted-at cells v line (omega (arith, w .long, has-cell line m)))))
 
@@ -337,10 +349,10 @@ module _ (lines entries : List ℕ) (named : Named lines) where
     stops (inl e) = walk-stops end lines entries (told cells lines) (all-answered e)
     stops (inr e) = ap (λ (n : ℕ). walk n lines entries (told cells lines)) e ∙ walk-front lines entries (told cells lines)
 
-    pub walking-ends : (left ≡ 0) ⊎ (end ≡ 0) → (edits : List ℕ) → edits ≡ placed (cellsAt cells lines)
-        → _≡_ {A = Walked} (record { words = length entries - end; edits = edits }) (walkedOf entries lines)
+    pub walking-ends : (left ≡ 0) ⊎ (end ≡ 0) → (codes edits : List ℕ) → edits ≡ placed (cellsAt codes cells lines)
+        → _≡_ {A = Walked} (record { words = length entries - end; edits = edits }) (walkedOf entries lines codes)
     unfolding walkedOf
-    walking-ends s edits q = λ i. record { words = words i; edits = shown i }
+    walking-ends s codes edits q = λ i. record { words = words i; edits = shown i }
       where
         read : walkBack lines entries ≡ record { frame = told cells lines; words = length entries - end + 0 }
         read = sym (w .gives) ∙ ap (behind (length entries - end)) (stops s)
@@ -348,6 +360,8 @@ module _ (lines entries : List ℕ) (named : Named lines) where
         words : length entries - end ≡ walkBack lines entries .words
         words = omega (arith, ap (λ (r : Reading). r .words) read)
 
-        shown : edits ≡ placed (map cell (walkBack lines entries .frame))
-        shown = q ∙ ap placed (sym (ap (λ (r : Reading). map cell (r .frame)) read ∙ map-map cell (λ (line : ℕ). ofCell (getD cells line 0)) lines
-            ∙ ap (λ (f : ℕ → ℕ). map f lines) (fun-ext (λ line. cell-of (getD cells line 0)))))
+        shown : edits ≡ placed (map cell (orOther (keptEdit codes) lines (walkBack lines entries .frame)))
+        shown = q ∙ ap placed (sym (ap (λ (r : Reading). map cell (orOther (keptEdit codes) lines (r .frame))) read
+            ∙ ap (map cell) (other-map (keptEdit codes) (λ (line : ℕ). ofCell (getD cells line 0)) lines)
+            ∙ map-map cell (λ (line : ℕ). orElse (ofCell (getD cells line 0)) (keptEdit codes line)) lines
+            ∙ ap (λ (f : ℕ → ℕ). map f lines) (fun-ext (λ line. kept-cell (getD cells line 0) (getD codes line 0)))))

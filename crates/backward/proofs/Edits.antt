@@ -1,4 +1,5 @@
 -- The edit of a line, from the end of the entries.
+--     edit-behind     what stood before counts where the entries have no edit
 --     edit-cons       an entry in front counts where those behind it have no edit
 --     some-edits      there is an edit exactly where an entry is for the line
 --     edits-front     entries in front of a run that has an edit for each line change none
@@ -27,8 +28,7 @@ unfolding pick
 or-pick true code o = refl
 or-pick false code o = refl
 
--- what stood before counts where the log has no edit
-edit-behind : (line : ℕ) (before : Option ℕ) (l : List ℕ) → editAfter line before l ≡ orElse (lastEdit line l) before
+pub edit-behind : (line : ℕ) (before : Option ℕ) (l : List ℕ) → editAfter line before l ≡ orElse (lastEdit line l) before
 unfolding editAfter
 edit-behind line before [] = refl
 edit-behind line before (v ∷ l) =

@@ -1,9 +1,9 @@
 -- The answer's 64 places.
 --     named-at                       a line named is one of the frame
---     placing-begins, -again, -ends  the first i places hold what the cells say of the lines
+--     placing-again, -ends           the first i places hold what the cells, or else the kept codes, say of the lines
 --     getD-mapped, placed-at, placed-past    what stands at a place
 -- Assumes nothing.
-use mathlib.Core.Path.{_≡_, refl, sym, ap, _∙_}
+use mathlib.Core.Path.{_≡_, refl, sym, ap, ap₂, _∙_}
 use mathlib.Core.List.{List, [], _∷_, _++_, map}
 use Prim.Native.Nat.{ℕ, zero, suc, _+_, _-_, _≤_, _<_}
 use native.Mathlib.Nat.{not-suc-le-zero, le-of-suc-le-suc}
@@ -16,7 +16,7 @@ use borrow.Author.Tests.{leb-true}
 use Rattle.lists.proofs.Tests.{all-at, getD-replicate}
 use Rattle.lists.proofs.Fill.{filled, front-step}
 use Rattle.backward.specs.Runs.{Named}
-use Rattle.backward.specs.Cells.{placed, cellsAt}
+use Rattle.backward.specs.Cells.{orKept, placed, cellsAt}
 
 pub named-at : (lines : List ℕ) → Named lines → (i : ℕ) → i < length lines → getD lines i 0 ≤ 63
 named-at lines n i h = leb-true (getD lines i 0) 63 (all-at (λ (line : ℕ). leb line 63) 0 lines i (n .each) h)
@@ -34,23 +34,27 @@ drop-zeros (suc k) zero = ap (λ (m : ℕ). replicate {A = ℕ} m 0) none
     none = omega arith
 drop-zeros (suc k) (suc n) = simp unary-clauses (drop-zeros k n)
 
-module _ (cells lines : List ℕ) where
+module _ (codes cells lines : List ℕ) where
+  -- what is shown of a line
+  abbrev shown : ℕ → ℕ
+  shown line = orKept (getD cells line 0) (getD codes line 0)
+
   abbrev pub Placing : List ℕ → ℕ → Type 0
-  Placing edits i = edits ≡ filled (cellsAt cells lines) (replicate 64 0) i
+  Placing edits i = edits ≡ filled (cellsAt codes cells lines) (replicate 64 0) i
 
-  as-long : length (cellsAt cells lines) ≡ length lines
-  as-long = length-map lines (λ (line : ℕ). getD cells line 0)
+  as-long : length (cellsAt codes cells lines) ≡ length lines
+  as-long = length-map lines shown
 
-  pub placing-again : (edits : List ℕ) (i : ℕ) → Placing edits i → i < length lines → length lines ≤ 64 → Placing (set edits i (getD cells (getD lines i 0) 0)) (i + 1)
-  placing-again edits i e h few =
-      ap (λ (l : List ℕ). set l i (getD cells (getD lines i 0) 0)) e
-      ∙ ap (set (filled (cellsAt cells lines) (replicate 64 0) i) i) (sym (getD-mapped (λ (line : ℕ). getD cells line 0) lines i h))
-      ∙ front-step 0 (cellsAt cells lines) (replicate 64 0) i (omega (arith, as-long)) (omega (arith, length-replicate {A = ℕ} 64 0))
+  pub placing-again : (edits : List ℕ) (i : ℕ) → Placing edits i → i < length lines → length lines ≤ 64 → (edit : ℕ)
+      → edit ≡ orKept (getD cells (getD lines i 0) 0) (getD codes (getD lines i 0) 0) → Placing (set edits i edit) (i + 1)
+  placing-again edits i e h few edit s =
+      ap₂ (λ (l : List ℕ) (x : ℕ). set l i x) e (s ∙ sym (getD-mapped shown lines i h))
+      ∙ front-step 0 (cellsAt codes cells lines) (replicate 64 0) i (omega (arith, as-long)) (omega (arith, length-replicate {A = ℕ} 64 0))
 
-  pub placing-ends : (edits : List ℕ) (i : ℕ) → Placing edits i → i ≡ length lines → edits ≡ placed (cellsAt cells lines)
+  pub placing-ends : (edits : List ℕ) (i : ℕ) → Placing edits i → i ≡ length lines → edits ≡ placed (cellsAt codes cells lines)
   placing-ends edits i e q =
-      e ∙ ap (λ (l : List ℕ). l ++ drop i (replicate 64 0)) (take-all i (cellsAt cells lines) (omega (arith, as-long)))
-      ∙ ap (λ (l : List ℕ). cellsAt cells lines ++ l) (ap (λ (k : ℕ). drop k (replicate 64 0)) (q ∙ sym as-long) ∙ drop-zeros (length (cellsAt cells lines)) 64)
+      e ∙ ap (λ (l : List ℕ). l ++ drop i (replicate 64 0)) (take-all i (cellsAt codes cells lines) (omega (arith, as-long)))
+      ∙ ap (λ (l : List ℕ). cellsAt codes cells lines ++ l) (ap (λ (k : ℕ). drop k (replicate 64 0)) (q ∙ sym as-long) ∙ drop-zeros (length (cellsAt codes cells lines)) 64)
 
 pub placed-at : (edits : List ℕ) (i : ℕ) → i < length edits → getD (placed edits) i 0 ≡ getD edits i 0
 placed-at edits i h = List·getD-append edits (replicate (64 - length edits) 0) 0 i h

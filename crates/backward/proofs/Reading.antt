@@ -1,27 +1,34 @@
 -- The walk.
---     noting-map      a word read, where the edits so far are by line
+--     other-map       lines with no edit yet have another one, where the edits so far are by line
 --     words-read      it reads the shortest run that has an edit for each line named, or all words
 --     frame-read      what it shows is the last edit of each line named
---     walked-is       so that the code's answer is both
+--     walked-is       so that the code's answer is both, with the kept codes of the lines that have no edit
+--     kept-front      with the codes of entries in front, each line named has the edit that it has with these entries
+--     none-kept       with no code kept, its last edit
 -- Assumes nothing.
 use mathlib.Core.Path.{_≡_, refl, sym, ap, subst, fun-ext, _∙_}
-use mathlib.Core.List.{List, [], _∷_, map, map-map}
+use mathlib.Core.List.{List, [], _∷_, _++_, map, map-map}
 use mathlib.Core.Option.{Option, none}
 use mathlib.Core.Bool.{Bool, true, false}
 use mathlib.Core.Logic.{_⊎_, inl, inr}
 use Prim.Native.Nat.{ℕ, zero, suc, _+_, _-_, _≤_, _<_}
 use native.Mathlib.Nat.{not-suc-le-zero, le-of-suc-le-suc, eq-or-lt-of-le}
 use native.Mathlib.Omega.{arith}
+use lib.Dec.{leb}
 use lib.ListN.{length, getD, take, drop, take-append-drop, drop-of-length-le}
 use lib.Seq.{drop-cons}
+use borrow.Author.Tests.{leb-true}
 use Rattle.lists.specs.Tests.{pick, allB}
-use Rattle.lists.proofs.Tests.{all-mapped, pick-cases}
-use Rattle.protocol.specs.Codes.{cell}
+use Rattle.lists.proofs.Tests.{all-mapped, getD-replicate, pick-cases}
+use Rattle.protocol.specs.Codes.{cell, ofCell, noCodes, codesAfter}
 use Rattle.protocol.specs.Frames.{editAfter, lastEdit}
-use Rattle.backward.specs.Runs.{editsOf, editsAll, runHas, shortestRun, Shortest}
-use Rattle.backward.specs.Walk.{Reading, orElse, editBy, noting, answered, behind, walk, walkBack}
+use Rattle.protocol.proofs.Codes.{cell-back, codes-at}
+use Rattle.protocol.proofs.Frames.{edit-append}
+use Rattle.backward.specs.Runs.{ofFrame, keptEdit, editsOf, editsAll, runHas, shortestRun, Shortest}
+use Rattle.backward.specs.Walk.{Reading, orElse, orOther, editBy, noting, answered, behind, walk, walkBack}
 use Rattle.backward.specs.Cells.{placed, walkedOf}
-use Rattle.backward.proofs.Edits.{edit-cons, some-edits, edits-front}
+use Rattle.backward.proofs.Members.{all-mem, map-each}
+use Rattle.backward.proofs.Edits.{edit-behind, edit-cons, some-edits, edits-front}
 use Rattle.backward.proofs.Runs.{shortest-one, shortest-is}
 
 -- the edits that a part of the entries gives
@@ -31,13 +38,13 @@ from lines l = map (λ (line : ℕ). lastEdit line l) lines
 answered-is : (lines l : List ℕ) → answered (from lines l) ≡ editsAll lines l
 answered-is lines l = all-mapped _ _ lines ∙ ap (λ (t : ℕ → Bool). allB t lines) (fun-ext (λ line. some-edits line l))
 
-pub noting-map : (v : ℕ) (o : ℕ → Option ℕ) (lines : List ℕ) → noting v lines (map o lines) ≡ map (λ (line : ℕ). orElse (o line) (editBy v line)) lines
-noting-map v o [] = refl
-noting-map v o (line ∷ lines) = ap (λ (os : List (Option ℕ)). orElse (o line) (editBy v line) ∷ os) (noting-map v o lines)
+pub other-map : (other o : ℕ → Option ℕ) (lines : List ℕ) → orOther other lines (map o lines) ≡ map (λ (line : ℕ). orElse (o line) (other line)) lines
+other-map other o [] = refl
+other-map other o (line ∷ lines) = ap (λ (os : List (Option ℕ)). orElse (o line) (other line) ∷ os) (other-map other o lines)
 
 noting-is : (v : ℕ) (lines l : List ℕ) → noting v lines (from lines l) ≡ from lines (v ∷ l)
 noting-is v lines l =
-    noting-map v (λ (line : ℕ). lastEdit line l) lines ∙ ap (λ (f : ℕ → Option ℕ). map f lines) (fun-ext (λ line. sym (edit-cons line v l)))
+    other-map (editBy v) (λ (line : ℕ). lastEdit line l) lines ∙ ap (λ (f : ℕ → Option ℕ). map f lines) (fun-ext (λ line. sym (edit-cons line v l)))
 
 module _ (lines entries : List ℕ) where
   abbrev p : ℕ
@@ -114,9 +121,25 @@ module _ (lines entries : List ℕ) where
       go (inl e) = sym (edits-front lines (take (begun .stop) entries) (part (begun .stop)) e) ∙ ap (from lines) (take-append-drop (begun .stop) entries)
       go (inr e) = rw e
 
-  pub walked-is : walkedOf entries lines ≡ record { words = shortestRun lines entries; edits = placed (editsOf lines entries) }
+  pub walked-is : (codes : List ℕ) → walkedOf entries lines codes ≡ record { words = shortestRun lines entries; edits = placed (editsOf lines codes entries) }
   unfolding walkedOf
-  walked-is = λ i. record { words = words-read i; edits = placed (shown i) }
+  walked-is codes = λ i. record { words = words-read i; edits = placed (shown i) }
     where
-      shown : map cell (walkBack lines entries .frame) ≡ editsOf lines entries
-      shown = ap (map cell) frame-read ∙ map-map cell (λ (line : ℕ). lastEdit line entries) lines
+      found : orOther (keptEdit codes) lines (walkBack lines entries .frame) ≡ map (λ (line : ℕ). editAfter line (keptEdit codes line) entries) lines
+      found =
+          ap (orOther (keptEdit codes) lines) frame-read ∙ other-map (keptEdit codes) (λ (line : ℕ). lastEdit line entries) lines
+          ∙ ap (λ (f : ℕ → Option ℕ). map f lines) (fun-ext (λ line. sym (edit-behind line (keptEdit codes line) entries)))
+
+      shown : map cell (orOther (keptEdit codes) lines (walkBack lines entries .frame)) ≡ editsOf lines codes entries
+      shown = ap (map cell) found ∙ map-map cell (λ (line : ℕ). editAfter line (keptEdit codes line) entries) lines
+
+-- ── entries in front, of which the codes are kept ──
+pub kept-front : (lines codes x y : List ℕ) → ofFrame lines ≡ true → length codes ≡ 64 → editsOf lines (codesAfter codes x) y ≡ editsOf lines codes (x ++ y)
+kept-front lines codes x y each long = map-each _ _ lines (λ line m.
+    let l : line < length codes = omega (arith, leb-true line 63 (all-mem (λ (k : ℕ). leb k 63) m each)) in
+    ap (λ (o : Option ℕ). cell (editAfter line o y)) (ap ofCell (codes-at codes x line l) ∙ cell-back (editAfter line (keptEdit codes line) x))
+    ∙ ap cell (sym (edit-append line (keptEdit codes line) x y)))
+
+pub none-kept : (lines entries : List ℕ) → editsOf lines noCodes entries ≡ map (λ (line : ℕ). cell (lastEdit line entries)) lines
+none-kept lines entries =
+    ap (λ (f : ℕ → ℕ). map f lines) (fun-ext (λ line. ap (λ (k : ℕ). cell (editAfter line (ofCell k) entries)) (getD-replicate {A = ℕ} 64 0 line)))

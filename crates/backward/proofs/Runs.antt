@@ -16,9 +16,9 @@ use lib.ListN.{length}
 use Rattle.lists.specs.Tests.{allB}
 use Rattle.lists.proofs.Tests.{alike, pick-cases}
 use Rattle.protocol.specs.Codes.{cell}
-use Rattle.protocol.specs.Frames.{lastEdit}
+use Rattle.protocol.specs.Frames.{editAfter}
 use Rattle.backward.proofs.Members.{all-mem, all-each}
-use Rattle.backward.specs.Runs.{editsOf, runHas, leastUpTo, shortestRun, Shortest, SameLines}
+use Rattle.backward.specs.Runs.{keptEdit, editsOf, runHas, leastUpTo, shortestRun, Shortest, SameLines}
 
 pub shortest-one : (p : ℕ) (has : ℕ → Bool) (r s : ℕ) → Shortest p has r → Shortest p has s → r ≡ s
 shortest-one p has r s a b =
@@ -80,9 +80,9 @@ same-lines lines others entries same = ap (leastUpTo (length entries)) (fun-ext 
     test : (r : ℕ) → runHas lines entries r ≡ runHas others entries r
     test r = alike _ _ (all-within _ others lines (λ x. same x .1)) (all-within _ lines others (λ x. same x .0))
 
-pub named-twice : (line : ℕ) (lines entries : List ℕ) → List·Memᴰ line lines
-    → (shortestRun (line ∷ lines) entries ≡ shortestRun lines entries) × (editsOf (line ∷ lines) entries ≡ cell (lastEdit line entries) ∷ editsOf lines entries)
-named-twice line lines entries m = (same-lines (line ∷ lines) lines entries (λ x. (λ k. go x (List·Memᴰ·cases-cons k), List·Memᴰ·tail)), refl)
+pub named-twice : (line : ℕ) (lines codes entries : List ℕ) → List·Memᴰ line lines
+    → (shortestRun (line ∷ lines) entries ≡ shortestRun lines entries) × (editsOf (line ∷ lines) codes entries ≡ cell (editAfter line (keptEdit codes line) entries) ∷ editsOf lines codes entries)
+named-twice line lines codes entries m = (same-lines (line ∷ lines) lines entries (λ x. (λ k. go x (List·Memᴰ·cases-cons k), List·Memᴰ·tail)), refl)
   where
     go : (x : ℕ) → (x ≡ line) ⊎ List·Memᴰ x lines → List·Memᴰ x lines
     go x (inl e) = rw e m

@@ -9,7 +9,8 @@ use lib.ListN.{length, getD, set, replicate}
 use Rattle.lists.specs.Tests.{pick}
 use Rattle.protocol.specs.Entry.{lineOf, codeOf}
 use Rattle.protocol.specs.Codes.{cell}
-use Rattle.backward.specs.Walk.{walkBack}
+use Rattle.backward.specs.Runs.{keptEdit}
+use Rattle.backward.specs.Walk.{orOther, walkBack}
 use Rattle.backward.specs.declared.Asked.{Asked}
 use Rattle.backward.specs.declared.Walked.{Walked}
 
@@ -46,10 +47,15 @@ newEdits cells v = pick (isFirst cells v) 1 0
 abbrev pub placed : List ℕ → List ℕ
 placed edits = edits ++ replicate (64 - length edits) 0
 
--- what the cells say of the lines
-abbrev pub cellsAt : List ℕ → List ℕ → List ℕ
-cellsAt cells lines = map (λ (line : ℕ). getD cells line 0) lines
+-- an edit as it is stored, or else the kept one
+abbrev pub orKept : ℕ → ℕ → ℕ
+orKept zero kept = kept
+orKept (suc edit) kept = suc edit
 
--- the answer of the walk
-unfoldable pub walkedOf : List ℕ → List ℕ → Walked
-walkedOf entries lines = record { words = walkBack lines entries .words; edits = placed (map cell (walkBack lines entries .frame)) }
+-- what the cells say of the lines, or else the kept codes
+abbrev pub cellsAt : List ℕ → List ℕ → List ℕ → List ℕ
+cellsAt codes cells lines = map (λ (line : ℕ). orKept (getD cells line 0) (getD codes line 0)) lines
+
+-- the answer of the walk: a line with no edit then has its kept code
+unfoldable pub walkedOf : List ℕ → List ℕ → List ℕ → Walked
+walkedOf entries lines codes = record { words = walkBack lines entries .words; edits = placed (map cell (orOther (keptEdit codes) lines (walkBack lines entries .frame))) }

@@ -1,16 +1,17 @@
--- Request (x): "That number is the length of the shortest run ending at p that has an edit for each named line, or p if no run has." The first p
--- entries are the list `entries` here, so a run that ends at p is its end. Assumes nothing.
+-- Request (x): "That number is the length of the shortest run ending at p that has an edit for each named line, or p if no run has." Those of the
+-- first p entries that are not dropped (xiv) are the list `entries` here, so a run that ends at p is its end. Assumes nothing.
 use mathlib.Core.Path.{_≡_}
 use mathlib.Core.List.{List, [], _∷_, map, List·Memᴰ}
+use mathlib.Core.Option.{Option}
 use mathlib.Core.Bool.{Bool, true, false, _||_}
 use mathlib.Core.Logic.{_⊎_, _↔_}
 use Prim.Native.Nat.{ℕ, zero, suc, _-_, _≤_, _<_}
 use lib.Dec.{eqb, leb}
-use lib.ListN.{length, drop}
+use lib.ListN.{length, getD, drop}
 use Rattle.lists.specs.Tests.{pick, allB}
 use Rattle.protocol.specs.Entry.{lineOf}
-use Rattle.protocol.specs.Codes.{cell}
-use Rattle.protocol.specs.Frames.{lastEdit}
+use Rattle.protocol.specs.Codes.{cell, ofCell}
+use Rattle.protocol.specs.Frames.{editAfter}
 
 -- up to 64 lines of the frame
 abbrev pub ofFrame : List ℕ → Bool
@@ -20,9 +21,14 @@ pub record Named (lines : List ℕ) : Type 0 where
   pub few : length lines ≤ 64
   pub each : ofFrame lines ≡ true
 
--- "reads the frame as it stood": the last edit of each line named, in their order, as it is stored
-abbrev pub editsOf : List ℕ → List ℕ → List ℕ
-editsOf lines entries = map (λ (line : ℕ). cell (lastEdit line entries)) lines
+-- what the codes kept of dropped entries say of a line
+abbrev pub keptEdit : List ℕ → ℕ → Option ℕ
+keptEdit codes line = ofCell (getD codes line 0)
+
+-- "reads the frame as it stood": the last edit of each line named, in their order, as it is stored; (xiv) it "uses the kept codes" where the entries
+-- have none
+abbrev pub editsOf : List ℕ → List ℕ → List ℕ → List ℕ
+editsOf lines codes entries = map (λ (line : ℕ). cell (editAfter line (keptEdit codes line) entries)) lines
 
 -- the run of length r
 abbrev pub runOf : ℕ → List ℕ → List ℕ

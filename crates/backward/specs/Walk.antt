@@ -23,11 +23,15 @@ orElse (some code) other = some code
 abbrev pub editBy : ℕ → ℕ → Option ℕ
 editBy v line = pick (eqb (lineOf v) line) (some (codeOf v)) none
 
+-- a line with no edit yet has what `other` says of it
+abbrev pub orOther : (ℕ → Option ℕ) → List ℕ → List (Option ℕ) → List (Option ℕ)
+orOther other [] os = []
+orOther other (line ∷ lines) [] = []
+orOther other (line ∷ lines) (o ∷ os) = orElse o (other line) ∷ orOther other lines os
+
 -- the word v is read: a line with no edit yet has v's code if v is for it
 abbrev pub noting : ℕ → List ℕ → List (Option ℕ) → List (Option ℕ)
-noting v [] os = []
-noting v (line ∷ lines) [] = []
-noting v (line ∷ lines) (o ∷ os) = orElse o (editBy v line) ∷ noting v lines os
+noting v = orOther (editBy v)
 
 abbrev pub answered : List (Option ℕ) → Bool
 answered os = allB (λ (o : Option ℕ). not (isNone o)) os
@@ -41,6 +45,6 @@ unfoldable pub walk : ℕ → List ℕ → List ℕ → List (Option ℕ) → Re
 walk zero lines entries os = record { frame = os; words = 0 }
 walk (suc i) lines entries os = pick (answered os) (record { frame = os; words = 0 }) (behind 1 (walk i lines entries (noting (getD entries i 0) lines os)))
 
--- back from the end of the entries
+-- back from the end of the entries; (xiv) "its walk stops at" the dropped part, which is before the first of them
 abbrev pub walkBack : List ℕ → List ℕ → Reading
 walkBack lines entries = walk (length entries) lines entries (map (λ (line : ℕ). none) lines)

@@ -1,10 +1,11 @@
-// A walk over words from their end, for up to 64 lines of the frame together, that stops when each line has its edit.
+// A walk over words from their end, for up to 64 lines of the frame together, that stops when each line has its edit. Where the words have none for a
+// line, it is the one that is kept of what was before them.
 ghost use mathlib.Core.Path.{_≡_};
 ghost use Prim.Native.Nat.{_<_};
 ghost use lib.ListN.{length};
 ghost use Rattle.protocol.specs.Entry.{lineOf};
 ghost use Rattle.backward.specs.Runs.{Named};
-ghost use Rattle.backward.specs.Cells.{askedOf, noted, newEdits, placed, cellsAt, walkedOf};
+ghost use Rattle.backward.specs.Cells.{askedOf, noted, newEdits, orKept, placed, cellsAt, walkedOf};
 
 // A cell for each number that a word's line can be: 0 if the line is named and has no edit yet, else not 0. `left` of them are 0.
 pub struct Asked {
@@ -52,23 +53,34 @@ fn note(cells: &mut [u32; 256], word: u32) -> u32
     1
 }
 
-// What the cells say of the lines; past them no edit yet.
-fn answers(cells: &[u32; 256], lines: &[u32]) -> [u32; 64]
+// The edit, or the kept one if there is none.
+fn or_kept(edit: u32, kept: u32) -> u32
+    ensures { λ r. ⌜ r ≡ orKept edit kept ⌝ }
+{
+    if edit != 0 {
+        return edit;
+    }
+    kept
+}
+
+// What the cells say of the lines, or else the kept codes; past the lines no edit yet.
+fn answers(cells: &[u32; 256], lines: &[u32], codes: [u32; 64]) -> [u32; 64]
     requires { ⌜ Named (now lines) ⌝ }
-    ensures { λ r. ⌜ r ≡ placed (cellsAt (now (cells .entry)) (now (lines .entry))) ⌝ }
+    ensures { λ r. ⌜ r ≡ placed (cellsAt codes (now (cells .entry)) (now (lines .entry))) ⌝ }
 {
     let mut edits: [u32; 64] = [0; 64];
     for i in 0..lines.len() {
         let line = lines[i] as usize;
-        edits[i] = cells[line];
+        edits[i] = or_kept(cells[line], codes[line]);
     }
     edits
 }
 
-// The last edit of each line named. It is for up to 64 lines of the frame: more have no place in the answer.
-pub fn walk(words: &[u32], lines: &[u32]) -> Walked
+// The last edit of each line named, in the words or else in the codes kept of what was before them. It is for up to 64 lines of the frame: more have
+// no place in the answer.
+pub fn walk(words: &[u32], lines: &[u32], codes: [u32; 64]) -> Walked
     requires { ⌜ Named (now lines) ⌝ }
-    ensures { λ r. ⌜ r ≡ walkedOf (now (words .entry)) (now (lines .entry)) ⌝ }
+    ensures { λ r. ⌜ r ≡ walkedOf (now (words .entry)) (now (lines .entry)) codes ⌝ }
 {
     let asked = ask(lines);
     let mut left = asked.left;
@@ -81,7 +93,7 @@ pub fn walk(words: &[u32], lines: &[u32]) -> Walked
         end = end - 1;
         left = left - note(&mut cells, words[end]);
     }
-    let edits = answers(&cells, lines);
+    let edits = answers(&cells, lines, codes);
     Walked {
         words: words.len() - end,
         edits,

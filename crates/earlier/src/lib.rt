@@ -38,8 +38,9 @@ fn of_frame(lines: &[u32]) -> bool
     good
 }
 
-// The last edit of each line named in the first p settled entries. The log is walked back from p until each has its edit.
-pub fn frame_at(office: Record, log: &[u32], p: usize, lines: &[u32]) -> Earlier
+// The last edit of each line named in the first p settled entries. The log is walked back from p until each has its edit, and no further than to its
+// dropped part: then it is the kept one.
+pub fn frame_at(office: Record, log: &[u32], p: u64, lines: &[u32]) -> Earlier
     ensures { λ r. ⌜ r ≡ earlierOf office (now (log .entry)) p (now (lines .entry)) ⌝ }
 {
     if !office.sound(log) {
@@ -48,13 +49,19 @@ pub fn frame_at(office: Record, log: &[u32], p: usize, lines: &[u32]) -> Earlier
     if !of_frame(lines) {
         return refused(3);
     }
+    let dropped = office.kept.dropped;
+    if p < dropped {
+        return refused(13);
+    }
     if p > office.settled {
         return refused(13);
     }
     if lines.len() > LINES {
         return refused(13);
     }
-    let walked = backward::walk(&log[..p], lines);
+    let end = (p - dropped) as usize;
+    let codes = office.kept.summary.codes;
+    let walked = backward::walk(&log[..end], lines, codes);
     let edits = walked.edits;
     Earlier {
         number: 0,

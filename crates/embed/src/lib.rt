@@ -6,9 +6,9 @@ ghost use Rattle.frame.specs.Founding.{foundOf};
 ghost use Rattle.frame.specs.Issuing.{issueOf};
 ghost use Rattle.frame.specs.Frames.{settledFrameOf, tentativeFrameOf, allLinesOf};
 ghost use Rattle.frame.specs.Electing.{electOf, electWords};
+ghost use Rattle.frame.specs.Folding.{foldOf, foldWords};
 ghost use Rattle.frame.specs.Sending.{sendOf, sendBytes};
 ghost use Rattle.frame.specs.Taking.{takeOf, takeWords};
-ghost use Rattle.sheet.specs.Sheet.{sheetOf};
 ghost use Rattle.sheet.specs.Sheet.{sheetOf};
 ghost use Rattle.earlier.specs.Earlier.{earlierOf};
 ghost use Rattle.archive.specs.Writing.{writeOf, writeBytes};
@@ -22,6 +22,7 @@ use archive::Written;
 use earlier::Earlier;
 use frame::Record;
 use frame::electing::Elected;
+use frame::folding::Folded;
 use frame::founding::Founded;
 use frame::frames;
 use frame::frames::Edit;
@@ -106,7 +107,7 @@ pub extern "C" fn joukerpan_issue(office: Record, log: &[u32], line: u32, code: 
     office.issue(log, line, code)
 }
 
-// How many words at the front of the log are settled.
+// How many words at the front of the log are settled entries that are not dropped.
 #[no_mangle]
 pub extern "C" fn joukerpan_settled(office: Record, log: &[u32]) -> Part
     ensures { λ r. ⌜ r ≡ partOf office (now (log .entry)) ⌝ }
@@ -141,14 +142,9 @@ pub extern "C" fn joukerpan_tentative_frame(office: Record, log: &[u32], line: u
     across(office.tentative_frame(log, line))
 }
 
-// The last edit of each line named in the first p settled entries, as it is stored, and how many words of the log were read for them.
+// The last edit of each line named in the first p settled entries, dropped ones included, as it is stored, and how many words of the log were read.
 #[no_mangle]
-pub extern "C" fn joukerpan_frame_at(
-    office: Record,
-    log: &[u32],
-    p: usize,
-    lines: &[u32],
-) -> Earlier
+pub extern "C" fn joukerpan_frame_at(office: Record, log: &[u32], p: u64, lines: &[u32]) -> Earlier
     ensures { λ r. ⌜ r ≡ earlierOf office (now (log .entry)) p (now (lines .entry)) ⌝ }
 {
     earlier::frame_at(office, log, p, lines)
@@ -160,6 +156,14 @@ pub extern "C" fn joukerpan_elect(office: Record, log: &mut [u32]) -> Elected
     ensures { λ r. ⌜ (r ≡ electOf office (now (log .entry))) × (now (log .exit) ≡ electWords office (now (log .entry))) ⌝ }
 {
     office.elect(log)
+}
+
+// Drops the part of the log that every office is known to have settled.
+#[no_mangle]
+pub extern "C" fn joukerpan_fold(office: Record, log: &mut [u32]) -> Folded
+    ensures { λ r. ⌜ (r ≡ foldOf office (now (log .entry))) × (now (log .exit) ≡ foldWords office (now (log .entry))) ⌝ }
+{
+    office.fold(log)
 }
 
 // The record's message, written to the front of the output.

@@ -13,7 +13,7 @@ use lib.Seq.{length-take-le, getD-drop}
 use borrow.Author.Tests.{eq-eqb, ne-eqb}
 use Rattle.lists.specs.Tests.{pick, allB}
 use Rattle.lists.proofs.Tests.{all-getD}
-use Rattle.protocol.specs.Counts.{noCounts, countsAfter, quieter}
+use Rattle.protocol.specs.Counts.{countsAfter, quieter}
 use Rattle.protocol.specs.Limits.{isEmpty}
 use Rattle.protocol.specs.Moves.{weightsAfter}
 use Rattle.protocol.specs.Office.{first, votes}
@@ -36,7 +36,7 @@ use Rattle.frame.specs.Soundness.{soundB, Sound}
 use Rattle.frame.specs.Electing.{winnerOf}
 use Rattle.frame.specs.declared.Record.{Record}
 use Rattle.frame.proofs.Sound.{sound}
-use Rattle.frame.proofs.State.{held-fine}
+use Rattle.frame.proofs.State.{folded-fine}
 use Rattle.forecast.specs.Forecast.{tieOrder, boundsOf, namedOf, forecastNumber, forecastOf}
 use Rattle.forecast.specs.Exact.{Exact, Alike}
 
@@ -66,7 +66,7 @@ module _ (r : Record) (words lowest highest : List ℕ) where
       let named = namedOf r words lowest highest in
       let is = named-is q in
       let fit = done-fits q .1 in
-      let asymmetric = quieter-asymmetric (countsAfter (noCounts 8) (heldBy r words .log)) in
+      let asymmetric = quieter-asymmetric (countsAfter (r .kept .counts) (heldBy r words .log)) in
       let some-sure = sure.sure-some (tieOrder r words) (boundsOf r lowest) (boundsOf r highest) fit (votes (heldBy r words)) asymmetric in
       let none-sure = sure.sure-none (tieOrder r words) (boundsOf r lowest) (boundsOf r highest) fit (votes (heldBy r words)) in
       record {
@@ -92,10 +92,10 @@ before-n r words lowest highest lowest' highest' p q = rw (p, q)
 
 named-alike : (r s : Record) (words lowest highest : List ℕ) → Alike r s → namedOf r words lowest highest ≡ namedOf s words lowest highest
 named-alike r s words lowest highest a = λ i.
-    named (a .offices i) (a .settled i) (a .ballots i)
+    named (a .offices i) (a .settled i - a .dropped i) (a .counts i) (a .ballots i)
   where
-    named : ℕ → ℕ → List Ballot → Option ℕ
-    named n settled ballots = sureWinner (take n lowest) (take n highest) (quieter (noCounts 8) (take settled words)) (votes (officeIn words settled ballots))
+    named : ℕ → ℕ → List ℕ → List Ballot → Option ℕ
+    named n held counts ballots = sureWinner (take n lowest) (take n highest) (quieter counts (take held words)) (votes (officeIn words held ballots))
 
 number-alike : (r s : Record) (words lowest highest : List ℕ) → soundB r words ≡ true → soundB s words ≡ true → Alike r s
     → forecastNumber r words lowest highest ≡ forecastNumber s words lowest highest
@@ -120,7 +120,7 @@ silent r words S k h = go (getD (heldBy r words .tails) k []) refl
     at =
         let p : k ≡ r .n + (k - r .n) = omega arith in
         ap (λ (j : ℕ). isEmpty (getD (heldBy r words .tails) j [])) p ∙ ap isEmpty (sym (getD-drop (r .n) (heldBy r words .tails) (k - r .n) [])) ∙
-        all-getD isEmpty [] (drop (r .n) (heldBy r words .tails)) (k - r .n) (held-fine r words S .rest) refl
+        all-getD isEmpty [] (drop (r .n) (heldBy r words .tails)) (k - r .n) (folded-fine r words S .held .rest) refl
 
     go : (t : List ℕ) → getD (heldBy r words .tails) k [] ≡ t → first (getD (heldBy r words .tails) k []) ≡ none
     go [] q = ap first q
@@ -131,14 +131,14 @@ module _ (s : Record) (words : List ℕ) (S : Sound s words) where
   abbrev present : List ℕ
   present = s .summary .present
 
-  follows : present ≡ weightsAfter (s .weights) (heldBy s words .log)
+  follows : present ≡ weightsAfter (s .kept .summary .present) (heldBy s words .log)
   follows = ap (λ (x : Summary). x .present) (S .done)
 
   long : length present ≡ 8
-  long = ap length follows ∙ weights-length (s .weights) (heldBy s words .log) ∙ S .head .eight
+  long = ap length follows ∙ weights-length (s .kept .summary .present) (heldBy s words .log) ∙ S .kept .eight
 
   zero : allB (eqb 0) (drop (s .n) present) ≡ true
-  zero = ap (λ (ws : List ℕ). allB (eqb 0) (drop (s .n) ws)) follows ∙ weights-zero (s .n) (s .weights) (heldBy s words .log) (S .entries) (S .head .rest)
+  zero = ap (λ (ws : List ℕ). allB (eqb 0) (drop (s .n) ws)) follows ∙ weights-zero (s .n) (s .kept .summary .present) (heldBy s words .log) (S .entries) (S .kept .rest)
 
   quiet : Silent (length (take (s .n) present)) (votes (heldBy s words))
   quiet k h = let m = S .head .most in silent s words S k (omega (arith, length-take-le (s .n) present (omega (arith, long))))

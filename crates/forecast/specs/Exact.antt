@@ -31,8 +31,11 @@ pub record Exact (r : Record) (words lowest highest : List ℕ) : Type 0 where
   pub nobody : (forecastOf r words lowest highest .winner ≡ Nobody) ↔ ((e : ℕ) → WinsFirst r words lowest highest e → ⊥)
   pub one : (e f : ℕ) → WinsFirst r words lowest highest e → WinsFirst r words lowest highest f → e ≡ f
 
--- two records with the same offices, settled length and ballots: with the words of one log they have one settled log and the same votes
+-- two records with the same offices, dropped entries, settled length and ballots: with the words of one log they have one settled log, the same
+-- counts of its dropped part, and the same votes
 pub record Alike (r s : Record) : Type 0 where
   pub offices : r .n ≡ s .n
+  pub dropped : r .kept .dropped ≡ s .kept .dropped
+  pub counts : r .kept .counts ≡ s .kept .counts
   pub settled : r .settled ≡ s .settled
   pub ballots : r .ballots ≡ s .ballots

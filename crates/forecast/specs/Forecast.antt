@@ -8,7 +8,7 @@ use mathlib.Core.Option.{Option, none}
 use lib.Dec.{eqb}
 use lib.ListN.{take}
 use Rattle.lists.specs.Tests.{pick}
-use Rattle.protocol.specs.Counts.{noCounts, quieter}
+use Rattle.protocol.specs.Counts.{quieter}
 use Rattle.protocol.specs.Office.{votes}
 use Rattle.tallies.specs.Tallies.{winnerIs}
 use Rattle.bounds.specs.Bounds.{fits, sureWinner}
@@ -17,9 +17,9 @@ use Rattle.frame.specs.Soundness.{soundB}
 use Rattle.frame.specs.declared.Record.{Record}
 use Rattle.forecast.specs.declared.Forecast.{Forecast}
 
--- "with the tie order of its day": by the counts of the record's settled log
+-- "with the tie order of its day": by the counts of the record's settled log, (xiv) the dropped entries' being the kept ones
 abbrev pub tieOrder : Record → List ℕ → ℕ → ℕ → Bool
-tieOrder r words = quieter (noCounts 8) (heldBy r words .log)
+tieOrder r words = quieter (r .kept .counts) (heldBy r words .log)
 
 -- "Bounds from place n on aren't looked at"
 abbrev pub boundsOf : Record → List ℕ → List ℕ

@@ -28,9 +28,10 @@ pub fn first_step(office: Record, log: &[u32], lowest: [u16; 8], highest: [u16; 
             winner: Winner::Nobody,
         };
     }
-    let settled = office.settled;
+    let held = (office.settled - office.kept.dropped) as usize;
+    let kept = office.kept.counts;
     let ballots = office.ballots;
-    let counts = counting::counts(&log[..settled]);
+    let counts = counting::counts_after(kept, &log[..held]);
     let votes = bounds::votes(ballots);
     let winner = bounds::sure_winner(votes, counts, n, lowest, highest);
     Forecast { number: 0, winner }

@@ -1,3 +1,4 @@
 -- The proofs of what is claimed of every sound record.
 pub mod Parts
 pub mod Edits
+pub mod Folds

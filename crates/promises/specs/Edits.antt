@@ -1,13 +1,14 @@
 -- Request (ix), a line no one has coded: what is claimed of every record, and of every founding. The theorems are in proofs/Edits:
---     settled-shows      (r : Record) (words : List ℕ) → soundB r words ≡ true → ShowsEdits (settledEdit r words) (heldBy r words .log)
---     tentative-shows    (r : Record) (words : List ℕ) → soundB r words ≡ true → ShowsEdits (tentativeEdit r words) (path (heldBy r words) (r .own))
---     lines-show         (r : Record) (words : List ℕ) → soundB r words ≡ true → ShowsEdits (lineEdit r words) (heldBy r words .log)
---     stored-shows       (r : Record) (words : List ℕ) → soundB r words ≡ true → ShowsEdits (storedAt r) (heldBy r words .log)
+--     settled-shows      (r : Record) (words : List ℕ) → soundB r words ≡ true → ShowsEdits (settledEdit r words) (keptEdit r) (heldBy r words .log)
+--     tentative-shows    (r : Record) (words : List ℕ) → soundB r words ≡ true → ShowsEdits (tentativeEdit r words) (keptEdit r) (path (heldBy r words) (r .own))
+--     lines-show         (r : Record) (words : List ℕ) → soundB r words ≡ true → ShowsEdits (lineEdit r words) (keptEdit r) (heldBy r words .log)
+--     stored-shows       (r : Record) (words : List ℕ) → soundB r words ≡ true → ShowsEdits (storedAt r) (keptEdit r) (heldBy r words .log)
 --     founded-none       (n own : ℕ) (ws words : List ℕ) (line : ℕ) → storedAt (foundOf n own ws words .record) line ≡ NotYet
 -- A founding that is refused is among those of the last. Assumes nothing.
 use mathlib.Core.Path.{_≡_}
 use mathlib.Core.List.{List}
-use mathlib.Core.Logic.{_↔_}
+use mathlib.Core.Logic.{_⊎_, _↔_}
+use mathlib.Core.Option.{Option, none, some}
 use Prim.Native.Nat.{ℕ, _≤_}
 use lib.ListN.{getD}
 use Rattle.protocol.specs.Frames.{NoneFor, LastFor}
@@ -29,7 +30,9 @@ lineEdit r words line = storedEdit (getD (allLinesOf r words .codes) line 0)
 abbrev pub storedAt : Record → ℕ → Edit
 storedAt r line = storedEdit (getD (r .summary .codes) line 0)
 
--- for every line of the frame: no edit yet is shown exactly if no entry is for the line, and a code exactly if the last entry for the line has it
-abbrev pub ShowsEdits : (ℕ → Edit) → List ℕ → Type 0
-ShowsEdits shown entries = (line : ℕ) → line ≤ 63
-    → ((shown line ≡ NotYet) ↔ NoneFor line entries) × ((code : ℕ) → (shown line ≡ Code code) ↔ LastFor line entries code)
+-- for every line of the frame, behind what is kept of the dropped entries (xiv): no edit yet is shown exactly if none is kept and no entry is for the
+-- line, and a code exactly if the last entry for the line has it, or none is for the line and it is kept
+abbrev pub ShowsEdits : (ℕ → Edit) → (ℕ → Option ℕ) → List ℕ → Type 0
+ShowsEdits shown kept entries = (line : ℕ) → line ≤ 63
+    → ((shown line ≡ NotYet) ↔ ((kept line ≡ none) × NoneFor line entries))
+    × ((code : ℕ) → (shown line ≡ Code code) ↔ (LastFor line entries code ⊎ ((kept line ≡ some code) × NoneFor line entries)))

@@ -1,3 +1,4 @@
 -- What is claimed of every sound record.
 pub mod Parts
 pub mod Edits
+pub mod Folds

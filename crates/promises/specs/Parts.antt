@@ -3,8 +3,8 @@
 --     never-4           (r : Record) (words : List ℕ) (line code : ℕ) → issueNumber r words line code ≡ 4 → ⊥
 --     full-has-part     (r : Record) (words : List ℕ) → soundB r words ≡ true → FullHasPart r words
 --     stopped-by-5      (r : Record) (words : List ℕ) → soundB r words ≡ true → StoppedBy5 r words
--- That a done issue, take or elect leaves a sound record, and so tails within their parts, is `issue-sound`, `take-sound` and `elect-sound`
--- (frame/proofs); that a message that a sound record sends is read is `send-read` there. Assumes nothing.
+-- That a done issue, take, elect or fold leaves a sound record, and so tails within their parts, is `issue-sound`, `take-sound`, `elect-sound` and
+-- `fold-sound` (frame/proofs); that a message that a sound record sends is read is `send-read` there. Assumes nothing.
 use mathlib.Core.Path.{_≡_}
 use mathlib.Core.Bool.{true}
 use mathlib.Core.List.{List}
@@ -15,7 +15,7 @@ use Rattle.lists.specs.Tests.{pick}
 use Rattle.protocol.specs.Entry.{proper}
 use Rattle.protocol.specs.Counts.{countIn}
 use Rattle.protocol.specs.Office.{tail}
-use Rattle.frame.specs.State.{heldBy}
+use Rattle.frame.specs.State.{heldLength, heldBy}
 use Rattle.frame.specs.Issuing.{issueNumber}
 use Rattle.frame.specs.declared.Record.{Record}
 
@@ -28,7 +28,8 @@ abbrev pub FullHasPart : Record → List ℕ → Type 0
 FullHasPart r words = length (tail (heldBy r words) (r .own)) ≡ 32 → countIn (r .own) (tail (heldBy r words) (r .own)) ≡ 32 / r .n
 
 -- "An office below its part is never stopped by the others' edits, save by 5": its issue of an entry that it may issue is refused with 5, where the
--- settled log and its own tail are 1024 long, or done, whatever the ballots hold
+-- undropped log and its own tail are 1024 long, or (xiv) 2^63 with the dropped entries, or done, whatever the ballots hold
 abbrev pub StoppedBy5 : Record → List ℕ → Type 0
 StoppedBy5 r words = (line code : ℕ) → proper (r .n) line code ≡ true → countIn (r .own) (tail (heldBy r words) (r .own)) < 32 / r .n
-    → issueNumber r words line code ≡ pick (eqb (r .settled + length (tail (heldBy r words) (r .own))) 1024) 5 0
+    → issueNumber r words line code
+    ≡ pick (eqb (heldLength r + length (tail (heldBy r words) (r .own))) 1024) 5 (pick (eqb (r .settled + length (tail (heldBy r words) (r .own))) 9223372036854775808) 5 0)

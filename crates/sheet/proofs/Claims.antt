@@ -2,7 +2,7 @@
 --     done                a sheet that is done lists the classes met, rising, with the weights under them; no sum wraps
 --     refused             "a refused sheet is empty"
 --     only-two            a sheet is refused with 1 or with 12
---     equal-sheets        offices whose Settled answers alike have equal sheets of the same households
+--     equal-sheets        offices with the same settled codes have equal sheets of the same households
 -- Assumes nothing.
 use mathlib.Core.Path.{_≡_, refl, sym, ap, ap₂, subst, _∙_}
 use mathlib.Core.Bool.{Bool, true, false}
@@ -21,17 +21,15 @@ use Rattle.tabulation.specs.declared.Row.{Row}
 use Rattle.tabulation.proofs.Sheet.{sheet-is}
 use Rattle.tabulation.proofs.Lines.{sheet-few}
 use Rattle.tabulation.proofs.Cells.{held-rows}
-use Rattle.frame.specs.State.{heldBy}
 use Rattle.frame.specs.Soundness.{soundB}
 use Rattle.frame.specs.Frames.{allLinesOf, storedEdit}
-use Rattle.frame.specs.Settling.{settledOf, settledNumber}
 use Rattle.frame.specs.declared.Record.{Record}
 use Rattle.frame.specs.declared.frames.Lines.{Lines}
 use Rattle.frame.proofs.Shown.{lines-frames}
 use Rattle.sheet.specs.Sheet.{sheetNumber, sheetRows, settledCodes, noSheet, sheetOf, sheetWith}
 use Rattle.sheet.specs.Claims.{Claims}
 use Rattle.sheet.specs.declared.Sheet.{Sheet}
-use Rattle.sheet.proofs.Made.{number-sound}
+use Rattle.sheet.proofs.Made.{number-sound, number-unsound}
 
 module _ (r : Record) (words s : List ℕ) where
   number-is : sheetOf r words s .number ≡ sheetNumber r words s
@@ -97,7 +95,6 @@ sheet-by : (r : Record) (words s : List ℕ) → sheetOf r words s ≡ by s (sou
 unfolding sheetOf sheetNumber sheetRows by
 sheet-by r words s = refl
 
--- what Settled answers says both
 same-sound : (a b : Bool) → pick {A = ℕ} a 0 1 ≡ pick b 0 1 → a ≡ b
 unfolding pick
 same-sound true true e = refl
@@ -105,16 +102,18 @@ same-sound false false e = refl
 same-sound true false e = absurd (omega arith)
 same-sound false true e = absurd (omega arith)
 
-same-lines : (r q : Record) (words others : List ℕ) (b : Bool) → soundB r words ≡ b → soundB q others ≡ b → settledOf r words ≡ settledOf q others → allLinesOf r words ≡ allLinesOf q others
-unfolding allLinesOf settledOf pick
-same-lines r q words others true p t l = let logs : heldBy r words .log ≡ heldBy q others .log = rw (p, t) at l in rw (p, t, logs)
-same-lines r q words others false p t l = rw (p, t)
+lines-number : (r : Record) (words : List ℕ) → allLinesOf r words .number ≡ pick (soundB r words) 0 1
+unfolding pick
+lines-number r words = go (soundB r words) refl
+  where
+    go : (b : Bool) → soundB r words ≡ b → allLinesOf r words .number ≡ pick b 0 1
+    go true e = number-sound r words e
+    go false e = number-unsound r words e
 
--- "two offices with equal settled logs print equal sheets of the same households": what Settled hands back says all that a sheet needs of an office
-pub equal-sheets : (r q : Record) (words others : List ℕ) → settledNumber r words ≡ settledNumber q others → settledOf r words ≡ settledOf q others
-    → (s : List ℕ) → sheetOf r words s ≡ sheetOf q others s
-unfolding settledNumber
-equal-sheets r q words others n l s =
-    let sound : soundB r words ≡ soundB q others = same-sound (soundB r words) (soundB q others) n in
-    let codes : settledCodes r words ≡ settledCodes q others = ap (λ (x : Lines). x .codes) (same-lines r q words others (soundB q others) sound refl l) in
-    sheet-by r words s ∙ ap₂ (by s) sound codes ∙ sym (sheet-by q others s)
+-- the settled codes say all that a sheet needs of an office, whatever part of its log is dropped: "two offices with equal settled logs print equal
+-- sheets of the same households", dropped entries included, since these make the codes
+pub equal-sheets : (r q : Record) (words others : List ℕ) → allLinesOf r words ≡ allLinesOf q others → (s : List ℕ) → sheetOf r words s ≡ sheetOf q others s
+equal-sheets r q words others e s =
+    let sound : soundB r words ≡ soundB q others =
+    same-sound (soundB r words) (soundB q others) (sym (lines-number r words) ∙ ap (λ (x : Lines). x .number) e ∙ lines-number q others) in
+    sheet-by r words s ∙ ap₂ (by s) sound (ap (λ (x : Lines). x .codes) e) ∙ sym (sheet-by q others s)

@@ -39,7 +39,7 @@ module _ (r : Record) (words : List ℕ) where
   unfolding allLinesOf pick
   number-sound e = rw e
 
-  number-unsound : soundB r words ≡ false → allLinesOf r words .number ≡ 1
+  pub number-unsound : soundB r words ≡ false → allLinesOf r words .number ≡ 1
   number-unsound e = ap (λ (l : Lines). l .number) (sym (lines-unsound r words e))
 
   pub sound-of : allLinesOf r words .number ≡ 0 → soundB r words ≡ true

@@ -1,5 +1,5 @@
 -- What request (vii) claims of a sheet that is done. The theorem is `done` in proofs/Claims.antt; that a refused sheet is empty, and that equal
--- settled logs give equal sheets, stand there as laws of their own. Assumes nothing.
+-- settled codes give equal sheets, stand there as laws of their own. Assumes nothing.
 use mathlib.Core.Path.{_≡_}
 use mathlib.Core.List.{List}
 use Prim.Native.Nat.{ℕ, _≤_, _<_}

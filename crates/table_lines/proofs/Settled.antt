@@ -9,7 +9,7 @@ use mathlib.Core.List.{List, [], _∷_, map, flatMap}
 use Prim.Native.Nat.{ℕ, _≤_}
 use native.Mathlib.Omega.{arith}
 use native.Mathlib.Nat.{min-le-left}
-use lib.ListN.{length, take, replicate, length-take}
+use lib.ListN.{length, take, replicate, length-take, length-append}
 use lib.Seq.{take-take}
 use borrow.Author.Tests.{ltb-true, lt-ltb}
 use Rattle.lists.specs.Tests.{both, allB, pick}
@@ -18,24 +18,26 @@ use Rattle.protocol.specs.Entry.{officeOf, proper, isEntry}
 use Rattle.protocol.specs.Counts.{countsAfter}
 use Rattle.protocol.specs.Fair.{fair}
 use Rattle.protocol.specs.Office.{Office}
-use Rattle.protocol.specs.Limits.{isEmpty, tailFine}
+use Rattle.protocol.specs.Limits.{lengthLimit, isEmpty, tailFine}
 use Rattle.protocol.specs.SettledRule.{bySettled}
 use Rattle.protocol.specs.Elect.{tailEntries, withElect}
+use Rattle.protocol.specs.Folding.{Folded, withFoldedElect}
 use Rattle.protocol.proofs.Elect.{elect-most}
 use Rattle.protocol.proofs.Limits as Limits
+use Rattle.protocol.proofs.FoldedLimits.{FoldedFine, unfolded-fine}
 use Rattle.ballots.specs.Ballots.{ballotOf, noBallot}
 use Rattle.ballots.proofs.Laws.{tail-of}
 use Rattle.summary.specs.Summary.{startWith}
 use Rattle.summary.proofs.Laws.{summary-nil}
-use Rattle.frame.specs.State.{heldBy, withHeld, holding, freshRecord}
+use Rattle.frame.specs.State.{heldLength, heldBy, withHeld, holdingBehind, freshRecord}
 use Rattle.frame.specs.Soundness.{soundB, Sound}
-use Rattle.frame.specs.Electing.{ruleOf, electedOf, electOf, electWords}
+use Rattle.frame.specs.Electing.{ruleOf, electOf, electWords}
 use Rattle.frame.specs.declared.Record.{Record}
 use Rattle.frame.specs.declared.electing.Elected.{Elected}
-use Rattle.frame.proofs.Sound.{sound, sound-true}
-use Rattle.frame.proofs.State.{held-by, sound-of}
-use Rattle.frame.proofs.Found.{found-done}
-use Rattle.frame.proofs.Elect.{elect-unsound, elect-zero, elect-done, elect-sound, elect-state}
+use Rattle.frame.proofs.Sound.{sound-true}
+use Rattle.frame.proofs.State.{log-length, held-behind, sound-behind}
+use Rattle.frame.proofs.Found.{found-done, found-sound}
+use Rattle.frame.proofs.Elect.{elect-unsound, elect-zero, elect-done, elect-sound, elect-state, elect-grows}
 use Rattle.tables.specs.Tables.{tails}
 use Rattle.tables.specs.Listed.{smallTail, smallTable}
 use Rattle.tables.proofs.Listed.{small-place}
@@ -78,14 +80,15 @@ module _ (r : Record) (t : List (List ℕ)) (small : smallTable t ≡ true) wher
       let D = elect-done R emptyLog q in
       let S = elect-sound R emptyLog q in
       let k = electOf R emptyLog .count in
-      let settled = electOf R emptyLog .«record» .settled in
-      let grown : settled ≡ length (electedOf R emptyLog .log) = ap (λ (x : Record). x .settled) (D .made) in
-      let within : k ≤ settled = omega (arith, grown, D .counted) in
+      let held = heldLength (electOf R emptyLog .«record») in
+      let g = elect-grows R emptyLog q in
+      let within : k ≤ held =
+      omega (arith, g .2, ap length (g .1), length-append (heldBy R emptyLog .log) (g .0), log-length (electOf R emptyLog .«record») (electWords R emptyLog) S) in
       let T = three t small in
       let count : k ≤ 6 = omega (arith, D .counted, elect-most (ruleOf R) (heldBy R emptyLog), ap tailEntries (tails-held r t T), six t T) in
       let n = electOf R emptyLog .«record» .n in
       let front : allB (isEntry n) (settledFrom R) ≡ true =
-      subst (λ (l : List ℕ). allB (isEntry n) l ≡ true) (take-take k settled (electWords R emptyLog) within) (all-take (isEntry n) k (take settled (electWords R emptyLog)) (S .entries)) in
+      subst (λ (l : List ℕ). allB (isEntry n) l ≡ true) (take-take k held (electWords R emptyLog) within) (all-take (isEntry n) k (take held (electWords R emptyLog)) (S .entries)) in
       record { most = count; entries = all-mono (isEntry n) oneDigit (entry-digit n (S .head .most)) (settledFrom R) front }
 
   counts : Counted
@@ -133,28 +136,48 @@ office-fine t T =
 -- a sound record with an empty log settles what the protocol's election of its state settles
 module _ (R : Record) (o : Office) (S : Sound R emptyLog) (held : heldBy R emptyLog ≡ o) (empty : o .log ≡ []) where
   elects : (electOf R emptyLog .number ≡ 0) × (settledFrom R ≡ withElect (ruleOf R) o .log)
+  unfolding withFoldedElect
   elects =
       let q = elect-zero R emptyLog (sound-true R emptyLog S) in
-      let D = elect-done R emptyLog q in
+      let last = electOf R emptyLog .«record» in
+      let g = elect-grows R emptyLog q in
       let none : length (heldBy R emptyLog .log) ≡ 0 = ap length (ap (λ (x : Office). x .log) held ∙ empty) in
-      let all : electOf R emptyLog .count ≡ electOf R emptyLog .«record» .settled = omega (arith, D .counted, ap (λ (x : Record). x .settled) (D .made), none) in
-      (q, ap (λ (k : ℕ). take k (electWords R emptyLog)) all ∙ ap (λ (x : Office). x .log) (elect-state R emptyLog q) ∙ ap (λ (x : Office). withElect (ruleOf R) x .log) held)
+      let all : electOf R emptyLog .count ≡ heldLength last =
+      omega (arith, g .2, ap length (g .1), length-append (heldBy R emptyLog .log) (g .0), none, log-length last (electWords R emptyLog) (elect-sound R emptyLog q)) in
+      (q, ap (λ (k : ℕ). take k (electWords R emptyLog)) all ∙ ap (λ (x : Folded). x .held .log) (elect-state R emptyLog q) ∙ ap (λ (x : Office). withElect (ruleOf R) x .log) held)
+
+-- an office that holds a table, and has dropped and heard nothing
+abbrev tableFolded : List (List ℕ) → Folded
+tableFolded t = record { dropped = 0; held = tableOffice t; noted = replicate 8 0 }
+
+folded-fine : (t : List (List ℕ)) → Three t → FoldedFine 3 0 (tableFolded t)
+unfolding lengthLimit
+folded-fine t T =
+    let F = office-fine t T in
+    let none = unfolded-fine 3 0 in
+    record { held = F; short = λ j. omega (arith, Limits.tail-at 3 (tableOffice t) F j .short); noted = none .noted; eight = none .eight; unused = none .unused }
 
 module _ (ws : List ℕ) (done : founded ws .number ≡ 0) (t : List (List ℕ)) (small : smallTable t ≡ true) where
+  abbrev fresh : Record
+  fresh = freshRecord 3 0 ws
+
+  abbrev held : Record
+  held = holdingBehind fresh (fresh .kept) (tableFolded t)
+
   -- the founded record with the table's ballots holds the table
-  table-held : withBallots (founded ws .«record») (map ballotOf t) ≡ holding (freshRecord 3 0 ws) (tableOffice t)
+  table-held : withBallots (founded ws .«record») (map ballotOf t) ≡ held
   table-held =
       ap (λ (x : Record). withBallots x (map ballotOf t)) (found-done 3 0 ws emptyLog done .made) ∙ fresh-table (three t small)
     where
-      fresh-table : Three t → withBallots (freshRecord 3 0 ws) (map ballotOf t) ≡ holding (freshRecord 3 0 ws) (tableOffice t)
+      fresh-table : Three t → withBallots fresh (map ballotOf t) ≡ held
       fresh-table T =
-          rw (T .are) (λ i. withHeld (freshRecord 3 0 ws) (sym (summary-nil (startWith ws)) i) 0 (ballotOf (T .x) ∷ ballotOf (T .y) ∷ ballotOf (T .z) ∷ replicate 5 noBallot))
+          rw (T .are) (λ i. withHeld fresh (fresh .kept) (replicate 8 0) (sym (summary-nil (startWith ws)) i) 0 (ballotOf (T .x) ∷ ballotOf (T .y) ∷ ballotOf (T .z) ∷ replicate 5 noBallot))
 
   -- "with the entries that elect settles from an empty log"
   pub table-elects : (electOf (withBallots (founded ws .«record») (map ballotOf t)) emptyLog .number ≡ 0) × (settledBy (founded ws .«record») t ≡ withElect (bySettled ws) (tableOffice t) .log)
   table-elects =
       let D = found-done 3 0 ws emptyLog done in
-      let r = freshRecord 3 0 ws in
-      let S = sound-of r (tableOffice t) emptyLog (D .head) (office-fine t (three t small)) (D .room) in
+      let new : Sound fresh emptyLog = subst (λ (x : Record). Sound x emptyLog) (D .made) (found-sound 3 0 ws emptyLog done) in
+      let S : Sound held emptyLog = sound-behind fresh (fresh .kept) (tableFolded t) emptyLog (D .head) (new .kept) refl (folded-fine t (three t small)) (D .room) in
       subst (λ (x : Record). (electOf x emptyLog .number ≡ 0) × (settledFrom x ≡ withElect (bySettled ws) (tableOffice t) .log)) (sym table-held)
-      (elects (holding r (tableOffice t)) (tableOffice t) S (held-by r (tableOffice t) emptyLog) refl)
+      (elects held (tableOffice t) S (ap (λ (x : Folded). x .held) (held-behind fresh (fresh .kept) (tableFolded t) refl emptyLog)) refl)

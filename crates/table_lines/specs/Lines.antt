@@ -35,7 +35,7 @@ emptyLog = replicate 1024 0
 
 -- the record with these ballots of the first three offices, and no others
 abbrev pub withBallots : Record → List Ballot → Record
-withBallots r bs = withHeld r (r .summary) (r .settled) (bs ++ replicate 5 noBallot)
+withBallots r bs = withHeld r (r .kept) (r .noted) (r .summary) (r .settled) (bs ++ replicate 5 noBallot)
 
 -- "the entries that elect settles from an empty log": as many as it answers, at the log's front
 abbrev pub settledFrom : Record → List ℕ

@@ -1,136 +1,160 @@
 -- The vectors of versions, and their bytes.
---     first-counts, log-vector, path-vector      the first n of eight counts are the vector: of the log, and of a path
---     log-most, path-most                        the counts are small
---     vector-length, paths-length, size-is       how many paths and how many bytes there are
---     ToWrite, write-begins, write-room, write-again, write-ends      a walk over the paths that writes their vectors
+--     first-counts, log-vector                   the first n counts are the vector, and the log's counts are its
+--     kept-vector                                from the counts kept of dropped entries it is the vector of these entries and the rest
+--     log-most                                   the log's counts are below what 64 bits hold
+--     paths-bytes                                a path's counts go on from the log's: its vector is the tail's, from the log's vector on
+--     tails-length, tails-step, paths-length     the tails of n offices, one by one; there are as many paths
+--     vector-length, size-is                     how many bytes there are
+--     ToWrite, write-begins, write-room, write-again, write-ends      a walk over the tails that writes the paths' vectors
 --     all-is, whole                              the log's vector and then the paths': all that is to be written
 -- Assumes nothing.
-use mathlib.Core.Path.{_≡_, sym, ap, _∙_}
+use mathlib.Core.Path.{_≡_, refl, sym, ap, ap₂, _∙_}
 use mathlib.Core.List.{List, [], _∷_, _++_, map}
 use Prim.Native.Nat.{ℕ, suc, _+_, _*_, _<_, _≤_, zero-le}
 use native.Mathlib.Nat.{zero-add, mul-le-mul}
 use native.Mathlib.Omega.{arith}
-use lib.ListN.{length, getD, take, drop, length-append, length-map, drop-of-length-le}
+use lib.ListN.{length, getD, take, drop, length-append, length-map, length-replicate, drop-of-length-le}
 use lib.Seq.{sets, sets-eq, ext-getD, length-take-le, getD-take}
-use Rattle.lists.proofs.Tests.{getD-map}
+use Rattle.lists.proofs.Tests.{getD-replicate}
 use Rattle.lists.proofs.Walk.{rest-step}
 use Rattle.lists.proofs.Stores.{Left, left-all, left-next, left-none, sets-append}
-use Rattle.numbers.specs.Numbers.{be32, bytes32, run}
+use Rattle.numbers.specs.Numbers.{be64, bytes64, run}
 use Rattle.numbers.proofs.Runs.{run-length}
 use Rattle.protocol.specs.Counts.{noCounts, countOf, countsAfter}
-use Rattle.protocol.proofs.Counts.{none-length, count-of, count-most, counts-most, counts-append}
+use Rattle.protocol.proofs.Counts.{counts-append, counts-at, counts-length, counts-most}
 use Rattle.ballots.specs.Ballots.{tailOf, offEnd}
 use Rattle.ballots.specs.declared.Ballot.{Ballot}
 use Rattle.ballots.proofs.Laws.{tail-at}
-use Rattle.spelling.proofs.Items.{isWord, roomFor, valueItem}
-use Rattle.vectors.specs.Vectors.{EachAtMost, vectorOf, vectorBytes, versionsBytes, versionsIn}
+use Rattle.spelling.proofs.Items.{roomFor}
+use Rattle.vectors.specs.Vectors.{EachAtMost, mostKept, vectorOf, vectorBytes, versionsBytes, versionsIn}
+use Rattle.vectors.proofs.Items.{isCount, countItem}
 
 -- ── one vector ──
-module _ (n : ℕ) (h : n ≤ 8) where
-  pub first-counts : (p : List ℕ) → take n (countsAfter (noCounts 8) p) ≡ vectorOf n p
+module _ (n : ℕ) (counts : List ℕ) (h : n ≤ length counts) where
+  pub first-counts : (p : List ℕ) → take n (countsAfter counts p) ≡ vectorOf (take n counts) p
   first-counts p =
-      ext-getD 0 (take n (countsAfter (noCounts 8) p)) (vectorOf n p) (long ∙ sym (none-length n p)) (λ k l.
+      ext-getD 0 (take n (countsAfter counts p)) (vectorOf (take n counts) p) (long ∙ sym (counts-length (take n counts) p ∙ first)) (λ k l.
       let b : k < n = omega (arith, long) in
-      getD-take n (countsAfter (noCounts 8) p) k 0 b ∙ count-of 8 p k (omega arith) ∙ sym (count-of n p k b))
+      getD-take n (countsAfter counts p) k 0 b
+      ∙ omega (arith, counts-at counts p k (omega arith), counts-at (take n counts) p k (omega (arith, first)), getD-take n counts k 0 b))
     where
-      long : length (take n (countsAfter (noCounts 8) p)) ≡ n
-      long = length-take-le n (countsAfter (noCounts 8) p) (omega (arith, none-length 8 p))
+      first : length (take n counts) ≡ n
+      first = length-take-le n counts h
 
-  -- `base` has the log's counts
-  module _ (log base : List ℕ) (e : base ≡ countsAfter (noCounts 8) log) where
-    pub log-vector : take n base ≡ vectorOf n log
-    log-vector = ap (take n) e ∙ first-counts log
+      long : length (take n (countsAfter counts p)) ≡ n
+      long = length-take-le n (countsAfter counts p) (omega (arith, counts-length counts p))
 
-    pub path-vector : (t counts : List ℕ) → counts ≡ countsAfter base t → take n counts ≡ vectorOf n (log ++ t)
-    path-vector t counts q = ap (take n) (q ∙ ap (λ (b : List ℕ). countsAfter b t) e ∙ sym (counts-append (noCounts 8) log t)) ∙ first-counts (log ++ t)
+  pub log-vector : (log base : List ℕ) → base ≡ countsAfter counts log → take n base ≡ vectorOf (take n counts) log
+  log-vector log base e = ap (take n) e ∙ first-counts log
 
-pub log-most : (log base : List ℕ) → base ≡ countsAfter (noCounts 8) log → length log ≤ 1024 → EachAtMost 1024 base
-log-most log base e h k = omega (arith, ap (λ (c : List ℕ). countOf c k) e, count-most 8 log k)
+-- the counts kept of the entries p, where none were dropped before them
+pub kept-vector : (n : ℕ) → n ≤ 8 → (p q : List ℕ) → vectorOf (take n (countsAfter (noCounts 8) p)) q ≡ vectorOf (noCounts n) (p ++ q)
+kept-vector n h p q =
+    ap (λ (c : List ℕ). countsAfter c q) (first-counts n (noCounts 8) (omega (arith, length-replicate {A = ℕ} 8 0)) p ∙ ap (λ (c : List ℕ). countsAfter c p) none)
+    ∙ sym (counts-append (noCounts n) p q)
+  where
+    long : length (take n (noCounts 8)) ≡ n
+    long = length-take-le n (noCounts 8) (omega (arith, length-replicate {A = ℕ} 8 0))
 
-pub path-most : (base t counts : List ℕ) → counts ≡ countsAfter base t → EachAtMost 1024 base → length t ≤ 32 → EachAtMost 1056 counts
-path-most base t counts e m h k = omega (arith, ap (λ (c : List ℕ). countOf c k) e, counts-most base t k, m k)
+    none : take n (noCounts 8) ≡ noCounts n
+    none = ext-getD 0 (take n (noCounts 8)) (noCounts n) (long ∙ sym (length-replicate n 0))
+        (λ k l. getD-take n (noCounts 8) k 0 (omega (arith, long)) ∙ getD-replicate {A = ℕ} 8 0 k ∙ sym (getD-replicate {A = ℕ} n 0 k))
 
-pub vector-length : (n : ℕ) (p : List ℕ) → length (vectorBytes n p) ≡ 4 * n
-vector-length n p = run-length 4 bytes32 be32 (roomFor 4) isWord valueItem (vectorOf n p) ∙ ap (λ (k : ℕ). 4 * k) (none-length n p)
-
-pub versions-length : (n : ℕ) (ps : List (List ℕ)) → length (versionsBytes n ps) ≡ 4 * n * length ps
-unfolding versionsBytes
-versions-length n [] = omega arith
-versions-length n (p ∷ ps) = length-append (vectorBytes n p) (versionsBytes n ps) ∙ omega (arith, vector-length n p, versions-length n ps)
+pub log-most : (start log base : List ℕ) → base ≡ countsAfter start log → EachAtMost mostKept start → length log ≤ 1024 → EachAtMost (mostKept + 1024) base
+log-most start log base e m h k = omega (arith, ap (λ (c : List ℕ). countOf c k) e, counts-most start log k, m k)
 
 -- ── the paths ──
-abbrev pub pathsIn : ℕ → List ℕ → List Ballot → List (List ℕ)
-pathsIn n log bs = map (λ t. log ++ t) (take n (map tailOf bs))
+pub paths-bytes : (start log : List ℕ) (ts : List (List ℕ)) → versionsBytes start (map (λ t. log ++ t) ts) ≡ versionsBytes (vectorOf start log) ts
+unfolding versionsBytes
+paths-bytes start log [] = refl
+paths-bytes start log (t ∷ ts) = ap₂ (λ (v rest : List ℕ). run bytes64 v ++ rest) (counts-append start log t) (paths-bytes start log ts)
+
+-- the tails of the first n offices
+abbrev pub tailsIn : ℕ → List Ballot → List (List ℕ)
+tailsIn n bs = take n (map tailOf bs)
 
 -- n offices that have ballots
-module _ (n : ℕ) (log : List ℕ) (bs : List Ballot) (some : n ≤ length bs) where
-  pub paths-length : length (pathsIn n log bs) ≡ n
-  paths-length = length-map (take n (map tailOf bs)) (λ t. log ++ t) ∙ length-take-le n (map tailOf bs) (omega (arith, length-map bs tailOf))
+module _ (n : ℕ) (bs : List Ballot) (some : n ≤ length bs) where
+  pub tails-length : length (tailsIn n bs) ≡ n
+  tails-length = length-take-le n (map tailOf bs) (omega (arith, length-map bs tailOf))
 
-  pub path-at : (o : ℕ) → o < n → getD (pathsIn n log bs) o (log ++ []) ≡ log ++ tailOf (getD bs o offEnd)
-  path-at o h = getD-map (λ (t : List ℕ). log ++ t) [] (take n (map tailOf bs)) o ∙ ap (λ (t : List ℕ). log ++ t) (getD-take n (map tailOf bs) o [] h ∙ tail-at bs o)
+  pub paths-length : (log : List ℕ) → length (map (λ t. log ++ t) (tailsIn n bs)) ≡ n
+  paths-length log = length-map (tailsIn n bs) (λ t. log ++ t) ∙ tails-length
 
-  pub paths-step : (o : ℕ) → o < n → drop o (pathsIn n log bs) ≡ (log ++ tailOf (getD bs o offEnd)) ∷ drop (o + 1) (pathsIn n log bs)
-  paths-step o h = rest-step (log ++ []) (pathsIn n log bs) o (omega (arith, paths-length)) ∙ ap (λ (p : List ℕ). p ∷ drop (o + 1) (pathsIn n log bs)) (path-at o h)
+  pub tails-step : (o : ℕ) → o < n → drop o (tailsIn n bs) ≡ tailOf (getD bs o offEnd) ∷ drop (o + 1) (tailsIn n bs)
+  tails-step o h =
+      rest-step [] (tailsIn n bs) o (omega (arith, tails-length)) ∙ ap (λ (t : List ℕ). t ∷ drop (o + 1) (tailsIn n bs)) (getD-take n (map tailOf bs) o [] h ∙ tail-at bs o)
 
-  pub size-is : 4 * n + 4 * n * n ≡ length (versionsBytes n (versionsIn n log bs))
-  size-is = sym (versions-length n (versionsIn n log bs) ∙ ap (λ (k : ℕ). 4 * n * suc k) paths-length ∙ omega arith)
+-- ── the bytes: of n counts, from those in `start` on ──
+module _ (n : ℕ) (start : List ℕ) (long : length start ≡ n) where
+  pub vector-length : (p : List ℕ) → length (vectorBytes start p) ≡ 8 * n
+  vector-length p = run-length 8 bytes64 be64 (roomFor 8) isCount countItem (vectorOf start p) ∙ ap (λ (k : ℕ). 8 * k) (counts-length start p ∙ long)
+
+  pub versions-length : (ps : List (List ℕ)) → length (versionsBytes start ps) ≡ 8 * n * length ps
+  unfolding versionsBytes
+  versions-length [] = omega arith
+  versions-length (p ∷ ps) = length-append (vectorBytes start p) (versionsBytes start ps) ∙ omega (arith, vector-length p, versions-length ps)
+
+  pub size-is : (log : List ℕ) (bs : List Ballot) → n ≤ length bs → 8 * n + 8 * n * n ≡ length (versionsBytes start (versionsIn n log bs))
+  size-is log bs some = sym (versions-length (versionsIn n log bs) ∙ ap (λ (k : ℕ). 8 * n * suc k) (paths-length n bs some log) ∙ omega arith)
 
 -- no product of the sizes is large
-pub row-few : (n : ℕ) → n ≤ 8 → 4 * n * n ≤ 256
-row-few n h = let a : 4 * n ≤ 32 = omega arith in mul-le-mul a h
+pub row-few : (n : ℕ) → n ≤ 8 → 8 * n * n ≤ 512
+row-few n h = let a : 8 * n ≤ 64 = omega arith in mul-le-mul a h
 
--- ── the walk that writes the paths' vectors ──
+-- ── the walk that writes the paths' vectors, from the log's on ──
 -- from office o on, at place p, the rest is left to store
-pub record ToWrite (l₀ : List ℕ) (at n : ℕ) (log : List ℕ) (bs : List Ballot) (l : List ℕ) (p o : ℕ) : Type 0 where
+pub record ToWrite (l₀ : List ℕ) (at n : ℕ) (base : List ℕ) (bs : List Ballot) (l : List ℕ) (p o : ℕ) : Type 0 where
   pub within : o ≤ n
-  pub left : Left l₀ at (versionsBytes n (pathsIn n log bs)) l p (versionsBytes n (drop o (pathsIn n log bs)))
+  pub left : Left l₀ at (versionsBytes base (tailsIn n bs)) l p (versionsBytes base (drop o (tailsIn n bs)))
 
-pub write-begins : (l : List ℕ) (at n : ℕ) (log : List ℕ) (bs : List Ballot) → ToWrite l at n log bs l at 0
-write-begins l at n log bs = record { within = zero-le; left = left-all l at (versionsBytes n (pathsIn n log bs)) }
+pub write-begins : (l : List ℕ) (at n : ℕ) (base : List ℕ) (bs : List Ballot) → ToWrite l at n base bs l at 0
+write-begins l at n base bs = record { within = zero-le; left = left-all l at (versionsBytes base (tailsIn n bs)) }
 
-module _ {l₀ : List ℕ} {at n : ℕ} {log : List ℕ} {bs : List Ballot} {l : List ℕ} {p o : ℕ} (inv : ToWrite l₀ at n log bs l p o) (some : n ≤ length bs) where
+module _ {l₀ : List ℕ} {at n : ℕ} {base : List ℕ} {bs : List Ballot} {l : List ℕ} {p o : ℕ} (inv : ToWrite l₀ at n base bs l p o) (long : length base ≡ n) (some : n ≤ length bs) where
   abbrev next : List ℕ
-  next = log ++ tailOf (getD bs o offEnd)
+  next = tailOf (getD bs o offEnd)
 
-  rest-next : o < n → versionsBytes n (drop o (pathsIn n log bs)) ≡ vectorBytes n next ++ versionsBytes n (drop (o + 1) (pathsIn n log bs))
+  rest-next : o < n → versionsBytes base (drop o (tailsIn n bs)) ≡ vectorBytes base next ++ versionsBytes base (drop (o + 1) (tailsIn n bs))
   unfolding versionsBytes
-  rest-next h = ap (versionsBytes n) (paths-step n log bs some o h)
+  rest-next h = ap (versionsBytes base) (tails-step n bs some o h)
 
-  rest-none : n ≤ o → versionsBytes n (drop o (pathsIn n log bs)) ≡ []
+  rest-none : n ≤ o → versionsBytes base (drop o (tailsIn n bs)) ≡ []
   unfolding versionsBytes
-  rest-none h = let l : length (pathsIn n log bs) ≤ o = omega (arith, paths-length n log bs some) in ap (versionsBytes n) (drop-of-length-le (pathsIn n log bs) l)
+  rest-none h = let l : length (tailsIn n bs) ≤ o = omega (arith, tails-length n bs some) in ap (versionsBytes base) (drop-of-length-le (tailsIn n bs) l)
 
-  pub write-room : o < n → at + length (versionsBytes n (pathsIn n log bs)) ≤ length l₀ → p + 4 * n ≤ length l
+  pub write-room : o < n → at + length (versionsBytes base (tailsIn n bs)) ≤ length l₀ → p + 8 * n ≤ length l
   write-room h room =
-      omega (arith, inv .left .place, inv .left .long, ap length (rest-next h), length-append (vectorBytes n next) (versionsBytes n (drop (o + 1) (pathsIn n log bs))), vector-length n next)
+      omega (arith, inv .left .place, inv .left .long, ap length (rest-next h), length-append (vectorBytes base next) (versionsBytes base (drop (o + 1) (tailsIn n bs))), vector-length n base long next)
 
-  pub write-again : o < n → {l′ : List ℕ} {p′ : ℕ} (counts : List ℕ) → take n counts ≡ vectorOf n (log ++ tailOf (getD bs o offEnd)) → p′ ≡ p + 4 * n
-      → l′ ≡ sets l p (run bytes32 (take n counts)) → ToWrite l₀ at n log bs l′ p′ (o + 1)
+  pub write-again : o < n → {l′ : List ℕ} {p′ : ℕ} (counts : List ℕ) → counts ≡ vectorOf base (tailOf (getD bs o offEnd)) → p′ ≡ p + 8 * n
+      → l′ ≡ sets l p (run bytes64 counts) → ToWrite l₀ at n base bs l′ p′ (o + 1)
   write-again h counts v e q = record {
     within = omega arith;
-    left = left-next (inv .left) (vectorBytes n next) (rest-next h) (e ∙ ap (λ (k : ℕ). p + k) (sym (vector-length n next))) (q ∙ ap (λ (c : List ℕ). sets l p (run bytes32 c)) v);
+    left = left-next (inv .left) (vectorBytes base next) (rest-next h) (e ∙ ap (λ (k : ℕ). p + k) (sym (vector-length n base long next))) (q ∙ ap (λ (c : List ℕ). sets l p (run bytes64 c)) v);
   }
 
-  pub write-ends : n ≤ o → l ≡ sets l₀ at (versionsBytes n (pathsIn n log bs))
+  pub write-ends : n ≤ o → l ≡ sets l₀ at (versionsBytes base (tailsIn n bs))
   write-ends h = left-none (inv .left) (rest-none h) .1
 
 -- ── all of it ──
-pub all-is : (n : ℕ) (log : List ℕ) (bs : List Ballot) → length (versionsBytes n (versionsIn n log bs)) ≡ 4 * n + length (versionsBytes n (pathsIn n log bs))
-unfolding versionsBytes
-all-is n log bs = length-append (vectorBytes n log) (versionsBytes n (pathsIn n log bs)) ∙ omega (arith, vector-length n log)
-
-module _ (n : ℕ) (log : List ℕ) (bs : List Ballot) (l l1 l2 : List ℕ) (p : ℕ) where
+module _ (n : ℕ) (start : List ℕ) (long : length start ≡ n) (log : List ℕ) (bs : List Ballot) (base : List ℕ) (e : base ≡ vectorOf start log) where
   abbrev all : List ℕ
-  all = versionsBytes n (versionsIn n log bs)
+  all = versionsBytes start (versionsIn n log bs)
 
-  pub whole : (base : List ℕ) → take n base ≡ vectorOf n log → p ≡ 0 + 4 * n → l1 ≡ sets l 0 (run bytes32 (take n base)) → l2 ≡ sets l1 p (versionsBytes n (pathsIn n log bs))
-      → length (versionsBytes n (versionsIn n log bs)) ≤ length l → l2 ≡ versionsBytes n (versionsIn n log bs) ++ drop (length (versionsBytes n (versionsIn n log bs))) l
+  all-parts : versionsBytes start (versionsIn n log bs) ≡ vectorBytes start log ++ versionsBytes base (tailsIn n bs)
   unfolding versionsBytes
-  whole base v e e1 e2 room =
-      let first : l1 ≡ sets l 0 (vectorBytes n log) = e1 ∙ ap (λ (c : List ℕ). sets l 0 (run bytes32 c)) v in
-      let place : p ≡ 0 + length (vectorBytes n log) = omega (arith, e, vector-length n log) in
+  all-parts = ap (λ (rest : List ℕ). vectorBytes start log ++ rest) (paths-bytes start log (tailsIn n bs) ∙ ap (λ (b : List ℕ). versionsBytes b (tailsIn n bs)) (sym e))
+
+  pub all-is : length (versionsBytes start (versionsIn n log bs)) ≡ 8 * n + length (versionsBytes base (tailsIn n bs))
+  all-is = ap length all-parts ∙ length-append (vectorBytes start log) (versionsBytes base (tailsIn n bs)) ∙ omega (arith, vector-length n start long log)
+
+  pub whole : (l l1 l2 : List ℕ) (p : ℕ) → p ≡ 0 + 8 * n → l1 ≡ sets l 0 (run bytes64 base) → l2 ≡ sets l1 p (versionsBytes base (tailsIn n bs))
+      → length (versionsBytes start (versionsIn n log bs)) ≤ length l → l2 ≡ versionsBytes start (versionsIn n log bs) ++ drop (length (versionsBytes start (versionsIn n log bs))) l
+  whole l l1 l2 p q e1 e2 room =
+      let first : l1 ≡ sets l 0 (vectorBytes start log) = e1 ∙ ap (λ (c : List ℕ). sets l 0 (run bytes64 c)) e in
+      let place : p ≡ 0 + length (vectorBytes start log) = omega (arith, q, vector-length n start long log) in
       let stores : l2 ≡ sets l 0 all =
-      e2 ∙ ap (λ (x : List ℕ). sets x p (versionsBytes n (pathsIn n log bs))) first ∙ ap (λ (k : ℕ). sets (sets l 0 (vectorBytes n log)) k (versionsBytes n (pathsIn n log bs))) place
-      ∙ sym (sets-append l 0 (vectorBytes n log) (versionsBytes n (pathsIn n log bs))) in
+      e2 ∙ ap₂ (λ (x : List ℕ) (k : ℕ). sets x k (versionsBytes base (tailsIn n bs))) first place
+      ∙ sym (ap (sets l 0) all-parts ∙ sets-append l 0 (vectorBytes start log) (versionsBytes base (tailsIn n bs))) in
       stores ∙ sets-eq all l 0 (rw zero-add room) ∙ rw zero-add

@@ -1,19 +1,19 @@
 // The vectors of an office's versions, written to a buffer. The functions are public only for the crates above, which prove what each requires.
 use ballots::Ballot;
-use numbers::put32;
+use numbers::put64;
 ghost use mathlib.Core.Path.{_≡_};
 ghost use Prim.Native.Nat.{_+_, _*_, _≤_};
 ghost use lib.ListN.{length, take};
 ghost use lib.Seq.{sets};
-ghost use Rattle.numbers.specs.Numbers.{bytes32, run};
+ghost use Rattle.numbers.specs.Numbers.{bytes64, run};
 ghost use Rattle.protocol.specs.Counts.{countsAfter};
 ghost use Rattle.ballots.specs.Ballots.{tailOf};
 ghost use Rattle.writer.specs.Written.{Writes};
-ghost use Rattle.vectors.specs.Vectors.{Countable, EachAtMost, versionsBytes, versionsIn};
+ghost use Rattle.vectors.specs.Vectors.{Countable, EachAtMost, mostKept, versionsBytes, versionsIn};
 
 // The counts of a ballot's path: those of the settled log, and then its tail's.
 pub fn path_counts(base: [u64; 8], b: Ballot) -> [u64; 8]
-    requires { ⌜ (b .len ≤ 32) × EachAtMost 1024 base ⌝ }
+    requires { ⌜ (b .len ≤ 32) × EachAtMost (mostKept + 1024) base ⌝ }
     ensures { λ r. ⌜ r ≡ countsAfter base (tailOf b) ⌝ }
 {
     let len = b.len;
@@ -27,31 +27,31 @@ pub fn path_counts(base: [u64; 8], b: Ballot) -> [u64; 8]
     counts
 }
 
-// The first n counts, four bytes each, from a position on; the position after them.
+// The first n counts, eight bytes each, from a position on; the position after them.
 fn put_vector(out: &mut [u8], at: usize, counts: [u64; 8], n: usize) -> usize
-    requires { ⌜ (n ≤ 8) × (EachAtMost 1056 counts × (at + 4 * n ≤ length (now out))) ⌝ }
-    ensures { λ r. ⌜ (r ≡ at + 4 * n) × (now (out .exit) ≡ sets (now (out .entry)) at (run bytes32 (take n counts))) ⌝ }
+    requires { ⌜ (n ≤ 8) × (at + 8 * n ≤ length (now out)) ⌝ }
+    ensures { λ r. ⌜ (r ≡ at + 8 * n) × (now (out .exit) ≡ sets (now (out .entry)) at (run bytes64 (take n counts))) ⌝ }
 {
     let mut p = at;
     for k in 0..n {
-        put32(out, p, counts[k] as u32);
-        p += 4;
+        put64(out, p, counts[k]);
+        p += 8;
     }
     p
 }
 
 // Writes the vectors of the settled log and of n paths to the start of a buffer that has room for them, and answers their length. Without room
-// the answer is 0, and the buffer is as it was.
-pub fn write(n: usize, log: &[u32], ballots: [Ballot; 8], out: &mut [u8]) -> usize
-    requires { ⌜ Countable n (now log) ballots ⌝ }
-    ensures { λ r. ⌜ Writes (versionsBytes n (versionsIn n (now (log .entry)) ballots)) (now (out .entry)) r (now (out .exit)) ⌝ }
+// the answer is 0, and the buffer is as it was. `start` has the counts of the entries before the log.
+pub fn write(n: usize, start: [u64; 8], log: &[u32], ballots: [Ballot; 8], out: &mut [u8]) -> usize
+    requires { ⌜ Countable n start (now log) ballots ⌝ }
+    ensures { λ r. ⌜ Writes (versionsBytes (take n start) (versionsIn n (now (log .entry)) ballots)) (now (out .entry)) r (now (out .exit)) ⌝ }
 {
-    let row = 4 * n;
+    let row = 8 * n;
     let size = row + row * n;
     if out.len() < size {
         return 0;
     }
-    let base = counting::counts(log);
+    let base = counting::counts_after(start, log);
     let mut p = put_vector(out, 0, base, n);
     for o in 0..n {
         let b = ballots[o];

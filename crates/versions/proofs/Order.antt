@@ -1,22 +1,21 @@
 -- Two vectors, count by count.
 --     WalkedTo, walked-next, walked-done      a walk over the counts, both ways: one office more, and its end
 --     found-stands                            what was found both ways is the answer
---     zeros-pass                              zeros behind the counts are within the limit
---     sized, not-sized, vector-sized          bytes of the length of a vector, and of another
+--     sized                                   a vector has the length of one
 -- Assumes nothing.
 use mathlib.Core.Path.{_≡_, refl, sym, ap, ap₂, _∙_}
-use mathlib.Core.Bool.{Bool, true, false, _&&_}
-use mathlib.Core.List.{List, _++_}
-use Prim.Native.Nat.{ℕ, _+_, _*_, _-_, _<_, _≤_}
+use mathlib.Core.Bool.{Bool, true, _&&_}
+use mathlib.Core.List.{List}
+use Prim.Native.Nat.{ℕ, _+_, _*_, _<_, _≤_}
 use native.Mathlib.Omega.{arith}
 use lib.Dec.{leb}
-use lib.ListN.{length, getD, take, drop, replicate, drop-of-length-le}
+use lib.ListN.{length, getD, take, drop, drop-of-length-le}
 use lib.Seq.{length-take-le, getD-take}
-use borrow.Author.Tests.{eq-eqb, ne-eqb, eqb-true}
-use Rattle.lists.specs.Tests.{allB, both}
-use Rattle.lists.proofs.Tests.{alike, all-append, all-append-0, all-replicate, both-0, both-assoc, both-comm}
+use borrow.Author.Tests.{eqb-true}
+use Rattle.lists.specs.Tests.{both}
+use Rattle.lists.proofs.Tests.{both-assoc, both-comm}
 use Rattle.lists.proofs.Walk.{and-both, rest-step}
-use Rattle.versions.specs.Versions.{atMost, comparedTo, countsIn, isVector, stands}
+use Rattle.versions.specs.Versions.{atMost, comparedTo, isVector, stands}
 
 -- ── one way ──
 -- what was found of the first k of n counts, and the rest
@@ -65,20 +64,6 @@ module _ (n : ℕ) (a b : List ℕ) (la : n ≤ length a) (lb : n ≤ length b) 
   found-stands e l h p q = ap₂ stands (sym p ∙ way-done n a b la lb low k (inv .1 .0) e) (sym q ∙ way-done n b a lb la high k (inv .1 .1) e)
 
 -- ── the bytes of a vector ──
-module _ (n : ℕ) (s : List ℕ) where
-  pub zeros-pass : (m : ℕ) → allB (λ (c : ℕ). leb c 1024) (countsIn n s ++ replicate m 0) ≡ allB (λ (c : ℕ). leb c 1024) (countsIn n s)
-  zeros-pass m =
-      let t : ℕ → Bool = λ (c : ℕ). leb c 1024 in
-      alike _ _ (all-append-0 t (countsIn n s) (replicate m 0)) (λ e. all-append t (countsIn n s) (replicate m 0) e (all-replicate t m 0 refl))
-
-  pub sized : isVector n s ≡ true → length s ≡ 4 * n
-  unfolding isVector
-  sized e = eqb-true (length s) (4 * n) (both-0 _ _ e)
-
-  pub not-sized : (length s ≡ 4 * n → ⊥) → false ≡ isVector n s
-  unfolding isVector both
-  not-sized h = rw (ne-eqb (length s) (4 * n) h)
-
-  pub vector-sized : length s ≡ 4 * n → isVector n s ≡ allB (λ (c : ℕ). leb c 1024) (countsIn n s)
-  unfolding isVector both
-  vector-sized h = rw (eq-eqb (length s) (4 * n) h)
+pub sized : (n : ℕ) (s : List ℕ) → isVector n s ≡ true → length s ≡ 8 * n
+unfolding isVector
+sized n s e = eqb-true (length s) (8 * n) e

@@ -1,22 +1,22 @@
 -- Request (xi): "Read one vector to answer, for the log and then each of those paths, whether by counts it comes before, equals, comes after or
--- stands beside that vector". Assumes nothing.
+-- stands beside that vector"; (xiv) "Archive counts become 8 bytes and lose that limit" of 1024. Assumes nothing.
 use Prim.Native.Nat.{ℕ, _*_, _-_}
 use mathlib.Core.Bool.{Bool, true, false}
 use mathlib.Core.List.{List, [], _∷_, _++_, map}
 use lib.Dec.{eqb, leb}
 use lib.ListN.{length, replicate}
-use Rattle.lists.specs.Tests.{allB, both}
-use Rattle.numbers.specs.Numbers.{be32, runAt}
+use Rattle.lists.specs.Tests.{both}
+use Rattle.numbers.specs.Numbers.{be64, runAt}
 use Rattle.vectors.specs.Vectors.{vectorOf}
 
 -- ── a vector read ──
 -- the n counts that its bytes say
 abbrev pub countsIn : ℕ → List ℕ → List ℕ
-countsIn n s = runAt 4 be32 n s
+countsIn n s = runAt 8 be64 n s
 
--- "exactly n counts of 4 bytes each at most 1024"
+-- "exactly n counts", of any size
 unfoldable pub isVector : ℕ → List ℕ → Bool
-isVector n s = both (eqb (length s) (4 * n)) (allB (λ (c : ℕ). leb c 1024) (countsIn n s))
+isVector n s = eqb (length s) (8 * n)
 
 -- ── two vectors ──
 -- the four answers
@@ -50,9 +50,9 @@ unfoldable pub comparedTo : List ℕ → List ℕ → ℕ
 comparedTo a b = stands (atMost a b) (atMost b a)
 
 -- ── the versions of an office ──
--- the answer for each version, to the vector v
-abbrev pub answersTo : ℕ → List ℕ → List (List ℕ) → List ℕ
-answersTo n v ps = map (λ p. comparedTo (vectorOf n p) v) ps
+-- the answer for each version, counted from `start` on, to the vector v
+abbrev pub answersTo : List ℕ → List ℕ → List (List ℕ) → List ℕ
+answersTo start v ps = map (λ p. comparedTo (vectorOf start p) v) ps
 
 -- nine answers, beside past the last version
 abbrev pub nine : List ℕ → List ℕ

@@ -1,7 +1,7 @@
 // A vector read and compared with those of an office's versions. The functions are public only for the crate above, which proves what each
 // requires.
 use ballots::Ballot;
-use numbers::be32_at;
+use numbers::be64_at;
 ghost use mathlib.Core.Path.{_≡_};
 ghost use mathlib.Core.List.{_++_};
 ghost use Prim.Native.Nat.{_-_, _*_, _≤_};
@@ -18,20 +18,16 @@ pub const AFTER: u32 = 2;
 
 pub const BESIDE: u32 = 3;
 
-// The longest log or path, and so the largest count.
-const MOST: u64 = 1024;
-
 // The counts in the bytes of a vector; zero from place n on.
 fn counts_in(s: &[u8], n: usize) -> [u64; 8]
-    requires { ⌜ (n ≤ 8) × (length (now s) ≡ 4 * n) ⌝ }
+    requires { ⌜ (n ≤ 8) × (length (now s) ≡ 8 * n) ⌝ }
     ensures { λ r. ⌜ r ≡ countsIn n (now (s .entry)) ++ replicate (8 - n) 0 ⌝ }
 {
     let mut counts: [u64; 8] = [0; 8];
     let mut at = 0;
     for k in 0..n {
-        let count = be32_at(s, at);
-        counts[k] = count as u64;
-        at += 4;
+        counts[k] = be64_at(s, at);
+        at += 8;
     }
     counts
 }
@@ -41,15 +37,7 @@ pub fn is_vector(s: &[u8], n: usize) -> bool
     requires { ⌜ n ≤ 8 ⌝ }
     ensures { λ r. ⌜ r ≡ isVector n (now (s .entry)) ⌝ }
 {
-    if s.len() != 4 * n {
-        return false;
-    }
-    let counts = counts_in(s, n);
-    let mut good = true;
-    for k in 0..8 {
-        good = good & (counts[k] <= MOST);
-    }
-    good
+    s.len() == 8 * n
 }
 
 // How the first n counts of one stand to those of another.
@@ -75,13 +63,14 @@ fn compared(a: [u64; 8], b: [u64; 8], n: usize) -> u32
     BESIDE
 }
 
-// How the settled log, and then each of n paths, stands to the vector in the bytes; beside in the answers behind them.
-pub fn answers(n: usize, log: &[u32], ballots: [Ballot; 8], s: &[u8]) -> [u32; 9]
-    requires { ⌜ Countable n (now log) ballots × (length (now s) ≡ 4 * n) ⌝ }
-    ensures { λ r. ⌜ r ≡ nine (answersTo n (countsIn n (now (s .entry))) (versionsIn n (now (log .entry)) ballots)) ⌝ }
+// How the settled log, and then each of n paths, stands to the vector in the bytes; beside in the answers behind them. `start` has the counts of
+// the entries before the log.
+pub fn answers(n: usize, start: [u64; 8], log: &[u32], ballots: [Ballot; 8], s: &[u8]) -> [u32; 9]
+    requires { ⌜ Countable n start (now log) ballots × (length (now s) ≡ 8 * n) ⌝ }
+    ensures { λ r. ⌜ r ≡ nine (answersTo (take n start) (countsIn n (now (s .entry))) (versionsIn n (now (log .entry)) ballots)) ⌝ }
 {
     let given = counts_in(s, n);
-    let base = counting::counts(log);
+    let base = counting::counts_after(start, log);
     let mut answers: [u32; 9] = [BESIDE; 9];
     answers[0] = compared(base, given, n);
     for o in 0..n {

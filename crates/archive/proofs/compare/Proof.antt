@@ -36,11 +36,11 @@ returns-2 : tie.Need-returns-2
 returns-2 c = compare-no-vector _ _ _ (passed (c .before .before)) (sym (c .before .is-vector .ensures) ∙ not-true _ (c .if2 .taken))
 
 answers-requires : tie.Need-answers-requires
-answers-requires c κs = let x = c .before .before in (countable _ _ (sounds (tested x)), sized _ _ (vector x))
+answers-requires c κs = let x = c .before .before .before .before in (countable _ _ (sounds (tested x)), sized _ _ (vector x))
 
 returns-3 : tie.Need-returns-3
-returns-3 c = let x = c .before .before .before in compare-done _ _ _ (passed (tested x)) (vector x) (c .answers .ensures)
+returns-3 c = let x = c .before .before .before .before .before in compare-done _ _ _ (passed (tested x)) (vector x) (c .answers .ensures)
 
 pub compare-spec : {M : Type 1} → statement M
 compare-spec = tie.close (tie.spec (λ c κs. search needs) returns (λ c κs. sounds c .head .most) returns-2
-    (λ c. sym (log-length _ _ (sounds (tested (c .before .before))))) answers-requires returns-3)
+    (λ c. sounds (tested (c .before)) .within) (λ c. sym (log-length _ _ (sounds (tested (c .before .before .before .before))))) answers-requires returns-3)

@@ -20,7 +20,7 @@ returns c = let a = c .before .before .before .before .args in write-unsound (a 
 
 -- behind what writes
 abbrev tested : tie.After-write → tie.Else1
-tested c = c .before .before .before .before
+tested c = c .before .before .before .before .before .before
 
 returns-2 : tie.Need-returns-2
 returns-2 c =
@@ -36,4 +36,4 @@ returns-3 c =
 
 pub write-spec : {M : Type 1} → statement M
 write-spec =
-    tie.close (tie.spec (λ c κs. search needs) returns (λ c. sym (log-length _ _ (passed (c .before .before)))) (λ c κs. countable _ _ (passed (c .before .before .before))) (λ c. search needs) returns-2 (λ c. search needs) returns-3)
+    tie.close (tie.spec (λ c κs. search needs) returns (λ c. passed (c .before) .within) (λ c. sym (log-length _ _ (passed (c .before .before .before .before)))) (λ c κs. countable _ _ (passed (c .before .before .before .before .before))) (λ c. search needs) returns-2 (λ c. search needs) returns-3)

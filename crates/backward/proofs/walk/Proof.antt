@@ -10,10 +10,10 @@ use Rattle.backward.proofs.walk.Statement.{statement}
 use Rattle.backward.proofs.walk.Tie as tie
 
 abbrev Inv-loop : tie.InvT-loop
-Inv-loop words lines left₀ cells₀ end₀ left cells end = Walking lines words left cells end
+Inv-loop words lines codes left₀ cells₀ end₀ left cells end = Walking lines words left cells end
 
 abbrev μ-loop : tie.MeasureT-loop
-μ-loop words lines left₀ cells₀ end₀ left cells end = end
+μ-loop words lines codes left₀ cells₀ end₀ left cells end = end
 
 -- the places of the code: the start, the loop, and a turn of it behind its test
 abbrev start : tie.At-loop Inv-loop μ-loop → tie.Start Inv-loop μ-loop
@@ -48,7 +48,7 @@ returns c =
     let l = x .before .loop in
     let s = start (x .before) in
     let over : (l .left ≡ 0) ⊎ (l .end ≡ 0) = ⊎-elim (λ t. inl (omega (arith, t .left))) (λ t. inr (t .1 .taken)) (x .loop-test .came) in
-    walking-ends (s .args .lines .now) (s .args .words .now) (s .pre) (l .left) (l .cells) (l .end) (l .inv) over _ (c .answers .ensures)
+    walking-ends (s .args .lines .now) (s .args .words .now) (s .pre) (l .left) (l .cells) (l .end) (l .inv) over (s .args .codes) _ (c .answers .ensures)
 
 pub walk-spec : {M : Type 1} → statement M
 walk-spec =

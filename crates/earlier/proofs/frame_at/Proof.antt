@@ -1,8 +1,8 @@
--- The refusals in the order of their numbers; then the walk over the first p words, which are the first p settled entries.
+-- The refusals in the order of their numbers; then the walk over the first words, which are those of the first p settled entries that are not dropped.
 use mathlib.Core.Path.{_≡_, sym, _∙_}
 use mathlib.Core.Bool.{true}
 use mathlib.Core.List.{List}
-use Prim.Native.Nat.{ℕ, _≤_}
+use Prim.Native.Nat.{ℕ, _-_, _≤_}
 use native.Mathlib.Omega.{arith}
 use borrow.Author.Needs.{needs}
 use borrow.Author.Tests.{not-true, not-false}
@@ -12,7 +12,7 @@ use Rattle.backward.specs.Runs.{ofFrame}
 use Rattle.frame.specs.Soundness.{soundB}
 use Rattle.frame.specs.declared.Record.{Record}
 use Rattle.frame.proofs.Sound.{sound}
-use Rattle.earlier.proofs.Made.{earlier-unsound, earlier-no-line, earlier-no-place, earlier-many, earlier-made}
+use Rattle.earlier.proofs.Made.{earlier-unsound, earlier-no-line, earlier-dropped, earlier-no-place, earlier-many, earlier-made}
 use Rattle.earlier.proofs.frame_at.Statement.{statement}
 use Rattle.earlier.proofs.frame_at.Tie as tie
 
@@ -35,14 +35,18 @@ passed c = sym (c .before .sound .ensures) ∙ not-false _ (c .if1 .left)
 of-frame : (c : tie.Else2) → ofFrame (lines (c .before .before .before)) ≡ true
 of-frame c = sym (c .before .of-frame .ensures) ∙ not-false _ (c .if2 .left)
 
-abbrev tested : tie.Else4 → tie.Else2
-tested c = c .before .before .before
+-- from the test of the settled length
+abbrev settled : tie.Else4 → tie.Else3
+settled c = c .before .before
 
-abbrev begun : tie.Else4 → tie.After-sound
+abbrev tested : tie.Else5 → tie.Else2
+tested c = settled (c .before) .before
+
+abbrev begun : tie.Else5 → tie.After-sound
 begun c = tested c .before .before .before
 
-within : (c : tie.Else4) → start (begun c) .args .p ≤ length (log (begun c))
-within c = let S = sound (office (begun c)) (log (begun c)) (passed (tested c .before .before)) in omega (arith, c .before .if3 .left, S .room, S .most)
+within : (c : tie.Else5) → start (begun c) .args .p - office (begun c) .kept .dropped ≤ length (log (begun c))
+within c = let S = sound (office (begun c)) (log (begun c)) (passed (tested c .before .before)) in omega (arith, c .before .if4 .left, S .room, S .most)
 
 returns : tie.Need-returns
 returns c = c .refused .ensures ∙ earlier-unsound _ _ _ _ (sym (c .before .before .sound .ensures) ∙ not-true _ (c .before .if1 .taken))
@@ -54,27 +58,32 @@ returns-2 c =
 
 returns-3 : tie.Need-returns-3
 returns-3 c =
-    let x = c .before .before .before in
-    c .refused3 .ensures ∙ earlier-no-place _ _ _ _ (passed (x .before .before)) (of-frame x) (c .before .if3 .taken)
+    let x = c .before .before in
+    c .refused3 .ensures ∙ earlier-dropped _ _ _ _ (passed (x .before .before)) (of-frame x) (c .before .if3 .taken)
 
 returns-4 : tie.Need-returns-4
 returns-4 c =
     let x = c .before .before .before .before in
-    c .refused4 .ensures ∙ earlier-many _ _ _ _ (passed (x .before .before)) (of-frame x) (c .before .if4 .taken)
-
-slice-aggregate-walk : tie.Need-slice-aggregate-walk
-slice-aggregate-walk c = sym (length-take-le _ _ (within (c .before)))
-
-walk-requires : tie.Need-walk-requires
-walk-requires c κs = record { few = c .before .if4 .left; each = of-frame (tested (c .before)) }
+    c .refused4 .ensures ∙ earlier-no-place _ _ _ _ (passed (x .before .before)) (of-frame x) (c .before .if4 .taken)
 
 returns-5 : tie.Need-returns-5
 returns-5 c =
-    let e = c .before .before .before in
+    let x = settled (c .before .before) .before in
+    c .refused5 .ensures ∙ earlier-many _ _ _ _ (passed (x .before .before)) (of-frame x) (c .before .if5 .taken)
+
+slice-aggregate-walk : tie.Need-slice-aggregate-walk
+slice-aggregate-walk c = sym (length-take-le _ _ (within (c .before .before)))
+
+walk-requires : tie.Need-walk-requires
+walk-requires c κs = record { few = c .before .before .if5 .left; each = of-frame (tested (c .before .before)) }
+
+returns-6 : tie.Need-returns-6
+returns-6 c =
+    let e = c .before .before .before .before in
     let x = tested e in
-    earlier-made _ _ _ _ (passed (x .before .before)) (of-frame x) (e .before .if3 .left) (e .if4 .left) _ (c .before .walk .ensures)
+    earlier-made _ _ _ _ (passed (x .before .before)) (of-frame x) (settled (e .before) .if3 .left) (e .before .if4 .left) (e .if5 .left) _ (c .before .walk .ensures)
 
 pub frame-at-spec : {M : Type 1} → statement M
 frame-at-spec =
     tie.close (tie.spec (λ c κs. search needs) (λ c κs. search needs) returns (λ c κs. search needs) (λ c κs. search needs) returns-2
-    (λ c κs. search needs) returns-3 (λ c κs. search needs) returns-4 slice-aggregate-walk walk-requires returns-5)
+    (λ c κs. search needs) returns-3 (λ c κs. search needs) returns-4 (λ c κs. search needs) returns-5 slice-aggregate-walk walk-requires returns-6)

@@ -1,8 +1,6 @@
 -- The refusals in the order of their numbers; then the winner by the votes of the ballots and the counts of the settled log.
-use native.Mathlib.Omega.{arith}
 use mathlib.Core.Bool.{true}
 use mathlib.Core.Path.{_≡_, sym, _∙_}
-use lib.ListN.{length, take}
 use borrow.Author.Tests.{not-true, not-false}
 use borrow.Author.Needs.{needs}
 use Rattle.bounds.specs.Bounds.{fits}
@@ -10,7 +8,7 @@ use Rattle.frame.specs.Soundness.{soundB, Sound}
 use Rattle.frame.proofs.Sound.{sound}
 use Rattle.frame.proofs.State.{log-length}
 use Rattle.forecast.specs.Forecast.{boundsOf}
-use Rattle.forecast.proofs.Answer.{forecast-unsound, forecast-unfit, forecast-done, votes-silent}
+use Rattle.forecast.proofs.Answer.{forecast-unsound, forecast-unfit, forecast-done, votes-silent, counts-room}
 use Rattle.forecast.proofs.first_step.Statement.{statement}
 use Rattle.forecast.proofs.first_step.Tie as tie
 
@@ -31,8 +29,8 @@ returns c = let a = c .before .before .before .args in forecast-unsound (a .offi
 abbrev from-fit : tie.Else2 → tie.Else1
 from-fit c = c .before .before
 
-abbrev from-counts : tie.After-counts-arg → tie.Else2
-from-counts c = c .before .before
+abbrev from-counts : tie.After-counts-after-arg → tie.Else2
+from-counts c = c .before .before .before .before
 
 fitted : (c : tie.Else2) → let a = start (from-fit c) .args in fits (boundsOf (a .office) (a .lowest)) (boundsOf (a .office) (a .highest)) ≡ true
 fitted c = sym (c .before .fit .ensures) ∙ not-false _ (c .if2 .left)
@@ -43,8 +41,11 @@ returns-2 c =
     let a = start e .args in
     forecast-unfit (a .office) (a .log .now) (a .lowest) (a .highest) (passed e) (sym (c .before .fit .ensures) ∙ not-true _ (c .if2 .taken))
 
-logged : (c : tie.After-counts-arg) → let a = start (from-fit (from-counts c)) .args in length (take (a .office .settled) (a .log .now)) ≡ a .office .settled
-logged c = log-length _ _ (sounds (from-fit (from-counts c)))
+counts-after-requires : tie.Need-counts-after-requires
+counts-after-requires c κs =
+    let f = from-counts c in
+    let a = start (from-fit f) .args in
+    counts-room (a .office) (a .log .now) (a .lowest) (a .highest) (sounds (from-fit f))
 
 sure-winner-requires : tie.Need-sure-winner-requires
 sure-winner-requires c κs =
@@ -58,10 +59,10 @@ returns-3 c =
     let f = from-counts (counted .before) in
     let e = from-fit f in
     let a = start e .args in
-    forecast-done (a .office) (a .log .now) (a .lowest) (a .highest) (sounds e) (passed e) (fitted f) _ (counted .counts .ensures) _ (c .before .votes .ensures) _ (c .sure-winner .ensures)
+    forecast-done (a .office) (a .log .now) (a .lowest) (a .highest) (sounds e) (passed e) (fitted f) _ (counted .counts-after .ensures) _ (c .before .votes .ensures) _ (c .sure-winner .ensures)
 
 pub first-step-spec : {M : Type 1} → statement M
 first-step-spec =
     tie.close
-    (tie.spec (λ c κs. search needs) returns (λ c κs. sounds c .head .most) returns-2 (λ c. sym (logged c))
-    (λ c κs. omega (arith, logged c, sounds (from-fit (from-counts c)) .most)) (λ c κs. search needs) sure-winner-requires returns-3)
+    (tie.spec (λ c κs. search needs) returns (λ c κs. sounds c .head .most) returns-2 (λ c. sounds (from-fit (c .before)) .within) (λ c. sym (log-length _ _ (sounds (from-fit (from-counts c)))))
+    counts-after-requires (λ c κs. search needs) sure-winner-requires returns-3)

@@ -2,10 +2,11 @@
 use borrow.Author.Needs.{needs}
 use native.Mathlib.Omega.{arith}
 use mathlib.Core.Path.{_≡_, sym, refl}
-use Prim.Native.Nat.{_-_}
+use Prim.Native.Nat.{_+_, _-_}
 use lib.ListN.{length}
 use lib.Seq.{length-take-le}
 use Rattle.ballots.specs.Ballots.{tailOf}
+use Rattle.vectors.specs.Vectors.{mostKept}
 use Rattle.vectors.proofs.Paths.{Walked, path-next, path-done, path-room}
 use Rattle.vectors.proofs.path_counts.Statement.{statement}
 use Rattle.vectors.proofs.path_counts.Tie as tie
@@ -33,13 +34,13 @@ add-counts : tie.Need-add-counts Inv-loop μ-loop
 add-counts c =
     let t = c .before .before in
     let s = start t in
-    omega (arith, path-room (s .args .t1) (tailOf (s .args .b)) 1024 (s .pre .1) (t .in-tail .result) (t .in-tail .ensures) (c .before .loop .k), taken s, s .pre .0)
+    omega (arith, path-room (s .args .t1) (tailOf (s .args .b)) (mostKept + 1024) (s .pre .1) (t .in-tail .result) (t .in-tail .ensures) (c .before .loop .k), taken s, s .pre .0)
 
 loop-again : tie.Need-loop-again Inv-loop μ-loop
 loop-again c =
     let t = c .before .before in
     let l = c .before .loop in
-    path-next (start t .args .t1) (t .in-tail .result) (eight (start t)) (l .counts) (l .k) (l .inv) (c .loop-test .taken)
+    path-next (start t .args .t1) (t .in-tail .result) (eight (start t)) (l .counts) (l .k) (l .inv) (omega (arith, c .loop-test .taken))
 
 returns : tie.Need-returns Inv-loop μ-loop
 returns c =

@@ -2,13 +2,13 @@
 use Prim.Native.Nat.{_-_}
 use lib.ListN.{replicate}
 use borrow.Author.Needs.{needs}
-use Rattle.numbers.specs.Numbers.{be32}
+use Rattle.numbers.specs.Numbers.{be64}
 use Rattle.numbers.proofs.Steps.{Filling, filling-again, filling-begins, filling-ends}
 use Rattle.versions.proofs.counts_in.Statement.{statement}
 use Rattle.versions.proofs.counts_in.Tie as tie
 
 abbrev Inv-loop : tie.InvT-loop
-Inv-loop s n counts₀ at₀ k₀ counts at k = Filling 4 be32 (replicate 8 0) s 0 n counts at k
+Inv-loop s n counts₀ at₀ k₀ counts at k = Filling 8 be64 (replicate 8 0) s 0 n counts at k
 
 abbrev μ-loop : tie.MeasureT-loop
 μ-loop s n counts₀ at₀ k₀ counts at k = n - k
@@ -20,4 +20,4 @@ pub counts-in-spec : {M : Type 1} → statement M
 counts-in-spec =
     tie.close
     (tie.spec Inv-loop μ-loop (λ c. filling-begins) (λ c κs. search needs) (λ c. search needs) (λ c. search needs) (λ c. search needs) (λ c. search needs) (λ c. search needs)
-    (λ c. search needs) (λ c. filling-again (c .before .before .loop .inv) (c .before .loop-test .taken) (c .be32-at .ensures)) returns)
+    (λ c. filling-again (c .before .before .loop .inv) (c .before .loop-test .taken) (c .be64-at .ensures)) returns)
