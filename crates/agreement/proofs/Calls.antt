@@ -1,132 +1,77 @@
 -- What each call of the list may be refused with, and what the offices keep. Assumes nothing.
-use mathlib.Core.Path.{_≡_, refl, sym, ap, subst, _∙_}
-use mathlib.Core.Bool.{Bool, true, false, _||_, cond}
-use mathlib.Core.List.{List, [], _∷_, _++_}
+use mathlib.Core.Path.{_≡_, refl, sym, ap, ap₂, subst, _∙_}
+use mathlib.Core.Bool.{true}
+use mathlib.Core.List.{List}
 use mathlib.Core.Option.{Option, none, some}
 use mathlib.Core.Logic.{_⊎_, inl, inr}
-use Prim.Native.Nat.{ℕ, _+_}
+use Prim.Native.Nat.{ℕ, _+_, _<_}
 use native.Mathlib.Omega.{arith}
-use lib.Dec.{eqb, ltb}
+use lib.Dec.{eqb}
 use lib.ListN.{length, drop}
 use borrow.Author.Tests.{eqb-true}
 use Rattle.lists.specs.Tests.{pick, allB}
-use Rattle.protocol.specs.Beginning.{begins}
-use Rattle.protocol.specs.Office.{Office, Message, tail}
-use Rattle.protocol.proofs.Limits.{issue-never}
-use Rattle.protocol.specs.Limits.{isWeight, total, Head}
-use Rattle.protocol.specs.Moves.{weightsAfter}
-use Rattle.protocol.proofs.Moves.{weights-total, weights-most, weights-zero}
-use Rattle.protocol.specs.Take.{refuseTake}
 use Rattle.lists.proofs.Tests.{pick-cases}
+use Rattle.protocol.specs.Beginning.{_⊑_}
+use Rattle.protocol.specs.Counts.{noCounts, countsAfter}
+use Rattle.protocol.specs.Elect.{withElect}
+use Rattle.protocol.specs.Entry.{value}
+use Rattle.protocol.specs.Folding.{refuseFoldedTake}
+use Rattle.protocol.specs.Issue.{withIssue}
+use Rattle.protocol.specs.Limits.{isWeight, total}
+use Rattle.protocol.specs.Moves.{weightsAfter}
+use Rattle.protocol.specs.Office.{Message, votes}
+use Rattle.protocol.specs.Take.{withTake}
+use Rattle.protocol.specs.SettledRule.{ruleFrom, bySettled}
+use Rattle.protocol.specs.Vote.{Rule}
+use Rattle.protocol.proofs.Counts.{counts-append}
+use Rattle.protocol.proofs.Issue.{issue-never}
+use Rattle.protocol.proofs.Kept.{kept-suffices}
+use Rattle.protocol.proofs.Moves.{weights-total, weights-most, weights-zero}
+use Rattle.protocol.proofs.Folding as Folding
+use Rattle.protocol.proofs.Folding.{take-found}
+use Rattle.protocol.proofs.FoldedWorld as F
+use Rattle.protocol.proofs.FoldedSound as S
+use Rattle.kept.specs.declared.Kept.{Kept}
+use Rattle.summary.specs.Summary.{startWith, summaryAfter}
+use Rattle.summary.specs.declared.Summary.{Summary}
+use Rattle.summary.proofs.Laws.{summary-append}
 use Rattle.frame.specs.Issuing.{issueOf}
 use Rattle.frame.specs.Sending.{sendOf}
 use Rattle.frame.specs.Taking.{takeOf}
-use Rattle.frame.specs.Electing.{electOf}
+use Rattle.frame.specs.Electing.{winnerOf}
+use Rattle.frame.specs.Folding.{foldOf}
+use Rattle.frame.specs.State.{heldBy, foldedBy}
 use Rattle.frame.proofs.Sound.{sound-true}
-use Rattle.agreement.specs.World.{Replica, World, Call, issue, send, take, elect, replicaAt, messageAt, onSome, number, put, post, posted, step, after}
+use Rattle.agreement.specs.World.{Replica, Posted, World, Call, issue, send, take, elect, fold, replicaAt, messageAt, onSome, number, put, issued, taken, elected, folded, post, posted, step, after}
 use Rattle.agreement.specs.Demand.{Founded, says}
-use Rattle.agreement.specs.Calls.{Kept}
+use Rattle.agreement.specs.Calls as Claims
+use Rattle.agreement.specs.Calls.{carries}
 use Rattle.agreement.proofs.Places.{set-same}
-use Rattle.summary.specs.Summary.{startWith, summaryAfter}
-use Rattle.summary.specs.declared.Summary.{Summary}
-use Rattle.agreement.proofs.View.{means, sendDone, SoundReplica, SoundWorld}
-use Rattle.agreement.proofs.Held.{replica-fine}
-use Rattle.agreement.proofs.Issued.{issueReplica, issue-number, issue-refused}
-use Rattle.agreement.proofs.Sent.{send-number}
-use Rattle.agreement.proofs.Taken.{takeReplica, take-number, take-refused}
-use Rattle.agreement.proofs.Elected.{elect-number}
-use Rattle.agreement.proofs.Demand.{sound-after, one-order}
-
--- ── the protocol's numbers ──
-refuseTake-is : (k : ℕ) (m : Message) (o : Office) → (refuseTake k m o ≡ 0) ⊎ ((refuseTake k m o ≡ 9) ⊎ (refuseTake k m o ≡ 10))
-unfolding refuseTake
-refuseTake-is k m o = go (eqb (m .sender) k) (begins (o .log) (m .state .log) || begins (m .state .log) (o .log))
-  where
-    N : Bool → Bool → ℕ
-    N a b = cond a 9 (cond b 0 10)
-
-    go : (a b : Bool) → (N a b ≡ 0) ⊎ ((N a b ≡ 9) ⊎ (N a b ≡ 10))
-    go true b = inr (inl refl)
-    go false true = inl refl
-    go false false = inr (inr refl)
+use Rattle.agreement.proofs.View.{effectIn, deskOf, sentOf, shape, sendDone, SoundReplica, SoundWorld, carried, shape-sent, shape-at}
+use Rattle.agreement.proofs.Issued.{issue-number, issue-moves}
+use Rattle.agreement.proofs.Taken.{take-number, take-moves}
+use Rattle.agreement.proofs.Elected.{elect-moves}
+use Rattle.agreement.proofs.Folded.{fold-count, fold-moves}
+use Rattle.agreement.proofs.Follows.{both-after}
+use Rattle.agreement.proofs.Numbers.{elects, folds, sends, takes, takes-other}
+use Rattle.agreement.proofs.Demand.{kept-is}
 
 -- ── one call ──
 module _ (n : ℕ) (ws : List ℕ) (w : World) (s : SoundWorld n ws w) where
-  elects : (k : ℕ) → number w (elect k) ≡ 0
-  unfolding number
-  elects k = go (replicaAt w k) refl
-    where
-      go : (x : Option Replica) → replicaAt w k ≡ x → onSome x 0 (λ d. electOf (d .held) (d .words) .number) ≡ 0
-      go none e = refl
-      go (some d) e = elect-number n ws k d (s .each k d e)
-
-  sends : (k : ℕ) (out : List ℕ) → (number w (send k out) ≡ 0) ⊎ (number w (send k out) ≡ 6)
-  unfolding number
-  sends k out = go (replicaAt w k) refl
-    where
-      N : Option Replica → ℕ
-      N x = onSome x 0 (λ d. sendOf (d .held) (d .words) out .number)
-
-      go : (x : Option Replica) → replicaAt w k ≡ x → (N x ≡ 0) ⊎ (N x ≡ 6)
-      go none e = inl refl
-      go (some d) e = send-number n ws k d (s .each k d e) out
-
-  take-is : (k m : ℕ) → (number w (take k m) ≡ 0) ⊎ ((number w (take k m) ≡ 9) ⊎ (number w (take k m) ≡ 10))
-  unfolding number
-  take-is k m = go (replicaAt w k) refl (messageAt w m) refl
-    where
-      N : Option Replica → Option (List ℕ) → ℕ
-      N x y = onSome x 0 (λ d. onSome y 0 (λ b. takeOf (d .held) (d .words) b .number))
-
-      go : (x : Option Replica) → replicaAt w k ≡ x → (y : Option (List ℕ)) → messageAt w m ≡ y → (N x y ≡ 0) ⊎ ((N x y ≡ 9) ⊎ (N x y ≡ 10))
-      go none e y f = inl refl
-      go (some d) e none f = inl refl
-      go (some d) e (some b) f = rw (take-number n ws k d (s .each k d e) b (s .readable m b f)) (refuseTake-is k (means b) (says d))
-
-  takes : (k m : ℕ) → (number w (take k m) ≡ 10 → ⊥) → (number w (take k m) ≡ 0) ⊎ (number w (take k m) ≡ 9)
-  takes k m never = go (take-is k m)
-    where
-      N : ℕ
-      N = number w (take k m)
-
-      go : (N ≡ 0) ⊎ ((N ≡ 9) ⊎ (N ≡ 10)) → (N ≡ 0) ⊎ (N ≡ 9)
-      go (inl q) = inl q
-      go (inr (inl q)) = inr q
-      go (inr (inr q)) = absurd (never q)
-
-  never-unsound : (c : Call) → number w c ≡ 1 → ⊥
-  unfolding number
-  never-unsound (issue k line code) h = go (replicaAt w k) refl h
-    where
-      go : (x : Option Replica) → replicaAt w k ≡ x → onSome x 0 (λ d. issueOf (d .held) (d .words) line code .number) ≡ 1 → ⊥
-      go none e h = omega arith
-      go (some d) e h = issue-never n k line code (says d) .no-1 (sym (issue-number n ws k d (s .each k d e) line code) ∙ h)
-  never-unsound (send k out) h = go (sends k out)
-    where
-      go : (number w (send k out) ≡ 0) ⊎ (number w (send k out) ≡ 6) → ⊥
-      go (inl q) = omega arith
-      go (inr q) = omega arith
-  never-unsound (take k m) h = go (take-is k m)
-    where
-      go : (number w (take k m) ≡ 0) ⊎ ((number w (take k m) ≡ 9) ⊎ (number w (take k m) ≡ 10)) → ⊥
-      go (inl q) = omega arith
-      go (inr (inl q)) = omega arith
-      go (inr (inr q)) = omega arith
-  never-unsound (elect k) h = omega (arith, elects k)
-
   -- a replica put back where it stood
-  put-same : (k : ℕ) (d d' : Replica) → replicaAt w k ≡ some d → d' ≡ d → put w k (d' .held) (d' .words) ≡ w
-  put-same k d d' e q =
-      ap (λ (x : Replica). put w k (x .held) (x .words)) q ∙ ap (λ (l : List Replica). record { replicas = l; sent = w .sent }) (set-same (w .replicas) k d e)
+  put-same : (k : ℕ) (d d' : Replica) → replicaAt w k ≡ some d → d' ≡ d → put w k d' ≡ w
+  put-same k d d' e q = ap (put w k) q ∙ ap (λ (l : List Replica). record { replicas = l; sent = w .sent }) (set-same (w .replicas) k d e)
 
   refused : (c : Call) → (number w c ≡ 0 → ⊥) → step w c ≡ w
   unfolding number step
   refused (issue k line code) h = go (replicaAt w k) refl h
     where
       go : (x : Option Replica) → replicaAt w k ≡ x → (onSome x 0 (λ d. issueOf (d .held) (d .words) line code .number) ≡ 0 → ⊥)
-          → onSome x w (λ d. put w k (issueReplica d line code .held) (issueReplica d line code .words)) ≡ w
+          → onSome x w (λ d. put w k (issued d line code)) ≡ w
       go none e h = refl
-      go (some d) e h = put-same k d (issueReplica d line code) e (issue-refused n ws k d (s .each k d e) line code h)
+      go (some d) e h =
+          let m = s .each k d e in
+          put-same k d (issued d line code) e (issue-moves n ws k d m line code .still (λ z. h (issue-number n ws k d m line code ∙ z)))
   refused (send k out) h = go (replicaAt w k) refl h
     where
       go : (x : Option Replica) → replicaAt w k ≡ x → (onSome x 0 (λ d. sendOf (d .held) (d .words) out .number) ≡ 0 → ⊥)
@@ -137,46 +82,134 @@ module _ (n : ℕ) (ws : List ℕ) (w : World) (s : SoundWorld n ws w) where
           (λ q. absurd (h (eqb-true (sendOf (d .held) (d .words) out .number) 0 q))) (λ _. refl)
   refused (take k m) h = go (replicaAt w k) refl (messageAt w m) refl h
     where
-      go : (x : Option Replica) → replicaAt w k ≡ x → (y : Option (List ℕ)) → messageAt w m ≡ y
-          → (onSome x 0 (λ d. onSome y 0 (λ b. takeOf (d .held) (d .words) b .number)) ≡ 0 → ⊥)
-          → onSome x w (λ d. onSome y w (λ b. put w k (takeReplica d b .held) (takeReplica d b .words))) ≡ w
+      go : (x : Option Replica) → replicaAt w k ≡ x → (y : Option Posted) → messageAt w m ≡ y
+          → (onSome x 0 (λ d. onSome y 0 (λ b. takeOf (d .held) (d .words) (b .bytes) .number)) ≡ 0 → ⊥)
+          → onSome x w (λ d. onSome y w (λ b. put w k (taken d (b .bytes)))) ≡ w
       go none e y f h = refl
       go (some d) e none f h = refl
-      go (some d) e (some b) f h = put-same k d (takeReplica d b) e (take-refused n ws k d (s .each k d e) b (s .readable m b f) h)
-  refused (elect k) h = absurd (h (elects k))
+      go (some d) e (some b) f h =
+          let x = s .readable m b f in
+          put-same k d (taken d (b .bytes)) e (take-moves n ws k d (s .each k d e) (b .bytes) x .still (λ z. h (take-number n ws k d (s .each k d e) (b .bytes) x ∙ z)))
+  refused (elect k) h = absurd (h (elects n ws w s k))
+  refused (fold k) h = absurd (h (folds n ws w s k))
 
--- ── what the settled log has done ──
-module _ (n : ℕ) (ws : List ℕ) (k : ℕ) (d : Replica) (m : SoundReplica n ws k d) where
+  module _ (pos : 0 < n) (t : S.Sound ws n (shape w)) where
+    never-unsound : (c : Call) → number w c ≡ 1 → ⊥
+    unfolding number
+    never-unsound (issue k line code) h = go (replicaAt w k) refl h
+      where
+        go : (x : Option Replica) → replicaAt w k ≡ x → onSome x 0 (λ d. issueOf (d .held) (d .words) line code .number) ≡ 1 → ⊥
+        go none e h = omega arith
+        go (some d) e h = issue-never n k line code (foldedBy (d .held) (d .words)) .no-1 (sym (issue-number n ws k d (s .each k d e) line code) ∙ h)
+    never-unsound (send k out) h = go (sends n ws w s k out)
+      where
+        go : (number w (send k out) ≡ 0) ⊎ (number w (send k out) ≡ 6) → ⊥
+        go (inl q) = omega arith
+        go (inr q) = omega arith
+    never-unsound (take k m) h = go (takes n ws pos w s t k m)
+      where
+        go : (number w (take k m) ≡ 0) ⊎ ((number w (take k m) ≡ 9) ⊎ (number w (take k m) ≡ 17)) → ⊥
+        go (inl q) = omega arith
+        go (inr (inl q)) = omega arith
+        go (inr (inr q)) = omega arith
+    never-unsound (elect k) h = omega (arith, elects n ws w s k)
+    never-unsound (fold k) h = omega (arith, folds n ws w s k)
+
+-- ── what the settled log has done, dropped entries included ──
+module _ (n : ℕ) (ws : List ℕ) (pos : 0 < n) (w : World) (s : SoundWorld n ws w) (t : S.Sound ws n (shape w)) (k : ℕ) (d : Replica) (e : replicaAt w k ≡ some d) where
+  m : SoundReplica n ws k d
+  m = s .each k d e
+
+  abbrev undropped : List ℕ
+  undropped = heldBy (d .held) (d .words) .log
+
   done : d .held .summary ≡ summaryAfter (startWith ws) (says d .log)
-  done = m .sound .done ∙ ap (λ (l : List ℕ). summaryAfter (startWith l) (says d .log)) (m .weights)
+  done =
+      m .sound .done ∙ ap (λ (x : Kept). summaryAfter (x .summary) undropped) (kept-is n ws pos w s t k d e)
+      ∙ sym (summary-append (startWith ws) (d .former) undropped)
 
   present : d .held .summary .present ≡ weightsAfter ws (says d .log)
   present = ap (λ (x : Summary). x .present) done
 
+  -- by what is kept, and the undropped entries
   present-fine : (allB isWeight (d .held .summary .present) ≡ true) × (allB (eqb 0) (drop n (d .held .summary .present)) ≡ true)
+  unfolding m
   present-fine =
-      let H = subst (λ (l : List ℕ). Head (d .held .n) (d .held .own) l) (m .weights) (m .sound .head) in
-      let rest = subst (λ (i : ℕ). allB (eqb 0) (drop i ws) ≡ true) (m .count) (H .rest) in
-      rw present (weights-most ws (says d .log) (H .weights), weights-zero n ws (says d .log) (replica-fine n ws k d m .entries) rest)
+      let S = m .sound in
+      let now : d .held .summary .present ≡ weightsAfter (d .held .kept .summary .present) undropped = ap (λ (x : Summary). x .present) (S .done) in
+      rw (now, ← m .count) (weights-most (d .held .kept .summary .present) undropped (S .kept .weights), weights-zero (d .held .n) (d .held .kept .summary .present) undropped (S .entries) (S .kept .rest))
+
+  counts : countsAfter (d .held .kept .counts) undropped ≡ countsAfter (noCounts 8) (says d .log)
+  counts = ap (λ (x : Kept). countsAfter (x .counts) undropped) (kept-is n ws pos w s t k d e) ∙ sym (counts-append (noCounts 8) (d .former) undropped)
+
+  winner : winnerOf (d .held) (d .words) ≡ bySettled ws (says d .log) (votes (says d))
+  winner =
+      ap (λ (x : Kept). ruleFrom (x .summary .present) (x .counts) undropped (votes (says d))) (kept-is n ws pos w s t k d e)
+      ∙ ap (λ (rule : Rule). rule undropped (votes (says d))) (kept-suffices ws (d .former))
+
+  -- ── each call on whole logs ──
+  issue-says : (line code : ℕ) → number w (issue k line code) ≡ 0 → says (issued d line code) ≡ withIssue k (value k line code) (says d)
+  unfolding number
+  issue-says line code h =
+      let there = ap (λ (x : Option Replica). onSome x 0 (λ r. issueOf (r .held) (r .words) line code .number)) e in
+      ap F.wholeDesk (issue-moves n ws k d m line code .done (sym (issue-number n ws k d m line code) ∙ sym there ∙ h)) ∙ Folding.issue-desk k (value k line code) (deskOf d)
+
+  take-says : (i : ℕ) (b : Posted) → messageAt w i ≡ some b → number w (take k i) ≡ 0 → says (taken d (b .bytes)) ≡ withTake k (carries b) (says d)
+  unfolding number
+  take-says i b f h =
+      let x = s .readable i b f in
+      let there = ap₂ (λ (x : Option Replica) (y : Option Posted). onSome x 0 (λ r. onSome y 0 (λ c. takeOf (r .held) (r .words) (c .bytes) .number))) e f in
+      let zero : refuseFoldedTake k (sentOf b .message) (deskOf d .now) ≡ 0 = sym (take-number n ws k d m (b .bytes) x) ∙ sym there ∙ h in
+      let found = take-found k (sentOf b .message) (deskOf d .now) zero in
+      let sent = shape-sent w i b f in
+      let at = shape-at w k d e in
+      ap F.wholeDesk (take-moves n ws k d m (b .bytes) x .done zero)
+      ∙ Folding.take-desk (deskOf d) (sentOf b) (S.known ws n pos (shape w) t .order) (subst (λ (y : F.Desk). y .now .dropped ≡ length (y .former)) at (t .desks k .counted))
+      (t .sent i (sentOf b) sent .counted) (subst (λ (y : F.Desk). F.wholeDesk y .log ⊑ S.known ws n pos (shape w) t .order) at (S.desk-in ws n pos (shape w) t k))
+      (S.message-in ws n pos (shape w) t i (sentOf b) sent) (found .reaches) (found .lasts) k
+      ∙ ap (λ (y : Message). withTake k y (says d)) (carried b)
+
+  elect-says : says (elected d) ≡ withElect (bySettled ws) (says d)
+  elect-says = ap F.wholeDesk (elect-moves n ws k d m .done refl) ∙ Folding.elect-desk ws (deskOf d) (ap effectIn (kept-is n ws pos w s t k d e))
+
+  fold-says : says (folded d) ≡ says d
+  fold-says = ap F.wholeDesk (fold-moves n ws k d m .done refl) ∙ Folding.fold-desk n k (deskOf d)
+
+  fold-answers : length (folded d .former) ≡ length (d .former) + foldOf (d .held) (d .words) .count
+  fold-answers =
+      ap (λ (x : F.Desk). length (x .former)) (fold-moves n ws k d m .done refl) ∙ Folding.fold-answers n k (deskOf d)
+      ∙ ap (λ (c : ℕ). length (d .former) + c) (sym (fold-count n ws k d m))
 
 -- of every list of calls
-pub kept : (n : ℕ) (weights : List ℕ) (start : World) → Founded n weights start → (cs : List Call) → Kept n weights start cs
+pub kept : (n : ℕ) (weights : List ℕ) (start : World) → Founded n weights start → (cs : List Call) → Claims.Kept n weights start cs
 kept n ws start f cs =
     let w = after start cs in
-    let s : SoundWorld n ws w = sound-after n ws start f cs in
+    let pos = f .any in
+    let b = both-after n ws start f cs in
+    let s : SoundWorld n ws w = b .here in
+    let t : S.Sound ws n (shape w) = b .there in
     record {
       offices = s .offices;
       own = λ k d e. s .each k d e .own;
       alike = λ k d e. (s .each k d e .count, s .each k d e .weights);
       sound = λ k d e. sound-true (d .held) (d .words) (s .each k d e .sound);
-      present = λ k d e. present n ws k d (s .each k d e);
-      total-kept = λ k d e. ap total (present n ws k d (s .each k d e)) ∙ weights-total ws (says d .log);
-      weights-fine = λ k d e. present-fine n ws k d (s .each k d e);
-      codes = λ k d e. ap (λ (x : Summary). x .codes) (done n ws k d (s .each k d e));
-      equal = λ j k d e q r h. done n ws j d (s .each j d q) ∙ ap (summaryAfter (startWith ws)) h ∙ sym (done n ws k e (s .each k e r));
-      never-unsound = never-unsound n ws w s;
+      present = present n ws pos w s t;
+      total-kept = λ k d e. ap total (present n ws pos w s t k d e) ∙ weights-total ws (says d .log);
+      weights-fine = present-fine n ws pos w s t;
+      codes = λ k d e. ap (λ (x : Summary). x .codes) (done n ws pos w s t k d e);
+      counts = counts n ws pos w s t;
+      winner = winner n ws pos w s t;
+      equal = λ j k d e q r h. done n ws pos w s t j d q ∙ ap (summaryAfter (startWith ws)) h ∙ sym (done n ws pos w s t k e r);
+      never-unsound = never-unsound n ws w s pos t;
       elects = elects n ws w s;
+      folds = folds n ws w s;
+      issue-says = λ k line code d e h. issue-says n ws pos w s t k d e line code h;
+      take-says = λ k i d b e f h. take-says n ws pos w s t k d e i b f h;
+      elect-says = elect-says n ws pos w s t;
+      fold-says = fold-says n ws pos w s t;
+      fold-answers = fold-answers n ws pos w s t;
       sends = sends n ws w s;
-      takes = λ k m. takes n ws w s k m (one-order n ws start f (cs ++ (take k m ∷ [])) .never cs [] (take k m) refl);
+      takes = takes n ws pos w s t;
+      takes-other = takes-other n ws pos w s t;
       refused = refused n ws w s;
     }

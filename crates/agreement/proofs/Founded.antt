@@ -1,18 +1,17 @@
--- A done founding at office k leaves a sound record that says a fresh office. Assumes nothing.
+-- A done founding at office k leaves a sound record of an office that has settled and dropped nothing. Assumes nothing.
 use mathlib.Core.Path.{_≡_, ap}
-use mathlib.Core.List.{List}
+use mathlib.Core.List.{List, []}
 use Prim.Native.Nat.{ℕ}
-use Rattle.protocol.specs.Office.{fresh}
+use Rattle.protocol.proofs.FoldedWorld as F
 use Rattle.frame.specs.declared.Record.{Record}
 use Rattle.frame.specs.Founding.{foundOf}
-use Rattle.frame.proofs.Found.{found-done, found-sound, found-fresh}
+use Rattle.frame.proofs.Found.{found-done, found-sound, found-fresh, found-kept}
 use Rattle.agreement.specs.World.{Replica}
-use Rattle.agreement.specs.Demand.{says}
-use Rattle.agreement.proofs.View.{SoundReplica}
+use Rattle.agreement.proofs.View.{effectIn, deskOf, SoundReplica}
 
 -- the replica that a founding makes
 abbrev pub foundReplica : ℕ → List ℕ → ℕ → List ℕ → Replica
-foundReplica n ws k words = record { held = foundOf n k ws words .«record»; words = words }
+foundReplica n ws k words = record { held = foundOf n k ws words .«record»; words = words; former = [] }
 
 module _ (n : ℕ) (ws : List ℕ) (k : ℕ) (words : List ℕ) (done : foundOf n k ws words .number ≡ 0) where
   pub founding-sound : SoundReplica n ws k (foundReplica n ws k words)
@@ -25,5 +24,5 @@ module _ (n : ℕ) (ws : List ℕ) (k : ℕ) (words : List ℕ) (done : foundOf 
         sound = found-sound n k ws words done;
       }
 
-  pub found-says : says (foundReplica n ws k words) ≡ fresh
-  found-says = found-fresh n k ws words done
+  pub founding-desk : deskOf (foundReplica n ws k words) ≡ F.newDesk ws
+  founding-desk = λ i. record { now = found-fresh n k ws words done i; kept = effectIn (found-kept n k ws words done i); former = [] }

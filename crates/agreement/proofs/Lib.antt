@@ -7,8 +7,9 @@ pub mod Issued
 pub mod Sent
 pub mod Taken
 pub mod Elected
-pub mod Follows
+pub mod Folded
 pub mod Numbers
+pub mod Follows
 pub mod Demand
 pub mod Calls
 pub mod Start

@@ -1,4 +1,4 @@
--- A done send at a replica posts bytes that read as what the replica says, and a send at a replica is refused with 6 alone. Assumes nothing.
+-- A done send at a replica posts bytes that read as what the replica holds, and a send at a replica is refused with 6 alone. Assumes nothing.
 use mathlib.Core.Path.{_≡_, refl, ap, ap₂, _∙_}
 use mathlib.Core.Bool.{Bool, true, false}
 use mathlib.Core.List.{List}
@@ -8,14 +8,13 @@ use lib.Dec.{ltb}
 use lib.ListN as L
 use lib.ListN.{length}
 use Rattle.lists.specs.Tests.{pick}
-use Rattle.spelling.specs.Reading.{reading}
-use Rattle.spelling.proofs.Laws.{reading-spelling}
+use Rattle.protocol.specs.Folding.{packet}
 use Rattle.writer.specs.Written.{contentOf as contentBy}
+use Rattle.frame.specs.State.{foldedBy}
 use Rattle.frame.specs.Sending.{contentOf, messageOf, sendNumber, sendOf}
 use Rattle.frame.proofs.Sound.{sound-true}
-use Rattle.frame.proofs.Send.{content-valid, content-message, send-wrote}
+use Rattle.frame.proofs.Send.{content-packet, send-read}
 use Rattle.agreement.specs.World.{Replica, posted}
-use Rattle.agreement.specs.Demand.{says}
 use Rattle.agreement.proofs.View.{means, SoundReplica, Readable, means-content}
 
 module _ (n : ℕ) (ws : List ℕ) (k : ℕ) (d : Replica) (m : SoundReplica n ws k d) (out : List ℕ) where
@@ -28,17 +27,17 @@ module _ (n : ℕ) (ws : List ℕ) (k : ℕ) (d : Replica) (m : SoundReplica n w
       go false = inl refl
 
   module _ (done : sendOf (d .held) (d .words) out .number ≡ 0) where
-    pub send-readable : Readable n ws (posted d out)
+    pub send-readable : Readable n ws (posted d out .bytes)
     unfolding sendOf contentBy
     send-readable = record {
       content = contentOf (d .held) (d .words);
-      reads = ap reading (send-wrote (d .held) (d .words) out done) ∙ reading-spelling (contentOf (d .held) (d .words)) (content-valid (d .held) (d .words) (m .sound));
+      reads = send-read (d .held) (d .words) out done;
       count = m .count;
       weights = ap₂ L.take (m .count) (m .weights);
     }
 
-    pub send-means : means (posted d out) ≡ record { sender = k; state = says d }
+    pub send-means : means (posted d out .bytes) ≡ packet k (foldedBy (d .held) (d .words))
     unfolding send-readable
     send-means =
-        means-content n ws (posted d out) send-readable ∙ content-message (d .held) (d .words) (m .sound)
-        ∙ ap (λ (j : ℕ). record { sender = j; state = says d }) (m .own)
+        means-content n ws (posted d out .bytes) send-readable ∙ content-packet (d .held) (d .words) (m .sound)
+        ∙ ap (λ (j : ℕ). packet j (foldedBy (d .held) (d .words))) (m .own)

@@ -1,5 +1,5 @@
 -- The claim is not empty: n foundings that are done, each with a log of its own, whatever it holds, make a world of demand 3. Assumes nothing.
-use mathlib.Core.Path.{_≡_, refl, ap, subst, _∙_}
+use mathlib.Core.Path.{_≡_, refl, sym, ap, subst, _∙_}
 use mathlib.Core.List.{List, [], _∷_}
 use mathlib.Core.Option.{some}
 use Prim.Native.Nat.{ℕ, zero, suc, _+_, _≤_}
@@ -43,6 +43,11 @@ each-founded n ws k (l ∷ ls) h (suc i) d e =
     subst (λ (j : ℕ). IsFounded n ws j d) (z i)
     (each-founded n ws (suc k) ls (λ j x q. ap (λ (y : ℕ). foundOf n y ws x .number) (z j) ∙ h (suc j) x q) i d e)
 
+none-dropped : (n : ℕ) (ws : List ℕ) (k : ℕ) (logs : List (List ℕ)) (i : ℕ) (d : Replica) → getElem? (foundReplicas n ws k logs) i ≡ some d → d .former ≡ []
+none-dropped n ws k [] i d e = absurd (nothing d e)
+none-dropped n ws k (l ∷ ls) zero d e = let q : foundReplica n ws k l ≡ d = cc in ap (λ (x : Replica). x .former) (sym q)
+none-dropped n ws k (l ∷ ls) (suc i) d e = none-dropped n ws (suc k) ls i d e
+
 pub start-founded : (n : ℕ) (ws : List ℕ) (logs : List (List ℕ)) → 1 ≤ n → length logs ≡ n → AllDone n ws 0 logs → Founded n ws (startOf n ws logs)
 start-founded n ws logs some-office enough done =
     let z : (j : ℕ) → 0 + j ≡ j = λ j. omega arith in
@@ -50,5 +55,6 @@ start-founded n ws logs some-office enough done =
       any = some-office;
       offices = replicas-length n ws 0 logs ∙ enough;
       founded = λ k d e. subst (λ (j : ℕ). IsFounded n ws j d) (z k) (each-founded n ws 0 logs done k d e);
+      nothing-dropped = λ k d e. none-dropped n ws 0 logs k d e;
       silent = refl;
     }

@@ -1,41 +1,48 @@
 -- Take at a replica, of a sent message, is the protocol's take of what the message says, refused ones included: the message is read, and has the
 -- record's n and weights. Assumes nothing.
-use mathlib.Core.Path.{_≡_, refl, sym, ap, ap₂, subst, _∙_}
-use mathlib.Core.Bool.{Bool, true, false}
+use mathlib.Core.Path.{_≡_, sym, ap, ap₂, subst₂, _∙_}
+use mathlib.Core.Bool.{true}
 use mathlib.Core.List.{List}
-use Prim.Native.Nat.{ℕ}
+use Prim.Native.Nat.{ℕ, _≤_}
+use native.Mathlib.Omega.{arith}
 use lib.Dec.{eqb}
 use lib.ListN as L
-use borrow.Author.Tests.{eqb-true, eq-eqb, ne-eqb}
-use Rattle.lists.specs.Tests.{pick}
-use Rattle.protocol.specs.Office.{Office, Message}
-use Rattle.protocol.specs.Take.{withTake, refuseTake}
-use Rattle.lists.proofs.Tests.{both-true}
-use Rattle.protocol.proofs.Limits.{Fine, fine, take-done-fine}
+use borrow.Author.Tests.{eq-eqb}
 use Rattle.lists.specs.Tests.{same}
+use Rattle.lists.proofs.Tests.{both-true}
 use Rattle.lists.proofs.Same.{same-refl}
-use Rattle.spelling.specs.Content.{asMessage}
-use Rattle.spelling.proofs.Laws.{reading-valid}
-use Rattle.spelling.proofs.Valid.{valid-office}
-use Rattle.frame.specs.State.{holding}
+use Rattle.protocol.specs.Folding.{Folded, Packet, withFoldedTake, refuseFoldedTake}
+use Rattle.protocol.proofs.Folding.{take-found}
+use Rattle.protocol.proofs.FoldedLimits.{HeldFine, FoldedFine, PacketFine, folded-facts, folded-take-fine}
 use Rattle.ballots.specs.Ballots.{wordsWith}
-use Rattle.frame.specs.Taking.{sameOffices, takeNumber, takenOffice, takeOf, takeWords}
-use Rattle.frame.proofs.Sound.{sound-true}
-use Rattle.agreement.specs.World.{Replica}
-use Rattle.agreement.specs.Demand.{says}
+use Rattle.spelling.specs.Content.{Content, asPacket}
+use Rattle.spelling.proofs.Laws.{reading-valid}
+use Rattle.spelling.proofs.Valid.{valid-facts, valid-office}
+use Rattle.frame.specs.State.{foldedBy, holding}
+use Rattle.frame.specs.Soundness.{Sound}
+use Rattle.frame.specs.Taking.{sameOffices, takenOffice, takeOf, takeWords}
+use Rattle.frame.proofs.State.{whole-length, folded-by, sound-of}
+use Rattle.frame.proofs.Take.{like, take-done-is}
+use Rattle.frame.proofs.Accept.{take-keeps}
+use Rattle.agreement.specs.World.{Replica, taken}
 use Rattle.agreement.proofs.View.{means, SoundReplica, Readable, means-content}
-use Rattle.agreement.proofs.Held.{holds, replica-fine, own-below, moved-says, moved-sound, moved-still}
+use Rattle.agreement.proofs.Held.{Leaves, Moves, replica-fine, own-below, moves}
 
--- the replica after the call
-abbrev pub takeReplica : Replica → List ℕ → Replica
-takeReplica d s = record { held = takeOf (d .held) (d .words) s .«record»; words = takeWords (d .held) (d .words) s }
+-- what is read says an office within the limits
+message-fine : (n : ℕ) (ws : List ℕ) (s : List ℕ) (x : Readable n ws s) → PacketFine n (means s)
+unfolding asPacket
+message-fine n ws s x =
+    let c : Content = x .content in
+    let v = reading-valid s c (x .reads) in
+    let h : HeldFine (c .n) (c .dropped) (asPacket c .state) = folded-facts (c .n) (c .dropped) (asPacket c .state) (valid-office c v) in
+    subst₂ PacketFine (x .count) (sym (means-content n ws s x)) (record { known = valid-facts c v .sender-below; held = h .held; short = h .short })
 
 module _ (n : ℕ) (ws : List ℕ) (k : ℕ) (d : Replica) (m : SoundReplica n ws k d) (s : List ℕ) (x : Readable n ws s) where
   abbrev refused : ℕ
-  refused = refuseTake k (means s) (says d)
+  refused = refuseFoldedTake k (means s) (foldedBy (d .held) (d .words))
 
-  abbrev taken : Office
-  taken = withTake k (means s) (says d)
+  abbrev office : Folded
+  office = withFoldedTake k (means s) (foldedBy (d .held) (d .words))
 
   same-offices : sameOffices (d .held) (x .content) ≡ true
   unfolding sameOffices
@@ -47,38 +54,46 @@ module _ (n : ℕ) (ws : List ℕ) (k : ℕ) (d : Replica) (m : SoundReplica n w
       (ap (λ (l : List ℕ). same l (L.take (d .held .n) w)) e ∙ same-refl (L.take (d .held .n) w))
 
   pub take-number : takeOf (d .held) (d .words) s .number ≡ refused
-  unfolding takeOf takeNumber pick
+  unfolding takeOf
   take-number =
-      rw (sound-true (d .held) (d .words) (m .sound), x .reads, same-offices)
-      (ap₂ (λ (j : ℕ) (i : Message). refuseTake j i (says d)) (m .own) (sym (means-content n ws s x)))
+      like (d .held) (d .words) s (m .sound) (x .content) (x .reads) same-offices
+      ∙ ap₂ (λ (j : ℕ) (i : Packet). refuseFoldedTake j i (foldedBy (d .held) (d .words))) (m .own) (sym (means-content n ws s x))
 
-  office-is : takenOffice (d .held) (d .words) s ≡ taken
+  office-is : takenOffice (d .held) (d .words) s ≡ office
   unfolding takenOffice
-  office-is = rw (x .reads) (ap₂ (λ (j : ℕ) (i : Message). withTake j i (says d)) (m .own) (sym (means-content n ws s x)))
+  office-is = rw (x .reads) (ap₂ (λ (j : ℕ) (i : Packet). withFoldedTake j i (foldedBy (d .held) (d .words))) (m .own) (sym (means-content n ws s x)))
 
-  pub take-replica : takeReplica d s ≡ pick (eqb refused 0) (holds d taken) d
-  unfolding takeOf takeWords pick
-  take-replica = ap₂ (λ (j : ℕ) (o : Office). D (eqb j 0) o) take-number office-is ∙ by (eqb refused 0)
-    where
-      D : Bool → Office → Replica
-      D t o = record { held = pick t (holding (d .held) o) (d .held); words = pick t (wordsWith (o .log) (d .words)) (d .words) }
+  -- an accepted message
+  module _ (z : refused ≡ 0) where
+    -- no more is dropped than was settled
+    more : d .held .kept .dropped ≤ office .dropped
+    unfolding withFoldedTake
+    more = omega arith
 
-      by : (t : Bool) → D t taken ≡ pick t (holds d taken) d
-      by true = refl
-      by false = refl
+    within : office .dropped ≤ d .held .settled
+    unfolding withFoldedTake
+    within =
+        let t = take-found k (means s) (foldedBy (d .held) (d .words)) z in
+        omega (arith, t .reaches, whole-length (d .held) (d .words) (m .sound), m .sound .within)
 
-  pub take-says : says (takeReplica d s) ≡ pick (eqb refused 0) taken (says d)
-  take-says = moved-says n ws k d m (eqb refused 0) taken (takeReplica d s) take-replica
+    office-fine : FoldedFine (d .held .n) (d .held .own) office
+    office-fine =
+        subst₂ (λ (i j : ℕ). FoldedFine i j office) (sym (m .count)) (sym (m .own))
+        (folded-take-fine n k (means s) (foldedBy (d .held) (d .words)) (replica-fine n ws k d m) (message-fine n ws s x) (own-below n ws k d m) z)
 
-  -- the message carries an office within the limits
-  message-fine : Fine n (means s .state)
-  message-fine =
-      subst (λ (i : Message). Fine n (i .state)) (sym (means-content n ws s x))
-      (subst (λ (j : ℕ). Fine j (asMessage (x .content) .state)) (x .count) (fine (x .content .n) (asMessage (x .content) .state) (valid-office (x .content) (reading-valid s (x .content) (x .reads)))))
+    pub take-leaves : Leaves d office (takeOf (d .held) (d .words) s .«record») (takeWords (d .held) (d .words) s)
+    unfolding takeOf
+    take-leaves =
+        let D = take-done-is (d .held) (d .words) s (take-number ∙ z) in
+        let made : takeOf (d .held) (d .words) s .«record» ≡ holding (d .held) (d .words) office = D .0 ∙ ap (holding (d .held) (d .words)) office-is in
+        let written : takeWords (d .held) (d .words) s ≡ wordsWith (office .held .log) (d .words) = D .1 ∙ ap (λ (f : Folded). wordsWith (f .held .log) (d .words)) office-is in
+        record {
+          made = made;
+          written = written;
+          state = ap₂ foldedBy made written ∙ folded-by (d .held) (d .words) (m .sound) office more within;
+          sound = subst₂ Sound (sym made) (sym written) (sound-of (d .held) (d .words) (m .sound) office more within office-fine);
+        }
 
-  pub take-sound : SoundReplica n ws k (takeReplica d s)
-  take-sound = moved-sound n ws k d m (eqb refused 0) taken (takeReplica d s) take-replica
-      (λ t. take-done-fine n k (means s) (says d) (replica-fine n ws k d m) message-fine (own-below n ws k d m) (eqb-true refused 0 t))
-
-  pub take-refused : (takeOf (d .held) (d .words) s .number ≡ 0 → ⊥) → takeReplica d s ≡ d
-  take-refused h = moved-still n ws k d m (eqb refused 0) taken (takeReplica d s) take-replica (ne-eqb refused 0 (λ q. h (take-number ∙ q)))
+  pub take-moves : Moves n ws k d (taken d s) refused office
+  take-moves = moves n ws k d m refused office (takeOf (d .held) (d .words) s .«record») (takeWords (d .held) (d .words) s)
+      take-leaves (λ h. take-keeps (d .held) (d .words) s (λ z. h (sym take-number ∙ z)))

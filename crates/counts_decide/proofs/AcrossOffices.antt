@@ -11,8 +11,9 @@ use Rattle.protocol.specs.Beginning.{_⊑_, begins, extends}
 use Rattle.protocol.specs.Elect.{electing, settle, withElect}
 use Rattle.protocol.specs.Entry.{value, proper, isEntry}
 use Rattle.protocol.specs.Fair.{fair}
-use Rattle.protocol.specs.Issue.{refusalAt, refuseIssue, withIssue}
-use Rattle.protocol.specs.Limits.{headFine, isEmpty, isOffice, isWeight, logFine, officeFine, tailFine, tailsFine, total, weightsFine}
+use Rattle.protocol.specs.Folding.{withFoldedIssue, refuseFoldedIssue, withFoldedElect, withFoldedTake, refuseFoldedTake}
+use Rattle.protocol.specs.Issue.{refusalAt, withIssue}
+use Rattle.protocol.specs.Limits.{headFine, isEmpty, isOffice, isWeight, logFine, officeFine, tailFine, tailsFine, total, weightsFine, lengthLimit, lengthsFine, foldedFine}
 use Rattle.protocol.specs.Codes.{codesAfter}
 use Rattle.protocol.specs.Counts.{countIn, countsAfter, quieterBy}
 use Rattle.protocol.specs.Moves.{isMove, canShift, move, weightsAfter}
@@ -22,11 +23,13 @@ use Rattle.protocol.specs.Take.{catchUp, rebase, refuseTake, withTake}
 use Rattle.lists.specs.Tests.{allB, both, pick, same}
 use Rattle.protocol.specs.Vote.{supported, tally, unheard, winner, wins}
 use Rattle.ballots.specs.Ballots.{ballotShape}
+use Rattle.kept.specs.Kept.{isKeptCode, weightsKept, codesKept, countsKept, nothingKept, keptFine}
+use Rattle.soundness.specs.Noted.{notedFine}
 use Rattle.soundness.specs.Soundness.{longEnough, shaped, follows, soundFields}
-use Rattle.spelling.specs.Content.{asMessage, eightTails, validContent}
-use Rattle.numbers.specs.Numbers.{be16, be32, bytes16, bytes32, run, runAt, runOk}
+use Rattle.spelling.specs.Content.{asPacket, eightTails, validContent}
+use Rattle.numbers.specs.Numbers.{be16, be32, be64, bytes16, bytes32, bytes64, run, runAt, runOk}
 use Rattle.spelling.specs.Reading.{afterBallot, ballotNext, ballotOk, ballotsOk, contentAt, endOk, headOk, layoutOk, reading, recordAt}
-use Rattle.spelling.specs.Reading.{recordHere, recordsOk, restAt, settledAt, sizeAt, tailAt, tailsAt}
+use Rattle.spelling.specs.Reading.{recordHere, recordsOk, restAt, settledAt, droppedAt, sizeAt, tailAt, tailsAt}
 use Rattle.spelling.specs.Spelling.{ballotBytes, ballotsBytes, endBytes, headBytes, logRecord, spelling}
 use Rattle.writer.specs.Written.{contentOf, tailsOf}
 use Rattle.frame.specs.Electing.{electOf, electWords}
@@ -44,7 +47,7 @@ use Rattle.counts_decide.specs.CountsDecide.{countsLeq, HeldAt}
 -- ── a list of calls ──
 -- a send with room for its message
 abbrev sends : ℕ → Call
-sends k = send k (replicate 22 0)
+sends k = send k (replicate 36 0)
 
 -- office 1 issues b and sends it; office 0 issues a and sends it, and office 2 takes that, settles a and sends its log; office 1 takes the log,
 -- which resets its ballot, and issues c; office 0 takes b
@@ -72,10 +75,13 @@ pub record Crossed : Type 0 where
   pub second : at1 ≡ path (says (office 1)) 1
 
 pub computed : Crossed
-unfolding step after begins extends electing settle withElect isEntry proper countIn fair refusalAt refuseIssue withIssue catchUp rebase refuseTake
-    withTake allB both pick same supported tally unheard winner wins headFine isEmpty isOffice isWeight logFine officeFine tailFine tailsFine total
-    weightsFine isMove canShift move weightsAfter codesAfter countsAfter quieterBy sameSummary ballotShape longEnough shaped follows soundFields soundB asMessage eightTails validContent be16 be32 bytes16 bytes32 run runAt runOk
-    afterBallot ballotNext ballotOk ballotsOk contentAt endOk headOk layoutOk reading recordAt recordHere recordsOk restAt settledAt sizeAt tailAt
+unfolding step after begins extends electing settle withElect isEntry proper countIn fair refusalAt withIssue catchUp rebase refuseTake
+    withTake withFoldedIssue refuseFoldedIssue withFoldedElect withFoldedTake refuseFoldedTake
+    allB both pick same supported tally unheard winner wins headFine isEmpty isOffice isWeight logFine officeFine tailFine tailsFine total
+    weightsFine lengthLimit lengthsFine foldedFine isMove canShift move weightsAfter codesAfter countsAfter quieterBy sameSummary ballotShape
+    isKeptCode weightsKept codesKept countsKept nothingKept keptFine notedFine
+    longEnough shaped follows soundFields soundB asPacket eightTails validContent be16 be32 be64 bytes16 bytes32 bytes64 run runAt runOk
+    afterBallot ballotNext ballotOk ballotsOk contentAt endOk headOk layoutOk reading recordAt recordHere recordsOk restAt settledAt droppedAt sizeAt tailAt
     tailsAt ballotBytes ballotsBytes endBytes headBytes logRecord spelling contentOf tailsOf electOf electWords foundNumber foundOf issueNumber
     issueOf sendBytes sendNumber sendOf sameOffices takeNumber takeOf takeWords takenOffice
 computed = record { office0 = refl; office1 = refl; first = refl; second = refl }

@@ -1,11 +1,12 @@
 -- Request (xi): "Archivists need to know that this loses nothing: in any office of the world of document 01, for two paths among its log and
--- ballots, one is a beginning of the other exactly when each of its counts is at most the other's." The theorems:
+-- ballots, one is a beginning of the other exactly when each of its counts is at most the other's." Request (xiv): its log and paths begin with what it
+-- has dropped. The theorems:
 --     lossless          (n : ℕ) (weights : List ℕ) (start : World) → Founded n weights start
 --                       → (cs : List Call) → Lossless n (after start cs)                          proofs/InWorld.antt
 --     across-offices    of two offices it is false, by a list of calls that is computed           proofs/AcrossOffices.antt
 -- Assumes nothing.
 use mathlib.Core.Path.{_≡_}
-use mathlib.Core.List.{List}
+use mathlib.Core.List.{List, _++_}
 use mathlib.Core.Logic.{_⊎_, _↔_}
 use mathlib.Core.Option.{some}
 use Prim.Native.Nat.{ℕ, _≤_, _<_}
@@ -34,6 +35,10 @@ pub record HeldAt (w : World) (k : ℕ) (p : List ℕ) : Type 0 where
   pub there : replicaAt w k ≡ some office
   pub holds : Holds (says office) p
 
+-- a version that an office holds, behind the entries that it has dropped
+abbrev pub wholeAt : Replica → ℕ → List ℕ
+wholeAt d i = d .former ++ versionAt (d .held) (d .words) i
+
 -- the answer x for a version p to the vector of a version q says how the two stand as lists of entries
 pub record Tells (p q : List ℕ) (x : ℕ) : Type 0 where
   pub comes-before : (x ≡ before) ↔ (p ⊏ q)
@@ -50,4 +55,4 @@ pub record Lossless (n : ℕ) (w : World) : Type 0 where
   pub decides : (k : ℕ) (p q : List ℕ) → HeldAt w k p → HeldAt w k q → (p ⊑ q) ↔ countsLeq n p q
   -- so what an office's vectors answer is how its log and its ballots' paths stand to each other
   pub tells : (k : ℕ) (d : Replica) → replicaAt w k ≡ some d → (out : List ℕ) → writeOf (d .held) (d .words) out .number ≡ 0 → (i j : ℕ) → i ≤ n → j ≤ n
-      → Tells (versionAt (d .held) (d .words) j) (versionAt (d .held) (d .words) i) (answerAt d out i j)
+      → Tells (wholeAt d j) (wholeAt d i) (answerAt d out i j)

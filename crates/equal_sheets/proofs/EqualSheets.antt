@@ -1,4 +1,5 @@
--- Every record of the world is sound with its log, so what Settled answers is the settled log. Assumes nothing.
+-- Every record of the world is sound with its log, and its codes are the last codes of its settled log, dropped entries included: these are all that a
+-- sheet needs of an office. Assumes nothing.
 use mathlib.Core.Path.{_≡_, sym, ap, subst, _∙_}
 use mathlib.Core.Bool.{Bool, true, false}
 use mathlib.Core.Logic.{⊎-elim}
@@ -9,12 +10,14 @@ use native.Mathlib.Omega.{arith}
 use lib.ListN.{length}
 use Rattle.lists.specs.Tests.{pick}
 use Rattle.protocol.specs.Beginning.{_⊑_}
+use Rattle.protocol.specs.Codes.{noCodes, codesAfter}
 use Rattle.protocol.proofs.Beginning.{⊑-comparable, ⊑-cases, ⊏-length}
 use Rattle.households.specs.Households.{areHouseholds}
-use Rattle.frame.specs.State.{heldBy}
 use Rattle.frame.specs.Soundness.{soundB}
-use Rattle.frame.specs.Settling.{settledOf, settledNumber}
+use Rattle.frame.specs.Frames.{allLinesOf}
 use Rattle.frame.specs.declared.Record.{Record}
+use Rattle.frame.proofs.Sound.{sound}
+use Rattle.frame.proofs.Shown.{lines-shown}
 use Rattle.sheet.specs.Sheet.{sheetOf, sheetNumber}
 use Rattle.sheet.proofs.Claims as claims
 use Rattle.agreement.specs.World.{Replica, World, Call, replicaAt, onSome, after}
@@ -23,14 +26,10 @@ use Rattle.agreement.proofs.Demand.{one-order}
 use Rattle.agreement.proofs.Calls.{kept}
 use Rattle.equal_sheets.specs.EqualSheets.{EqualSheets, printed}
 
--- what Settled answers of a sound record
-settled-number : (r : Record) (words : List ℕ) → soundB r words ≡ true → settledNumber r words ≡ 0
-unfolding settledNumber pick
-settled-number r words e = rw e
-
-settled-log : (r : Record) (words : List ℕ) → soundB r words ≡ true → settledOf r words ≡ heldBy r words .log
-unfolding settledOf pick
-settled-log r words e = rw e
+-- the lines' settled codes are those of the settled log, dropped entries included
+settled-lines : (r : Record) (words log : List ℕ) → soundB r words ≡ true → r .summary .codes ≡ codesAfter noCodes log
+    → allLinesOf r words ≡ record { number = 0; codes = codesAfter noCodes log }
+settled-lines r words log e q = sym (lines-shown r words e (sound r words e)) ∙ ap (λ (codes : List ℕ). record { number = 0; codes = codes }) q
 
 sound-sheet : (r : Record) (words s : List ℕ) → soundB r words ≡ true → sheetOf r words s .number ≡ 1 → ⊥
 unfolding sheetOf sheetNumber pick
@@ -51,11 +50,12 @@ module _ (n : ℕ) (weights : List ℕ) (start : World) (founded : Founded n wei
   equal : (cs ds : List Call) (j k : ℕ) (d e : Replica) → replicaAt (after start cs) j ≡ some d → replicaAt (after start ds) k ≡ some e
       → says d .log ≡ says e .log → (s : List ℕ) → printed d s ≡ printed e s
   equal cs ds j k d e p q h =
-      let a = kept n weights start founded cs .sound j d p in
-      let b = kept n weights start founded ds .sound k e q in
+      let a = kept n weights start founded cs in
+      let b = kept n weights start founded ds in
       claims.equal-sheets (d .held) (e .held) (d .words) (e .words)
-      (settled-number (d .held) (d .words) a ∙ sym (settled-number (e .held) (e .words) b))
-      (settled-log (d .held) (d .words) a ∙ h ∙ sym (settled-log (e .held) (e .words) b))
+      (settled-lines (d .held) (d .words) (says d .log) (a .sound j d p) (a .codes j d p)
+      ∙ ap (λ (log : List ℕ). record { number = 0; codes = codesAfter noCodes log }) h
+      ∙ sym (settled-lines (e .held) (e .words) (says e .log) (b .sound k e q) (b .codes k e q)))
 
   log-at : (cs : List Call) (k : ℕ) (d : Replica) → replicaAt (after start cs) k ≡ some d → says d .log ⊑ order start cs
   log-at cs k d e = subst (λ (x : Option Replica). onSome x [] (λ d. says d .log) ⊑ order start cs) e (one-order n weights start founded cs .logs cs [] (append-nil cs) k)

@@ -1,5 +1,4 @@
 -- Messages twice and in either order, proved.
-pub mod Holding
 pub mod Twice
 pub mod Swap
 pub mod Examples

@@ -4,34 +4,28 @@
 --     never-unsettles (d : Replica) (s : List ℕ) → NeverUnsettles d (taken d s)                                   proofs/Twice.antt
 --     either-order    (n : ℕ) (weights : List ℕ) (start : World) → Founded n weights start
 --                     → (cs : List Call) → EitherOrder (after start cs)                                           proofs/Swap.antt
--- A `Replica` is a record with the words of its log, and `says` is what they hold: the settled log and the tails of the ballots. Take and elect
--- are those that the contracts of `frame` cite. Assumes nothing.
+-- A `Replica` is a record with the words of its log and the entries that it has dropped, and `says` is what they hold: the settled log, dropped
+-- entries included, and the tails of the ballots. Take and elect are those that the contracts of `frame` cite; `taken` and `elected` are what
+-- they leave (agreement/specs/World). Assumes nothing.
 use mathlib.Core.Path.{_≡_}
 use mathlib.Core.List.{List}
 use mathlib.Core.Option.{some}
+use mathlib.Core.Logic.{_⊎_}
 use Prim.Native.Nat.{ℕ}
 use lib.ListN.{set}
 use Rattle.protocol.specs.Beginning.{_⊑_, _⊏_}
 use Rattle.protocol.specs.Office.{tail, path}
 use Rattle.ballots.specs.Ballots.{noBallot}
 use Rattle.frame.specs.declared.Record.{Record}
-use Rattle.frame.specs.State.{withHeld}
-use Rattle.frame.specs.Taking.{takeOf, takeWords}
-use Rattle.frame.specs.Electing.{electOf, electWords}
-use Rattle.agreement.specs.World.{Replica, World, replicaAt, messageAt}
+use Rattle.frame.specs.State.{heldBy, withHeld}
+use Rattle.frame.specs.Taking.{takeOf}
+use Rattle.frame.specs.Electing.{electOf}
+use Rattle.agreement.specs.World.{Replica, Posted, World, replicaAt, messageAt, taken, elected}
 use Rattle.agreement.specs.Demand.{says}
 
 -- the message of these bytes is accepted: take answers 0. A record that is unsound with its log accepts none
 abbrev pub Accepts : Replica → List ℕ → Type 0
 Accepts d s = takeOf (d .held) (d .words) s .number ≡ 0
-
--- the record, and every word of the log, that take leaves, as a take of the world puts them at its office; a refused one leaves what was there
-abbrev pub taken : Replica → List ℕ → Replica
-taken d s = record { held = takeOf (d .held) (d .words) s .«record»; words = takeWords (d .held) (d .words) s }
-
--- and that elect leaves
-abbrev pub elected : Replica → Replica
-elected d = record { held = electOf (d .held) (d .words) .«record»; words = electWords (d .held) (d .words) }
 
 -- ── twice, for every sound record ──
 -- "Taking an accepted message twice must leave the record and log that taking it once leaves": it is accepted again, and changes nothing
@@ -54,23 +48,23 @@ pub record NeverUnsettles (d d' : Replica) : Type 0 where
 -- ── in either order, in the world of document 01 ──
 -- the record but for its ballot of office k
 abbrev pub without : ℕ → Record → Record
-without k r = withHeld r (r .summary) (r .settled) (set (r .ballots) k noBallot)
+without k r = withHeld r (r .kept) (r .noted) (r .summary) (r .settled) (set (r .ballots) k noBallot)
 
 -- "the same settled log and the same ballots of the other offices", those other than k
 pub record SameButOwn (k : ℕ) (d d' : Replica) : Type 0 where
   pub log : says d .log ≡ says d' .log
   pub ballots : (j : ℕ) → (j ≡ k → ⊥) → tail (says d) j ≡ tail (says d') j
-  -- so nothing but the own ballot differs: neither another cell of the record nor a word of the log, settled or not
+  -- so nothing but the own ballot differs, neither in the record (what is kept and noted included) nor in the undropped part of the log
   pub records : without k (d .held) ≡ without k (d' .held)
-  pub words : d .words ≡ d' .words
+  pub undropped : heldBy (d .held) (d .words) .log ≡ heldBy (d' .held) (d' .words) .log
 
 -- office k, with the record and the log d, and two messages
 pub record Swapped (k : ℕ) (d : Replica) (a b : List ℕ) : Type 0 where
-  -- a message that is accepted is accepted behind another, so two that are accepted are "accepted in both orders"
-  pub accepted : Accepts d b → Accepts (taken d a) b
+  -- a message that is accepted is accepted behind another too, or ends inside what that one's sender had dropped: 17
+  pub behind : Accepts d b → (Accepts (taken d a) b) ⊎ (takeOf (taken d a .held) (taken d a .words) b .number ≡ 17)
   -- "two messages accepted in both orders give, either way, .."
-  pub same : Accepts d a → Accepts d b → SameButOwn k (taken (taken d a) b) (taken (taken d b) a)
+  pub same : Accepts d a → Accepts (taken d a) b → Accepts d b → Accepts (taken d b) a → SameButOwn k (taken (taken d a) b) (taken (taken d b) a)
 
 -- "For offices and messages of the world of document 01": any of its offices, and any two messages sent by then
 abbrev pub EitherOrder : World → Type 0
-EitherOrder w = (k i j : ℕ) (d : Replica) (a b : List ℕ) → replicaAt w k ≡ some d → messageAt w i ≡ some a → messageAt w j ≡ some b → Swapped k d a b
+EitherOrder w = (k i j : ℕ) (d : Replica) (a b : Posted) → replicaAt w k ≡ some d → messageAt w i ≡ some a → messageAt w j ≡ some b → Swapped k d (a .bytes) (b .bytes)

@@ -1,0 +1,2 @@
+-- Earlier frames, proved.
+pub mod EarlierFrames

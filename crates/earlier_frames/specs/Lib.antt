@@ -1,0 +1,2 @@
+-- What is claimed of the earlier frames of the world's offices.
+pub mod EarlierFrames
