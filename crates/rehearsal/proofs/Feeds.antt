@@ -32,7 +32,7 @@ use Rattle.rehearsal.proofs.Says.{say-short, says-as}
 pub record FeedsRest (w₀ : World) (h₀ s out₀ : List ℕ) (w : World) (h out : List ℕ) (at printed : ℕ) : Type 0 where
   pub rest : FeedRest sayLine w₀ h₀ s out₀ w h out at printed
   pub logs : length (w .logs) ≡ 8192
-  pub slots : length (w .slots) ≡ 28128
+  pub slots : length (w .slots) ≡ 28184
 
 -- the line that ends at `end`: what it says, and whom it is for
 pub record Addressed (w₀ : World) (h₀ s out₀ : List ℕ) (w : World) (h out : List ℕ) (at printed end : ℕ) (h′ : List ℕ) (line : Line) (a : Addressee) : Type 0 where
@@ -51,7 +51,7 @@ module _ {w₀ : World} {h₀ s out₀ : List ℕ} {w : World} {h out : List ℕ
   printed-by : sayLine w (cut (h ++ take (end - at) (drop at s))) .printed ≡ printedOf (x .answer)
   printed-by = ap (λ (f : Said World). f .printed) says
 
-  pub feeds-next : (out′ : List ℕ) (printed′ : ℕ) → printed′ ≡ printed + length (printedOf (x .answer)) → out′ ≡ sets out printed (printedOf (x .answer)) → length (x .world .logs) ≡ 8192 → length (x .world .slots) ≡ 28128
+  pub feeds-next : (out′ : List ℕ) (printed′ : ℕ) → printed′ ≡ printed + length (printedOf (x .answer)) → out′ ≡ sets out printed (printedOf (x .answer)) → length (x .world .logs) ≡ 8192 → length (x .world .slots) ≡ 28184
       → FeedsRest w₀ h₀ s out₀ (x .world) h′ out′ (end + 1) printed′
   feeds-next out′ printed′ ep eo lg sl = record {
     rest =

@@ -37,7 +37,7 @@ fn line_held(held: Held) -> Line
 
 // Answers each whole line, and holds what is left. Each byte of the chunk has room for an answer.
 fn feed_all(r: Rehearsal, logs: &mut [u32], slots: &mut [u8], chunk: &[u8], out: &mut [u8]) -> Fed
-    requires { ⌜ (length (now logs) ≡ 8192) × (length (now slots) ≡ 28128) × (65 * length (now chunk) ≤ length (now out)) ⌝ }
+    requires { ⌜ (length (now logs) ≡ 8192) × (length (now slots) ≡ 28184) × (65 * length (now chunk) ≤ length (now out)) ⌝ }
     ensures { λ f. ⌜ FedAs (feeds r (now (logs .entry)) (now (slots .entry)) (now (chunk .entry))) (now (out .entry)) f (now (logs .exit)) (now (slots .exit)) (now (out .exit)) ⌝ }
 {
     let mut offices = r.offices;
@@ -97,7 +97,7 @@ impl Rehearsal {
     pub fn feed(
         self,
         logs: &mut [u32; 8192],
-        slots: &mut [u8; 28128],
+        slots: &mut [u8; 28184],
         chunk: &[u8; 8192],
         used: usize,
         out: &mut [u8; 532480],
@@ -113,7 +113,7 @@ impl Rehearsal {
     pub fn finish(
         self,
         logs: &mut [u32; 8192],
-        slots: &mut [u8; 28128],
+        slots: &mut [u8; 28184],
         out: &mut [u8; 532480],
     ) -> Fed
         ensures { λ f. ⌜ FedAs (finishes self (now (logs .entry)) (now (slots .entry))) (now (out .entry)) f (now (logs .exit)) (now (slots .exit)) (now (out .exit)) ⌝ }

@@ -22,7 +22,7 @@ fn show(out: &[u8; 532480], count: usize) {
 fn serve(
     rehearsal: Rehearsal,
     logs: &mut [u32; 8192],
-    slots: &mut [u8; 28128],
+    slots: &mut [u8; 28184],
     chunk: &mut [u8; 8192],
     out: &mut [u8; 532480],
 ) -> Next {
@@ -50,7 +50,7 @@ fn serve(
 // turns down, from a number that no run uses up.
 pub fn rehearse() {
     let mut logs = [0u32; 8192];
-    let mut slots = [0u8; 28128];
+    let mut slots = [0u8; 28184];
     let mut chunk = [0u8; 8192];
     let mut out = [0u8; 532480];
     let mut rehearsal = Rehearsal::new();

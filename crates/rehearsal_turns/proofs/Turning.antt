@@ -39,28 +39,28 @@ module _ (r : Record) (lengths words : List ℕ) (a : Answer) where
   viewed-turn line s t es et ea = rw (ea, es, et)
 
   -- the message is lent from the slot's place on for `size` bytes
-  pub taken-turn : (slots : List ℕ) (m size : ℕ) (t : Taken) → take size (drop (m * 7032) slots) ≡ messageIn slots lengths m → t ≡ takeOf r words (take size (drop (m * 7032) slots)) → a ≡ saysOne letterT (t .number) → _≡_ {A = Turn} (record { «record» = t .record; lengths = lengths; answer = a }) (takeTurn r lengths words slots m)
+  pub taken-turn : (slots : List ℕ) (m size : ℕ) (t : Taken) → take size (drop (m * 7046) slots) ≡ messageIn slots lengths m → t ≡ takeOf r words (take size (drop (m * 7046) slots)) → a ≡ saysOne letterT (t .number) → _≡_ {A = Turn} (record { «record» = t .record; lengths = lengths; answer = a }) (takeTurn r lengths words slots m)
   unfolding takeTurn
   taken-turn slots m size t em et ea = rw (ea, et, em)
 
-  pub taken-words : (slots : List ℕ) (m size : ℕ) (after : List ℕ) → take size (drop (m * 7032) slots) ≡ messageIn slots lengths m → after ≡ takeWords r words (take size (drop (m * 7032) slots)) → after ≡ takeTurnWords r lengths words slots m
+  pub taken-words : (slots : List ℕ) (m size : ℕ) (after : List ℕ) → take size (drop (m * 7046) slots) ≡ messageIn slots lengths m → after ≡ takeWords r words (take size (drop (m * 7046) slots)) → after ≡ takeTurnWords r lengths words slots m
   unfolding takeTurnWords
   taken-words slots m size after em ea = ea ∙ ap (takeWords r words) em
 
   -- the slot is lent from `from` on for `size` bytes
-  module _ (slots : List ℕ) (m size : ℕ) (whole : size ≡ 7032) where
-    pub sent-turn : (next : List ℕ) (s : Sent) → s ≡ sendOf r words (take size (drop (m * 7032) slots)) → next ≡ sentLengths lengths m (s .number) (s .length) → a ≡ saysTwo letterS (s .number) (s .length) → _≡_ {A = Turn} (record { «record» = r; lengths = next; answer = a }) (sendTurn r lengths words slots m)
+  module _ (slots : List ℕ) (m size : ℕ) (whole : size ≡ 7046) where
+    pub sent-turn : (next : List ℕ) (s : Sent) → s ≡ sendOf r words (take size (drop (m * 7046) slots)) → next ≡ sentLengths lengths m (s .number) (s .length) → a ≡ saysTwo letterS (s .number) (s .length) → _≡_ {A = Turn} (record { «record» = r; lengths = next; answer = a }) (sendTurn r lengths words slots m)
     unfolding sendTurn
     sent-turn next s es en ea = rw (en, ea, es, whole)
 
-    pub sent-slots : (bytes : List ℕ) → bytes ≡ sendBytes r words (take size (drop (m * 7032) slots)) → take (m * 7032) slots ++ (bytes ++ drop size (drop (m * 7032) slots)) ≡ sendSlots r words slots m
+    pub sent-slots : (bytes : List ℕ) → bytes ≡ sendBytes r words (take size (drop (m * 7046) slots)) → take (m * 7046) slots ++ (bytes ++ drop size (drop (m * 7046) slots)) ≡ sendSlots r words slots m
     unfolding sendSlots
     sent-slots bytes eb = rw (eb, whole)
 
 -- the bytes that are lent for a take are the slot's message
-pub message-lent : (slots lengths : List ℕ) (m size : ℕ) → m < 4 → length slots ≡ 28128 → size ≡ min (getD lengths m 0) 7032 → take size (drop (m * 7032) slots) ≡ messageIn slots lengths m
+pub message-lent : (slots lengths : List ℕ) (m size : ℕ) → m < 4 → length slots ≡ 28184 → size ≡ min (getD lengths m 0) 7046 → take size (drop (m * 7046) slots) ≡ messageIn slots lengths m
 message-lent slots lengths m size h l e =
     let n = getD lengths m 0 in
-    let p : length (slotOf slots m) ≡ 7032 = length-take-le 7032 (drop (m * 7032) slots) (omega (arith, length-drop (m * 7032) slots)) in
-    let s : size ≤ 7032 = rw e (min-le-right n 7032) in
-    sym (take-take size 7032 (drop (m * 7032) slots) s) ∙ ap (λ (k : ℕ). take k (slotOf slots m)) e ∙ take-within n 7032 (slotOf slots m) p
+    let p : length (slotOf slots m) ≡ 7046 = length-take-le 7046 (drop (m * 7046) slots) (omega (arith, length-drop (m * 7046) slots)) in
+    let s : size ≤ 7046 = rw e (min-le-right n 7046) in
+    sym (take-take size 7046 (drop (m * 7046) slots) s) ∙ ap (λ (k : ℕ). take k (slotOf slots m)) e ∙ take-within n 7046 (slotOf slots m) p

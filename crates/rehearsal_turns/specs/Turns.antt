@@ -39,7 +39,7 @@ sendTurn r lengths words slots m =
     }
 
 unfoldable pub sendSlots : Record → List ℕ → List ℕ → ℕ → List ℕ
-sendSlots r words slots m = withPiece 7032 slots m (sendBytes r words (slotOf slots m))
+sendSlots r words slots m = withPiece 7046 slots m (sendBytes r words (slotOf slots m))
 
 -- `t k m`; "an empty slot is a message of no bytes"
 unfoldable pub takeTurn : Record → List ℕ → List ℕ → List ℕ → ℕ → Turn

@@ -15,7 +15,7 @@ use rehearsal_commands::Command;
 // The message slots, and the bytes of one: those of the longest message.
 const SLOTS: usize = 4;
 
-const SLOT: usize = 7032;
+const SLOT: usize = 7046;
 
 // The record and the lengths of the slots' messages after the turn, and the answer.
 pub struct Turn {
@@ -133,7 +133,7 @@ fn sent_lengths(lengths: [usize; 4], m: usize, number: u32, size: usize) -> [usi
 
 // `s k m` sends the office's message into a slot that is there.
 fn send_turn(record: Record, lengths: [usize; 4], log: &[u32], slots: &mut [u8], m: usize) -> Turn
-    requires { ⌜ (m < 4) × (length (now slots) ≡ 28128) ⌝ }
+    requires { ⌜ (m < 4) × (length (now slots) ≡ 28184) ⌝ }
     ensures { λ r. ⌜ (r ≡ sendTurn «record» lengths (now (log .entry)) (now (slots .entry)) m) × (now (slots .exit) ≡ sendSlots «record» (now (log .entry)) (now (slots .entry)) m) ⌝ }
 {
     let from = m * SLOT;
@@ -150,7 +150,7 @@ fn send_turn(record: Record, lengths: [usize; 4], log: &[u32], slots: &mut [u8],
 
 // `t k m` takes the message of a slot that is there.
 fn take_turn(record: Record, lengths: [usize; 4], log: &mut [u32], slots: &[u8], m: usize) -> Turn
-    requires { ⌜ (m < 4) × (length (now slots) ≡ 28128) ⌝ }
+    requires { ⌜ (m < 4) × (length (now slots) ≡ 28184) ⌝ }
     ensures { λ r. ⌜ (r ≡ takeTurn «record» lengths (now (log .entry)) (now (slots .entry)) m) × (now (log .exit) ≡ takeTurnWords «record» lengths (now (log .entry)) (now (slots .entry)) m) ⌝ }
 {
     let from = m * SLOT;
@@ -204,7 +204,7 @@ pub fn turn_at(
     slots: &mut [u8],
     command: Command,
 ) -> Turn
-    requires { ⌜ length (now slots) ≡ 28128 ⌝ }
+    requires { ⌜ length (now slots) ≡ 28184 ⌝ }
     ensures { λ r. ⌜ r ≡ turnAt «record» lengths (now (log .entry)) (now (slots .entry)) command ⌝ }
     ensures { λ r. ⌜ now (log .exit) ≡ turnWords «record» lengths (now (log .entry)) (now (slots .entry)) command ⌝ }
     ensures { λ r. ⌜ now (slots .exit) ≡ turnSlots «record» (now (log .entry)) (now (slots .entry)) command ⌝ }

@@ -4,9 +4,10 @@
 ghost use Prim.Native.Nat.{_+_, _≤_, _<_};
 ghost use lib.ListN.{length};
 
-pub type Book = [u64; 15676];
+pub type Book = [u64; 15765];
 
-// Where the weights begin, the present weights, the settled length, the codes and the ballots, each a length field and 32 cells.
+// Where the weights begin, the present weights, the settled length and the codes; the dropped count, the kept weights, codes and counts, the noted
+// lengths; and the ballots, each a length field and 32 cells.
 pub const WEIGHTS: usize = 2;
 
 pub const PRESENT: usize = 10;
@@ -15,16 +16,26 @@ pub const SETTLED: usize = 18;
 
 pub const CODES: usize = 19;
 
-pub const BALLOTS: usize = 83;
+pub const DROPPED: usize = 83;
+
+pub const KEPT_WEIGHTS: usize = 84;
+
+pub const KEPT_CODES: usize = 92;
+
+pub const KEPT_COUNTS: usize = 156;
+
+pub const NOTED: usize = 164;
+
+pub const BALLOTS: usize = 172;
 
 pub const BALLOT: usize = 33;
 
 // Where the length of the log, of the output and of the message stands. What is in them stands behind it.
-pub const LOG: usize = 347;
+pub const LOG: usize = 436;
 
-pub const OUTPUT: usize = 1448;
+pub const OUTPUT: usize = 1537;
 
-pub const MESSAGE: usize = 8549;
+pub const MESSAGE: usize = 8638;
 
 // Most words of the log, and most bytes of the output and of the message.
 pub const WORDS: usize = 1100;
@@ -32,13 +43,13 @@ pub const WORDS: usize = 1100;
 pub const BYTES: usize = 7100;
 
 // Where the numbers of the line begin, up to 24. All before is the state.
-pub const SAID: usize = 15650;
+pub const SAID: usize = 15739;
 
 // How many bytes of a line are held.
-pub const HELD: usize = 15674;
+pub const HELD: usize = 15763;
 
 // A place that stays zero.
-pub const ZERO: usize = 15675;
+pub const ZERO: usize = 15764;
 
 // The most that a number may be at this place, other than a length of a buffer.
 pub fn limit(place: usize) -> u64 {
@@ -54,14 +65,17 @@ pub fn limit(place: usize) -> u64 {
         }
         return 4294967295;
     }
-    if place >= CODES {
+    if place >= KEPT_COUNTS {
+        return u64::MAX;
+    }
+    if place >= KEPT_CODES {
         return 4294967295;
     }
-    if place == SETTLED {
+    if (place < WEIGHTS) | (place == SETTLED) | (place == DROPPED) {
         return u64::MAX;
     }
-    if place < WEIGHTS {
-        return u64::MAX;
+    if (place >= CODES) & (place < DROPPED) {
+        return 4294967295;
     }
     65535
 }
@@ -76,8 +90,8 @@ fn turn(i: usize, each: usize) -> usize
 
 // Writes the `each` numbers from place `from` on, over and over, `total` in all, from place `to` on.
 pub fn write(book: &mut Book, to: usize, total: usize, from: usize, each: usize)
-    requires { ⌜ to + total ≤ 15676 ⌝ }
-    requires { ⌜ from + each ≤ 15676 ⌝ }
+    requires { ⌜ to + total ≤ 15765 ⌝ }
+    requires { ⌜ from + each ≤ 15765 ⌝ }
     requires { ⌜ 0 < each ⌝ }
 {
     for i in 0..total {
@@ -95,7 +109,7 @@ fn of_byte(x: u8) -> u64 {
 
 // The numbers from this place on as words: the low 32 bits of each.
 pub fn to_words(book: &Book, at: usize, to: &mut [u32])
-    requires { ⌜ at + length (now to) ≤ 15676 ⌝ }
+    requires { ⌜ at + length (now to) ≤ 15765 ⌝ }
 {
     for i in 0..to.len() {
         to[i] = (book[at + i] % 4294967296) as u32;
@@ -104,7 +118,7 @@ pub fn to_words(book: &Book, at: usize, to: &mut [u32])
 
 // Writes words as numbers from this place on.
 pub fn from_words(from: &[u32], book: &mut Book, at: usize)
-    requires { ⌜ at + length (now from) ≤ 15676 ⌝ }
+    requires { ⌜ at + length (now from) ≤ 15765 ⌝ }
 {
     for i in 0..from.len() {
         book[at + i] = wide(from[i]);
@@ -113,7 +127,7 @@ pub fn from_words(from: &[u32], book: &mut Book, at: usize)
 
 // The numbers from this place on as bytes: the low 8 bits of each.
 pub fn to_bytes(book: &Book, at: usize, to: &mut [u8])
-    requires { ⌜ at + length (now to) ≤ 15676 ⌝ }
+    requires { ⌜ at + length (now to) ≤ 15765 ⌝ }
 {
     for i in 0..to.len() {
         to[i] = (book[at + i] % 256) as u8;
@@ -122,7 +136,7 @@ pub fn to_bytes(book: &Book, at: usize, to: &mut [u8])
 
 // Writes bytes as numbers from this place on.
 pub fn from_bytes(from: &[u8; 7100], book: &mut Book, at: usize)
-    requires { ⌜ at + 7100 ≤ 15676 ⌝ }
+    requires { ⌜ at + 7100 ≤ 15765 ⌝ }
 {
     for i in 0..7100 {
         book[at + i] = of_byte(from[i]);

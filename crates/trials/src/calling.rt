@@ -43,7 +43,7 @@ fn part_digest(part: &[u32]) -> u64 {
     if part.len() > book::WORDS {
         return 0;
     }
-    let mut numbers = [0u64; 15676];
+    let mut numbers = [0u64; 15765];
     book::from_words(part, &mut numbers, 0);
     digest::with_all(0, &numbers, 0, part.len())
 }
@@ -103,6 +103,15 @@ fn elect(book: &mut Book, log: &mut [u32]) {
     record::keep(next, book);
 }
 
+// `D`
+fn fold(book: &mut Book, log: &mut [u32]) {
+    let folded = record::of(book).fold(log);
+    let next = folded.record;
+    print(folded.number as u64);
+    print(folded.count);
+    record::keep(next, book);
+}
+
 // `S`
 fn send(book: &mut Book, log: &[u32]) {
     let length = within(book[book::OUTPUT] as usize, book::BYTES);
@@ -128,7 +137,7 @@ fn take(book: &mut Book, log: &mut [u32]) {
 
 // The digest of the class and the total of each of the first rows.
 fn rows_digest(rows: [Row; 64], count: usize) -> u64 {
-    let mut numbers = [0u64; 15676];
+    let mut numbers = [0u64; 15765];
     for i in 0..64 {
         let row = rows[i];
         numbers[2 * i] = row.class as u64;
@@ -154,7 +163,7 @@ fn earlier(book: &Book, log: &[u32]) {
     let length = within(book[book::MESSAGE] as usize, book::BYTES);
     let mut lines = [0u32; 7100];
     book::to_words(book, book::MESSAGE + 1, &mut lines);
-    let made = earlier::frame_at(record::of(book), log, book[SAID] as usize, &lines[..length]);
+    let made = earlier::frame_at(record::of(book), log, book[SAID], &lines[..length]);
     let edits = made.edits;
     print(made.number as u64);
     print(made.words as u64);
@@ -222,6 +231,7 @@ fn make(book: &mut Book, letter: u8, log: &mut [u32]) {
         b'A' => all_lines(book, log),
         b'U' => sound(book, log),
         b'E' => elect(book, log),
+        b'D' => fold(book, log),
         b'S' => send(book, log),
         b'T' => take(book, log),
         _ => make_above(book, letter, log),

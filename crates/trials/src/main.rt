@@ -89,7 +89,7 @@ fn read_all(book: &mut Book, line: &mut [u8]) {
 
 // A last line without a newline is answered as one with it.
 fn main() {
-    let mut book = [0u64; 15676];
+    let mut book = [0u64; 15765];
     let mut line = [0u8; 129];
     read_all(&mut book, &mut line);
     if book[book::HELD] > 0 {

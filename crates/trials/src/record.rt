@@ -4,11 +4,12 @@ use crate::book;
 use crate::book::Book;
 use ballots::Ballot;
 use frame::Record;
+use kept::Kept;
 use summary::Summary;
 
 // Eight numbers from this place on as weights: the low 16 bits of each.
 pub fn weights(book: &Book, at: usize) -> [u16; 8]
-    requires { ⌜ at + 8 ≤ 15676 ⌝ }
+    requires { ⌜ at + 8 ≤ 15765 ⌝ }
 {
     let mut weights = [0u16; 8];
     for i in 0..8 {
@@ -23,7 +24,7 @@ fn wide(x: u16) -> u64 {
 
 // Writes weights as numbers from this place on.
 fn keep_weights(weights: [u16; 8], book: &mut Book, at: usize)
-    requires { ⌜ at + 8 ≤ 15676 ⌝ }
+    requires { ⌜ at + 8 ≤ 15765 ⌝ }
 {
     for i in 0..8 {
         book[at + i] = wide(weights[i]);
@@ -32,7 +33,7 @@ fn keep_weights(weights: [u16; 8], book: &mut Book, at: usize)
 
 // The ballot that stands at this place.
 fn ballot(book: &Book, at: usize) -> Ballot
-    requires { ⌜ at ≤ 347 ⌝ }
+    requires { ⌜ at ≤ 436 ⌝ }
 {
     let mut cells = [0u32; 32];
     book::to_words(book, at + 1, &mut cells);
@@ -44,7 +45,7 @@ fn ballot(book: &Book, at: usize) -> Ballot
 
 // Writes a ballot to this place.
 fn keep_ballot(ballot: Ballot, book: &mut Book, at: usize)
-    requires { ⌜ at ≤ 347 ⌝ }
+    requires { ⌜ at ≤ 436 ⌝ }
 {
     let cells = ballot.cells;
     book[at] = ballot.len as u64;
@@ -70,32 +71,70 @@ fn keep_ballots(ballots: [Ballot; 8], book: &mut Book) {
     }
 }
 
-// The codes of the book.
-fn codes(book: &Book) -> [u32; 64] {
-    let mut codes = [0u32; 64];
-    book::to_words(book, book::CODES, &mut codes);
-    codes
+// Eight numbers from this place on.
+fn numbers(book: &Book, at: usize) -> [u64; 8]
+    requires { ⌜ at + 8 ≤ 15765 ⌝ }
+{
+    let mut numbers = [0u64; 8];
+    for i in 0..8 {
+        numbers[i] = book[at + i];
+    }
+    numbers
 }
 
-// Writes the codes into the book.
-fn keep_codes(codes: [u32; 64], book: &mut Book) {
+// Writes eight numbers from this place on.
+fn keep_numbers(numbers: [u64; 8], book: &mut Book, at: usize)
+    requires { ⌜ at + 8 ≤ 15765 ⌝ }
+{
+    for i in 0..8 {
+        book[at + i] = numbers[i];
+    }
+}
+
+// The weights and the codes that stand at these places.
+fn summary(book: &Book, from: usize, at: usize) -> Summary
+    requires { ⌜ from ≤ 436 ⌝ }
+    requires { ⌜ at ≤ 436 ⌝ }
+{
+    let present = weights(book, from);
+    let mut codes = [0u32; 64];
+    book::to_words(book, at, &mut codes);
+    Summary { present, codes }
+}
+
+// Writes weights and codes to these places.
+fn keep_summary(summary: Summary, book: &mut Book, to: usize, at: usize)
+    requires { ⌜ to ≤ 436 ⌝ }
+    requires { ⌜ at ≤ 436 ⌝ }
+{
+    let present = summary.present;
+    let codes = summary.codes;
+    keep_weights(present, book, to);
     for i in 0..64 {
-        book[book::CODES + i] = book::wide(codes[i]);
+        book[at + i] = book::wide(codes[i]);
     }
 }
 
 // The record of the book.
 pub fn of(book: &Book) -> Record {
     let founding = weights(book, book::WEIGHTS);
-    let present = weights(book, book::PRESENT);
-    let codes = codes(book);
+    let before = summary(book, book::KEPT_WEIGHTS, book::KEPT_CODES);
+    let counts = numbers(book, book::KEPT_COUNTS);
+    let noted = numbers(book, book::NOTED);
+    let summary = summary(book, book::PRESENT, book::CODES);
     let ballots = ballots(book);
     Record {
         n: book[0] as usize,
         own: book[1] as usize,
         weights: founding,
-        summary: Summary { present, codes },
-        settled: book[book::SETTLED] as usize,
+        kept: Kept {
+            dropped: book[book::DROPPED],
+            summary: before,
+            counts,
+        },
+        noted,
+        summary,
+        settled: book[book::SETTLED],
         ballots,
     }
 }
@@ -103,15 +142,20 @@ pub fn of(book: &Book) -> Record {
 // Writes the record into the book.
 pub fn keep(record: Record, book: &mut Book) {
     let weights = record.weights;
+    let kept = record.kept;
+    let before = kept.summary;
+    let counts = kept.counts;
+    let noted = record.noted;
     let summary = record.summary;
-    let present = summary.present;
-    let codes = summary.codes;
     let ballots = record.ballots;
     book[0] = record.n as u64;
     book[1] = record.own as u64;
     keep_weights(weights, book, book::WEIGHTS);
-    keep_weights(present, book, book::PRESENT);
-    keep_codes(codes, book);
-    book[book::SETTLED] = record.settled as u64;
+    keep_summary(summary, book, book::PRESENT, book::CODES);
+    book[book::SETTLED] = record.settled;
+    book[book::DROPPED] = kept.dropped;
+    keep_summary(before, book, book::KEPT_WEIGHTS, book::KEPT_CODES);
+    keep_numbers(counts, book, book::KEPT_COUNTS);
+    keep_numbers(noted, book, book::NOTED);
     keep_ballots(ballots, book);
 }

@@ -39,14 +39,14 @@ pub fn counted(letter: u8, count: usize) -> bool {
         return false;
     }
     match letter {
-        b'd' | b'P' | b'A' | b'U' | b'E' | b'S' | b'T' | b'H' | b'W' | b'C' => count == 0,
-        b'c' | b'g' | b'V' | b'Q' => count == 1,
+        b'd' | b'P' | b'A' | b'U' | b'E' | b'D' | b'S' | b'T' | b'H' | b'W' | b'C' => count == 0,
+        b'c' | b'g' | b'f' | b'V' | b'Q' => count == 1,
         b'b' | b'l' | b'o' | b'x' | b'I' => count == 2,
         b'B' => count == 16,
         b'F' => count == 10,
         b'r' => count == 11,
-        b'p' => count == 8,
-        b'w' | b'm' | b'k' => count > 1,
+        b'p' | b'q' => count == 8,
+        b'w' | b'm' | b'k' | b'j' | b't' | b'n' => count > 1,
         b'a' => count > 2,
         _ => false,
     }

@@ -12,7 +12,7 @@ use lists::within;
 
 // Whether each number of the line from the one at `from` on, and before `end`, is within the limit of its place: the first at `place`, the others behind it.
 pub fn fit(book: &Book, place: usize, from: usize, end: usize) -> bool
-    requires { ⌜ place ≤ 15650 ⌝ }
+    requires { ⌜ place ≤ 15739 ⌝ }
     requires { ⌜ end ≤ 24 ⌝ }
 {
     for i in from..end {
@@ -36,7 +36,7 @@ fn product(times: usize, each: usize) -> usize
 
 // Writes the numbers of the line from the one at `from` on, and before `end`, `times` times over, from place `first` on, where there is room for them, 7100 at most.
 fn spread(book: &mut Book, first: usize, room: usize, from: usize, end: usize, times: usize) -> bool
-    requires { ⌜ first + room ≤ 15650 ⌝ }
+    requires { ⌜ first + room ≤ 15739 ⌝ }
     requires { ⌜ from < end ⌝ }
     requires { ⌜ end ≤ 24 ⌝ }
 {
@@ -51,22 +51,24 @@ fn spread(book: &mut Book, first: usize, room: usize, from: usize, end: usize, t
     true
 }
 
-// `r`: n, the own office and the weights, the present weights like these, and the settled length.
+// `r`: n, the own office and the weights, the present and the kept weights like these, and the settled length.
 fn set_fields(book: &mut Book) -> bool {
     if !spread(book, 0, book::PRESENT, 0, 10, 1) {
         return false;
     }
     book[book::SETTLED] = book[SAID + 10];
+    book::write(book, book::KEPT_WEIGHTS, 8, SAID + 2, 8);
     spread(book, book::PRESENT, 8, 2, 10, 1)
 }
 
-// `k`: the codes from a place on.
-fn set_codes(book: &mut Book, count: usize) -> bool
+// `k`, `j`, `t` and `n`, `w` and `x`: the numbers are written over others, from a place on that the line says.
+fn replace(book: &mut Book, first: usize, room: usize, count: usize) -> bool
+    requires { ⌜ first + room ≤ 15739 ⌝ }
     requires { ⌜ 1 < count ⌝ }
     requires { ⌜ count ≤ 24 ⌝ }
 {
-    let at = within(book[SAID] as usize, 64);
-    spread(book, book::CODES + at, 64 - at, 1, count, 1)
+    let at = within(book[SAID] as usize, room);
+    spread(book, first + at, room - at, 1, count, 1)
 }
 
 // `b` and `a`; `b` alone has two numbers.
@@ -89,7 +91,7 @@ fn set_ballot(book: &mut Book, count: usize) -> bool
 
 // `l`, `o` and `m`: the numbers are written from place `at` of the buffer on, and end it.
 fn fill(book: &mut Book, buffer: usize, most: usize, at: usize, count: usize) -> bool
-    requires { ⌜ buffer + 1 + most ≤ 15650 ⌝ }
+    requires { ⌜ buffer + 1 + most ≤ 15739 ⌝ }
     requires { ⌜ at ≤ most ⌝ }
     requires { ⌜ 1 < count ⌝ }
     requires { ⌜ count ≤ 24 ⌝ }
@@ -102,20 +104,9 @@ fn fill(book: &mut Book, buffer: usize, most: usize, at: usize, count: usize) ->
     true
 }
 
-// `w` and `x`: the numbers are written over others of the buffer.
-fn replace(book: &mut Book, buffer: usize, most: usize, count: usize) -> bool
-    requires { ⌜ buffer + 1 + most ≤ 15650 ⌝ }
-    requires { ⌜ 1 < count ⌝ }
-    requires { ⌜ count ≤ 24 ⌝ }
-{
-    let held = within(book[buffer] as usize, most);
-    let at = within(book[SAID] as usize, held);
-    spread(book, buffer + 1 + at, held - at, 1, count, 1)
-}
-
 // `c` and `g`: the message is the first bytes of the message, or of the output.
 fn cut(book: &mut Book, buffer: usize) -> bool
-    requires { ⌜ buffer + 7101 ≤ 15650 ⌝ }
+    requires { ⌜ buffer + 7101 ≤ 15739 ⌝ }
 {
     if book[SAID] > book[buffer] {
         return false;
@@ -130,6 +121,7 @@ fn cut(book: &mut Book, buffer: usize) -> bool
 pub fn set(book: &mut Book, letter: u8, count: usize) -> bool
     requires { ⌜ count ≤ 24 ⌝ }
 {
+    let words = within(book[LOG] as usize, book::WORDS);
     let message = within(book[MESSAGE] as usize, book::BYTES);
     if letter == b'd' {
         book::write(book, 0, SAID, ZERO, 1);
@@ -141,6 +133,9 @@ pub fn set(book: &mut Book, letter: u8, count: usize) -> bool
     if letter == b'g' {
         return cut(book, OUTPUT);
     }
+    if letter == b'f' {
+        return spread(book, book::DROPPED, 1, 0, 1, 1);
+    }
     if count < 2 {
         return false;
     }
@@ -148,11 +143,15 @@ pub fn set(book: &mut Book, letter: u8, count: usize) -> bool
         b'l' => fill(book, LOG, book::WORDS, 0, count),
         b'o' => fill(book, OUTPUT, book::BYTES, 0, count),
         b'm' => fill(book, MESSAGE, book::BYTES, message, count),
-        b'w' => replace(book, LOG, book::WORDS, count),
-        b'x' => replace(book, MESSAGE, book::BYTES, count),
+        b'w' => replace(book, LOG + 1, words, count),
+        b'x' => replace(book, MESSAGE + 1, message, count),
         b'r' => set_fields(book),
         b'p' => spread(book, book::PRESENT, 8, 0, count, 1),
-        b'k' => set_codes(book, count),
+        b'q' => spread(book, book::KEPT_WEIGHTS, 8, 0, count, 1),
+        b'k' => replace(book, book::CODES, 64, count),
+        b'j' => replace(book, book::KEPT_CODES, 64, count),
+        b't' => replace(book, book::KEPT_COUNTS, 8, count),
+        b'n' => replace(book, book::NOTED, 8, count),
         _ => set_ballot(book, count),
     }
 }

@@ -12,7 +12,7 @@ use Rattle.rehearsal_turns.proofs.take_turn.Tie as tie
 returns : tie.Need-returns
 returns c =
     let a = c .before .before .before .before .before .before .before .before .before .before .args in
-    let from = a .m * 7032 in
+    let from = a .m * 7046 in
     let size = c .before .before .before .before .before .before .before .within .result in
     let lent = from + size - from in
     let s : lent ≡ size = omega arith in
