@@ -37,13 +37,16 @@ enum {
     JOUKERPAN_TAIL = 32,       /* entries of a ballot's tail, at most; of one office of n at most 32 / n, its part */
     JOUKERPAN_LINES = 64,      /* lines of the frame: 0 to 63; line 64 + j moves weight to office j */
     JOUKERPAN_CODES = 10000,   /* codes of a line: 0 to 9999; weight that a move moves: 1 to 9999 */
-    JOUKERPAN_LOG = 1024,      /* settled entries, at most; words of a log, at least */
-    JOUKERPAN_MESSAGE = 7032,  /* bytes of a message, at most */
+    JOUKERPAN_LOG = 1024,      /* settled entries that are not dropped, at most; words of a log, at least */
+    JOUKERPAN_MESSAGE = 7046,  /* bytes of a message, at most */
     JOUKERPAN_HOUSEHOLD = 7,   /* bytes of a household record: 0x48 0x52, line, weight (4, most significant first) */
     JOUKERPAN_HOUSEHOLDS = 1000000, /* household records of a sheet, at most */
-    JOUKERPAN_COUNT = 4,       /* bytes of a count in a version vector, most significant first; a vector has n */
-    JOUKERPAN_VECTORS = 288    /* bytes of an office's version vectors, at most: of n offices 4 * n * (n + 1) */
+    JOUKERPAN_COUNT = 8,       /* bytes of a count in a version vector, most significant first; a vector has n */
+    JOUKERPAN_VECTORS = 576    /* bytes of an office's version vectors, at most: of n offices 8 * n * (n + 1) */
 };
+
+/* Settled entries and a tail behind them, dropped entries included, at most: 2^63. */
+#define JOUKERPAN_LENGTH (UINT64_C(1) << 63)
 
 /* Numbers that a call answers. Where several hold, the smallest is given. */
 enum {
@@ -52,17 +55,19 @@ enum {
     JOUKERPAN_FOUNDING = 2,       /* founding: n, own office or weights outside the limits */
     JOUKERPAN_NO_ENTRY = 3,       /* line or code outside the limits: see issue; of a frame: line above 63 */
     JOUKERPAN_TAIL_FULL = 4,      /* no longer given: an own tail that is 32 long has the own office's part (11) */
-    JOUKERPAN_LOG_FULL = 5,       /* settled length and own tail length make 1,024 */
+    JOUKERPAN_LOG_FULL = 5,       /* undropped entries and own tail make 1,024, or all settled ones and it 2^63: fold */
     JOUKERPAN_OUTPUT_SHORT = 6,   /* output shorter than what is to be written */
     JOUKERPAN_NO_MESSAGE = 7,     /* message not of the layout, or a number in it outside the limits */
     JOUKERPAN_OTHER_OFFICES = 8,  /* message's n or founding weights differ from the record's */
     JOUKERPAN_OWN_MESSAGE = 9,    /* sender is the receiver's own office */
-    JOUKERPAN_OTHER_LOG = 10,     /* neither settled log is a beginning of the other: stop (see above) */
+    JOUKERPAN_OTHER_LOG = 10,     /* the settled logs differ in the part that both still have: stop (see above) */
     JOUKERPAN_PART_FULL = 11,     /* own tail has the own office's part, 32 / n entries of it: wait for votes */
     JOUKERPAN_NO_HOUSEHOLDS = 12, /* bytes are no household records, have a line above 63, or are too many */
-    JOUKERPAN_NO_PLACE = 13,      /* earlier frame: p above the settled length, or more than 64 lines named */
-    JOUKERPAN_NO_VECTOR = 14,     /* bytes are not exactly n counts, each at most 1,024 */
-    JOUKERPAN_NO_WEIGHTS = 15     /* a lowest weight of an office exceeds its highest */
+    JOUKERPAN_NO_PLACE = 13,      /* earlier frame: p outside what is settled and not dropped, or over 64 lines named */
+    JOUKERPAN_NO_VECTOR = 14,     /* bytes are not exactly n counts */
+    JOUKERPAN_NO_WEIGHTS = 15,    /* a lowest weight of an office exceeds its highest */
+    JOUKERPAN_BEGINS_PAST = 16,   /* message's log begins past the own length; no sent message meets it */
+    JOUKERPAN_ENDS_INSIDE = 17    /* message's log ends inside the own dropped part: an old message */
 };
 
 /* How a version, the settled log or a ballot's path, stands to a version vector, by its counts of entries. */
@@ -83,8 +88,8 @@ typedef struct {
 } joukerpan_ballot;
 
 /*
- * What the settled log has done. Take and elect keep it true; a record with any other summary than its
- * founding weights and its settled log give is unsound.
+ * What settled entries have done. Of the record, take and elect keep it true; a record with any other summary
+ * than what is kept of its dropped entries and the undropped ones give is unsound.
  */
 typedef struct {
     uint16_t present[JOUKERPAN_OFFICES];  /* present weights, by which elect counts votes; same total */
@@ -92,17 +97,29 @@ typedef struct {
 } joukerpan_summary;
 
 /*
- * What one office knows, apart from its log. The first `settled` words of the log are the settled log,
- * one entry a word: office * 16777216 + line * 65536 + code. Store record and log as they are, before
- * anything of them is sent or shown; sound() says whether what was read back is a record with its log,
- * and cannot say whether it is the newest.
+ * What is kept of the settled entries that were dropped (fold, and take after the sender's fold): the first
+ * `dropped` ones of the order. With none dropped its weights are the founding weights, and all else is zero.
+ */
+typedef struct {
+    uint64_t dropped;                    /* how many they are */
+    joukerpan_summary summary;           /* what they have done */
+    uint64_t counts[JOUKERPAN_OFFICES];  /* how many of them each office issued; they add up to `dropped` */
+} joukerpan_kept;
+
+/*
+ * What one office knows, apart from its log. The first `settled - kept.dropped` words of the log are the settled
+ * entries that are not dropped, one a word: office * 16777216 + line * 65536 + code. Store record and log as
+ * they are, before anything of them is sent or shown; sound() says whether what was read back is a record with
+ * its log, and cannot say whether it is the newest.
  */
 typedef struct {
     size_t n;                                     /* offices there are */
     size_t own;                                   /* this office, below n */
     uint16_t weights[JOUKERPAN_OFFICES];          /* founding weights, which messages carry; zero from place n on */
-    joukerpan_summary summary;                    /* what the settled log has done */
-    size_t settled;                               /* settled length, at most 1,024 */
+    joukerpan_kept kept;                          /* what is kept of the dropped entries */
+    uint64_t noted[JOUKERPAN_OFFICES];            /* longest settled length heard of each other office; own place 0 */
+    joukerpan_summary summary;                    /* what all settled entries have done, dropped ones included */
+    uint64_t settled;                             /* settled length, dropped entries included */
     joukerpan_ballot ballots[JOUKERPAN_OFFICES];  /* last known ballot of each office */
 } joukerpan_record;
 
@@ -124,7 +141,7 @@ typedef struct {
 
 typedef struct {
     uint32_t number;
-    size_t length;  /* settled words at the front of the log; 0 where refused */
+    size_t length;  /* settled words at the front of the log, those not dropped; 0 where refused */
 } joukerpan_part;
 
 typedef struct {
@@ -149,6 +166,12 @@ typedef struct {
     uint32_t number;
     size_t count;  /* entries settled; 0 where none won, and where refused */
 } joukerpan_elected;
+
+typedef struct {
+    joukerpan_record record;
+    uint32_t number;
+    uint64_t count;  /* entries dropped; 0 where refused */
+} joukerpan_folded;
 
 typedef struct {
     uint32_t number;
@@ -190,16 +213,18 @@ typedef struct {
 } joukerpan_foreseen;
 
 /*
- * A fresh record: an empty log, no ballots, present weights as founded, no edit of any line.
+ * A fresh record: an empty log, no ballots, present weights as founded, no edit of any line, nothing dropped,
+ * no office heard of.
  * Refused: 1 (log size alone), 2.
  */
 joukerpan_founded joukerpan_found(size_t n, size_t own, joukerpan_weights weights,
                                   const uint32_t *log, size_t log_len);
 
 /*
- * Whether the record with its log is sound: a log of 1,024 words or more, every limit kept, the present
- * weights those that follow from the founding weights and the settled log, and each line's code that of the
- * last entry for it in the settled log, or no edit yet where there is none.
+ * Whether the record with its log is sound: a log of 1,024 words or more, every limit kept, what is kept of
+ * the dropped entries within its limits (their counts add up to the dropped count, their weights to the total;
+ * with none dropped the founding weights and no code), no noted length above the own one, and a summary that
+ * follows from what is kept and the undropped entries.
  */
 bool joukerpan_sound(joukerpan_record record, const uint32_t *log, size_t log_len);
 
@@ -214,7 +239,10 @@ bool joukerpan_sound(joukerpan_record record, const uint32_t *log, size_t log_le
 joukerpan_issued joukerpan_issue(joukerpan_record record, const uint32_t *log, size_t log_len,
                                  uint32_t line, uint32_t code);
 
-/* How many words at the front of the log are settled: the entries that no office will contradict. Refused: 1. */
+/*
+ * How many words at the front of the log are settled, the entries that no office will contradict: those that
+ * are not dropped. Refused: 1.
+ */
 joukerpan_part joukerpan_settled(joukerpan_record record, const uint32_t *log, size_t log_len);
 
 /*
@@ -224,7 +252,7 @@ joukerpan_part joukerpan_settled(joukerpan_record record, const uint32_t *log, s
  */
 joukerpan_lines joukerpan_all_lines(joukerpan_record record, const uint32_t *log, size_t log_len);
 
-/* The code of the last entry for the line in the settled log, or no edit yet. Refused: 1, 3. */
+/* The code of the last settled entry for the line, dropped ones included, or no edit yet. Refused: 1, 3. */
 joukerpan_framed joukerpan_settled_frame(joukerpan_record record, const uint32_t *log, size_t log_len,
                                          uint32_t line);
 
@@ -236,14 +264,15 @@ joukerpan_framed joukerpan_tentative_frame(joukerpan_record record, const uint32
                                            uint32_t line);
 
 /*
- * The frame as it stood after the first p settled entries, for the lines named, at most 64: the answer's
- * place i is for lines[i], and a line named twice is answered twice. With p the settled length it is what
- * joukerpan_settled_frame answers. The log is read back from p until each line has its edit: `words` is the
- * length of the shortest run ending at p that has an edit for each, or p. No lines read nothing. Refused:
- * 1, 3 (any line above 63, also among more than 64), 13.
+ * The frame as it stood after the first p settled entries, dropped ones included, for the lines named, at most
+ * 64: the answer's place i is for lines[i], and a line named twice is answered twice. With p the settled length
+ * it is what joukerpan_settled_frame answers. The log is read back from p until each line has its edit: `words`
+ * is the length of the shortest undropped run ending at p that has an edit for each, or p less the dropped
+ * count; a line without an edit there has the kept code. No lines read nothing. Refused: 1, 3 (any line above
+ * 63, also among more than 64), 13 (p below the dropped count, too).
  */
 joukerpan_earlier joukerpan_frame_at(joukerpan_record record, const uint32_t *log, size_t log_len,
-                                     size_t p, const uint32_t *lines, size_t lines_len);
+                                     uint64_t p, const uint32_t *lines, size_t lines_len);
 
 /*
  * Settles entries, one a step, until none wins, and answers how many. Each winner is written to the log
@@ -254,6 +283,15 @@ joukerpan_earlier joukerpan_frame_at(joukerpan_record record, const uint32_t *lo
 joukerpan_elected joukerpan_elect(joukerpan_record record, uint32_t *log, size_t log_len);
 
 /*
+ * Drops the first settled entries, all that every office is known to have, and answers how many went: those up
+ * to the least of the own length and the lengths noted of the other offices, an office never heard of counting
+ * as 0. What they have done stays in the record, so frames, weights, ties, vectors and sheets answer as before;
+ * the rest of the settled words moves to the front of the log, and words past it keep their contents. A log
+ * that is full has room again (5). Refused: 1.
+ */
+joukerpan_folded joukerpan_fold(joukerpan_record record, uint32_t *log, size_t log_len);
+
+/*
  * Writes the office's message and answers its length, at most JOUKERPAN_MESSAGE. Later bytes of the
  * output keep their contents. Refused: 1, 6.
  */
@@ -261,14 +299,15 @@ joukerpan_sent joukerpan_send(joukerpan_record record, const uint32_t *log, size
                               uint8_t *output, size_t output_len);
 
 /*
- * Works in another office's message, any bytes: first the settled entries that this office misses, with
- * the weights that they move and the codes that they set, then every ballot whose path extends the known
- * one. Refused: 1, 7, 8, 9, 10.
+ * Works in another office's message, any bytes: first drops what its sender had dropped, then writes the
+ * settled entries that this office misses, with the weights that they move and the codes that they set, then
+ * adopts every ballot whose path extends the known one, and notes the sender's settled length. Refused: 1, 7,
+ * 8, 9, 16, 17, 10, all before anything is dropped.
  *
- * The settled logs are compared from the last place that both have back to the first, and `places` says
- * how many that needed: done, all that both have; refused with 10, up to and including the first
- * difference met. So with `shared` the shorter length, 10 means that place shared - places (the first is
- * 0) differs and those behind it do not; those before it were not looked at.
+ * The settled logs are compared from the last place that both still have back to the first, and `places` says
+ * how many that needed: done, all that both still have; refused with 10, up to and including the first
+ * difference met. So with `end` the shorter settled length, 10 means that place end - places (the first is
+ * 0, dropped or not) differs and those behind it do not; those before it were not looked at.
  */
 joukerpan_taken joukerpan_take(joukerpan_record record, uint32_t *log, size_t log_len,
                                const uint8_t *message, size_t message_len);
@@ -294,9 +333,9 @@ joukerpan_foreseen joukerpan_forecast(joukerpan_record record, const uint32_t *l
 
 /*
  * Writes the version vectors of the settled log and then of each office's path, offices rising, and answers
- * their length: 4 * n * (n + 1), at most JOUKERPAN_VECTORS. A vector has a count of entries for each of the n
- * offices, JOUKERPAN_COUNT bytes each. The path of an office without a ballot is the settled log. Later bytes
- * of the output keep their contents. Refused: 1, 6.
+ * their length: 8 * n * (n + 1), at most JOUKERPAN_VECTORS. A vector has a count of entries for each of the n
+ * offices, dropped entries included, JOUKERPAN_COUNT bytes each. The path of an office without a ballot is the
+ * settled log. Later bytes of the output keep their contents. Refused: 1, 6.
  */
 joukerpan_written joukerpan_write_vectors(joukerpan_record record, const uint32_t *log, size_t log_len,
                                           uint8_t *output, size_t output_len);
@@ -319,51 +358,40 @@ joukerpan_compared joukerpan_compare_vector(joukerpan_record record, const uint3
 
 /* The layout that the engine was compiled for. */
 JOUKERPAN_ASSERT(sizeof(size_t) == 8, "joukerpan: a 64-bit target");
-JOUKERPAN_ASSERT(sizeof(joukerpan_ballot) == 136, "joukerpan_ballot: size");
-JOUKERPAN_ASSERT(offsetof(joukerpan_ballot, cells) == 8, "joukerpan_ballot: cells");
-JOUKERPAN_ASSERT(sizeof(joukerpan_summary) == 272, "joukerpan_summary: size");
-JOUKERPAN_ASSERT(offsetof(joukerpan_summary, codes) == 16, "joukerpan_summary: codes");
-JOUKERPAN_ASSERT(sizeof(joukerpan_record) == 1400, "joukerpan_record: size");
-JOUKERPAN_ASSERT(offsetof(joukerpan_record, own) == 8, "joukerpan_record: own");
-JOUKERPAN_ASSERT(offsetof(joukerpan_record, weights) == 16, "joukerpan_record: weights");
-JOUKERPAN_ASSERT(offsetof(joukerpan_record, summary) == 32, "joukerpan_record: summary");
-JOUKERPAN_ASSERT(offsetof(joukerpan_record, settled) == 304, "joukerpan_record: settled");
-JOUKERPAN_ASSERT(offsetof(joukerpan_record, ballots) == 312, "joukerpan_record: ballots");
-JOUKERPAN_ASSERT(sizeof(joukerpan_weights) == 16, "joukerpan_weights: size");
-JOUKERPAN_ASSERT(sizeof(joukerpan_founded) == 1408, "joukerpan_founded: size");
-JOUKERPAN_ASSERT(offsetof(joukerpan_founded, number) == 1400, "joukerpan_founded: number");
-JOUKERPAN_ASSERT(sizeof(joukerpan_issued) == 1408, "joukerpan_issued: size");
-JOUKERPAN_ASSERT(offsetof(joukerpan_issued, number) == 1400, "joukerpan_issued: number");
-JOUKERPAN_ASSERT(sizeof(joukerpan_part) == 16, "joukerpan_part: size");
-JOUKERPAN_ASSERT(offsetof(joukerpan_part, length) == 8, "joukerpan_part: length");
-JOUKERPAN_ASSERT(sizeof(joukerpan_framed) == 12, "joukerpan_framed: size");
-JOUKERPAN_ASSERT(offsetof(joukerpan_framed, coded) == 4, "joukerpan_framed: coded");
-JOUKERPAN_ASSERT(offsetof(joukerpan_framed, code) == 8, "joukerpan_framed: code");
-JOUKERPAN_ASSERT(sizeof(joukerpan_lines) == 260, "joukerpan_lines: size");
-JOUKERPAN_ASSERT(offsetof(joukerpan_lines, codes) == 4, "joukerpan_lines: codes");
-JOUKERPAN_ASSERT(sizeof(joukerpan_earlier) == 272, "joukerpan_earlier: size");
-JOUKERPAN_ASSERT(offsetof(joukerpan_earlier, words) == 8, "joukerpan_earlier: words");
-JOUKERPAN_ASSERT(offsetof(joukerpan_earlier, edits) == 16, "joukerpan_earlier: edits");
-JOUKERPAN_ASSERT(sizeof(joukerpan_elected) == 1416, "joukerpan_elected: size");
-JOUKERPAN_ASSERT(offsetof(joukerpan_elected, number) == 1400, "joukerpan_elected: number");
-JOUKERPAN_ASSERT(offsetof(joukerpan_elected, count) == 1408, "joukerpan_elected: count");
-JOUKERPAN_ASSERT(sizeof(joukerpan_sent) == 16, "joukerpan_sent: size");
-JOUKERPAN_ASSERT(offsetof(joukerpan_sent, length) == 8, "joukerpan_sent: length");
-JOUKERPAN_ASSERT(sizeof(joukerpan_taken) == 1416, "joukerpan_taken: size");
-JOUKERPAN_ASSERT(offsetof(joukerpan_taken, number) == 1400, "joukerpan_taken: number");
-JOUKERPAN_ASSERT(offsetof(joukerpan_taken, places) == 1408, "joukerpan_taken: places");
-JOUKERPAN_ASSERT(sizeof(joukerpan_row) == 16, "joukerpan_row: size");
-JOUKERPAN_ASSERT(offsetof(joukerpan_row, total) == 8, "joukerpan_row: total");
-JOUKERPAN_ASSERT(sizeof(joukerpan_tabulated) == 1040, "joukerpan_tabulated: size");
-JOUKERPAN_ASSERT(offsetof(joukerpan_tabulated, count) == 8, "joukerpan_tabulated: count");
-JOUKERPAN_ASSERT(offsetof(joukerpan_tabulated, rows) == 16, "joukerpan_tabulated: rows");
-JOUKERPAN_ASSERT(sizeof(joukerpan_foreseen) == 12, "joukerpan_foreseen: size");
-JOUKERPAN_ASSERT(offsetof(joukerpan_foreseen, named) == 4, "joukerpan_foreseen: named");
-JOUKERPAN_ASSERT(offsetof(joukerpan_foreseen, entry) == 8, "joukerpan_foreseen: entry");
-JOUKERPAN_ASSERT(sizeof(joukerpan_written) == 16, "joukerpan_written: size");
-JOUKERPAN_ASSERT(offsetof(joukerpan_written, length) == 8, "joukerpan_written: length");
-JOUKERPAN_ASSERT(sizeof(joukerpan_compared) == 40, "joukerpan_compared: size");
-JOUKERPAN_ASSERT(offsetof(joukerpan_compared, answers) == 4, "joukerpan_compared: answers");
+JOUKERPAN_ASSERT(sizeof(joukerpan_ballot) == 136 && offsetof(joukerpan_ballot, cells) == 8, "joukerpan_ballot");
+JOUKERPAN_ASSERT(sizeof(joukerpan_summary) == 272 && offsetof(joukerpan_summary, codes) == 16, "joukerpan_summary");
+JOUKERPAN_ASSERT(sizeof(joukerpan_kept) == 344 && offsetof(joukerpan_kept, summary) == 8 &&
+                 offsetof(joukerpan_kept, counts) == 280, "joukerpan_kept");
+JOUKERPAN_ASSERT(sizeof(joukerpan_record) == 1808 && offsetof(joukerpan_record, own) == 8 &&
+                 offsetof(joukerpan_record, weights) == 16 && offsetof(joukerpan_record, kept) == 32 &&
+                 offsetof(joukerpan_record, noted) == 376 && offsetof(joukerpan_record, summary) == 440 &&
+                 offsetof(joukerpan_record, settled) == 712 &&
+                 offsetof(joukerpan_record, ballots) == 720, "joukerpan_record");
+JOUKERPAN_ASSERT(sizeof(joukerpan_weights) == 16, "joukerpan_weights");
+JOUKERPAN_ASSERT(sizeof(joukerpan_founded) == 1816 &&
+                 offsetof(joukerpan_founded, number) == 1808, "joukerpan_founded");
+JOUKERPAN_ASSERT(sizeof(joukerpan_issued) == 1816 &&
+                 offsetof(joukerpan_issued, number) == 1808, "joukerpan_issued");
+JOUKERPAN_ASSERT(sizeof(joukerpan_part) == 16 && offsetof(joukerpan_part, length) == 8, "joukerpan_part");
+JOUKERPAN_ASSERT(sizeof(joukerpan_framed) == 12 && offsetof(joukerpan_framed, coded) == 4 &&
+                 offsetof(joukerpan_framed, code) == 8, "joukerpan_framed");
+JOUKERPAN_ASSERT(sizeof(joukerpan_lines) == 260 && offsetof(joukerpan_lines, codes) == 4, "joukerpan_lines");
+JOUKERPAN_ASSERT(sizeof(joukerpan_earlier) == 272 && offsetof(joukerpan_earlier, words) == 8 &&
+                 offsetof(joukerpan_earlier, edits) == 16, "joukerpan_earlier");
+JOUKERPAN_ASSERT(sizeof(joukerpan_elected) == 1824 && offsetof(joukerpan_elected, number) == 1808 &&
+                 offsetof(joukerpan_elected, count) == 1816, "joukerpan_elected");
+JOUKERPAN_ASSERT(sizeof(joukerpan_folded) == 1824 && offsetof(joukerpan_folded, number) == 1808 &&
+                 offsetof(joukerpan_folded, count) == 1816, "joukerpan_folded");
+JOUKERPAN_ASSERT(sizeof(joukerpan_sent) == 16 && offsetof(joukerpan_sent, length) == 8, "joukerpan_sent");
+JOUKERPAN_ASSERT(sizeof(joukerpan_taken) == 1824 && offsetof(joukerpan_taken, number) == 1808 &&
+                 offsetof(joukerpan_taken, places) == 1816, "joukerpan_taken");
+JOUKERPAN_ASSERT(sizeof(joukerpan_row) == 16 && offsetof(joukerpan_row, total) == 8, "joukerpan_row");
+JOUKERPAN_ASSERT(sizeof(joukerpan_tabulated) == 1040 && offsetof(joukerpan_tabulated, count) == 8 &&
+                 offsetof(joukerpan_tabulated, rows) == 16, "joukerpan_tabulated");
+JOUKERPAN_ASSERT(sizeof(joukerpan_foreseen) == 12 && offsetof(joukerpan_foreseen, named) == 4 &&
+                 offsetof(joukerpan_foreseen, entry) == 8, "joukerpan_foreseen");
+JOUKERPAN_ASSERT(sizeof(joukerpan_written) == 16 && offsetof(joukerpan_written, length) == 8, "joukerpan_written");
+JOUKERPAN_ASSERT(sizeof(joukerpan_compared) == 40 && offsetof(joukerpan_compared, answers) == 4, "joukerpan_compared");
 
 #undef JOUKERPAN_ASSERT
 

@@ -1,97 +1,11 @@
 /*
- * The engine through its C calls: the paper's rehearsal, some lettered cases, moves of weight, the frame whole, a
- * household sheet, forecasts, each refusal once, the parts of a tail, logs compared from their ends.
+ * The engine through its C calls: the paper's rehearsal, some lettered cases, moves of weight, the frame whole, each
+ * refusal once, the parts of a tail, logs compared from their ends; further calls in further.c.
  */
-#include <stdio.h>
-#include <stdlib.h>
-#include <string.h>
+#include "offices.h"
 
-#include "joukerpan.h"
-
-/* Words of every log here; the words past 1,024 must keep their contents. */
-enum { WORDS = JOUKERPAN_LOG + 3, FILL = 0x5A5A5A5A };
-
-typedef struct {
-    joukerpan_record record;
-    uint32_t log[WORDS];
-} office;
-
-static const joukerpan_weights WEIGHTS = {{40, 35, 25}};
-static int checks;
-
-static void expect(const char *what, unsigned long long got, unsigned long long wanted) {
-    checks++;
-    if (got != wanted) {
-        fprintf(stderr, "embed: %s is %llu, expected %llu\n", what, got, wanted);
-        exit(1);
-    }
-}
-
-static uint32_t entry(uint32_t office, uint32_t line, uint32_t code) {
-    return office * 16777216u + line * 65536u + code;
-}
-
-static bool same(const joukerpan_record *a, const joukerpan_record *b) {
-    return memcmp(a, b, sizeof *a) == 0; /* a record has no padding */
-}
-
-static void founded(office *of, size_t own, joukerpan_weights weights, size_t n) {
-    for (size_t i = 0; i < WORDS; i++) {
-        of->log[i] = FILL;
-    }
-    joukerpan_founded answer = joukerpan_found(n, own, weights, of->log, WORDS);
-    expect("found", answer.number, JOUKERPAN_DONE);
-    of->record = answer.record;
-}
-
-static void put(office *of, size_t place, uint32_t e) {
-    joukerpan_ballot *ballot = &of->record.ballots[place];
-    ballot->cells[ballot->len++] = e;
-}
-
-/* Settles an edit, its code with it. */
-static void settle(office *of, uint32_t e) {
-    of->log[of->record.settled++] = e;
-    of->record.summary.codes[e / 65536 % 256] = e % 65536 + 1;
-}
-
-static uint32_t issue(office *of, uint32_t line, uint32_t code) {
-    joukerpan_issued answer = joukerpan_issue(of->record, of->log, WORDS, line, code);
-    expect("a refused issue leaves the record",
-           answer.number == JOUKERPAN_DONE || same(&answer.record, &of->record), true);
-    of->record = answer.record;
-    return answer.number;
-}
-
-/* Places of the logs that the last take compared. */
-static size_t places;
-
-static uint32_t take(office *of, const uint8_t *message, size_t length) {
-    joukerpan_taken answer = joukerpan_take(of->record, of->log, WORDS, message, length);
-    expect("a refused take leaves the record",
-           answer.number == JOUKERPAN_DONE || same(&answer.record, &of->record), true);
-    expect("a place compared, or none",
-           answer.number == JOUKERPAN_OTHER_LOG ? answer.places > 0 : answer.number == JOUKERPAN_DONE || answer.places == 0, true);
-    of->record = answer.record;
-    places = answer.places;
-    return answer.number;
-}
-
-static size_t elect(office *of) {
-    size_t before = of->record.settled;
-    joukerpan_elected answer = joukerpan_elect(of->record, of->log, WORDS);
-    expect("elect", answer.number, JOUKERPAN_DONE);
-    expect("the settled length rises by the count", answer.record.settled, before + answer.count);
-    of->record = answer.record;
-    expect("the word behind the settled log", of->log[of->record.settled], FILL);
-    return answer.count;
-}
-
-static size_t send(const office *of, uint8_t *output, size_t length) {
-    joukerpan_sent answer = joukerpan_send(of->record, of->log, WORDS, output, length);
-    expect("send", answer.number, JOUKERPAN_DONE);
-    return answer.length;
-}
+int checks;
+size_t places;
 
 static void rehearsal(void) {
     static office of[3];
@@ -103,10 +17,10 @@ static void rehearsal(void) {
     expect("issue at 0", issue(&of[0], 5, 120), JOUKERPAN_DONE);
     expect("issue at 1", issue(&of[1], 5, 130), JOUKERPAN_DONE);
     size_t length = send(&of[0], message, sizeof message);
-    expect("the message's length", length, 22);
-    static const uint8_t wanted[22] = {0x53, 0x48, 0, 3, 0, 40, 0, 35, 0, 25, 0, 0, 0x42, 0x41, 0, 1, 0, 5, 0, 120, 0x45, 0x4E};
+    expect("the message's length", length, 36);
+    static const uint8_t wanted[36] = {0x53, 0x48, 0, 3, 0, 40, 0, 35, 0, 25, [26] = 0x42, 0x41, 0, 1, 0, 5, 0, 120, 0x45, 0x4E};
     expect("the message's bytes", memcmp(message, wanted, sizeof wanted), 0);
-    expect("the byte behind the message", message[22], 0xEE);
+    expect("the byte behind the message", message[36], 0xEE);
     expect("take at 2", take(&of[2], message, length), JOUKERPAN_DONE);
     expect("elect at 2", elect(&of[2]), 1);
     expect("the settled word", of[2].log[0], entry(0, 5, 120));
@@ -289,164 +203,6 @@ static void whole_frame(void) {
     expect("each of them 0", memcmp(lines.codes, none, sizeof none), 0);
 }
 
-/* A household's record at the front of the bytes; where the next one goes. */
-static uint8_t *household(uint8_t *bytes, uint8_t line, uint32_t weight) {
-    const uint8_t record[JOUKERPAN_HOUSEHOLD] = {0x48, 0x52, line, (uint8_t)(weight >> 24), (uint8_t)(weight >> 16),
-                                                 (uint8_t)(weight >> 8), (uint8_t)weight};
-    memcpy(bytes, record, sizeof record);
-    return bytes + sizeof record;
-}
-
-static void refused_sheet(const char *what, joukerpan_tabulated sheet, uint32_t number) {
-    static const joukerpan_row none[JOUKERPAN_LINES];
-    expect(what, sheet.number, number);
-    expect("its rows", sheet.count, 0);
-    for (int i = 0; i < JOUKERPAN_LINES; i++) {
-        expect("each of them zero", sheet.rows[i].code == none[i].code && sheet.rows[i].total == none[i].total, true);
-    }
-}
-
-static void household_sheet(void) {
-    static office x;
-    uint8_t bytes[6 * JOUKERPAN_HOUSEHOLD], *end = bytes;
-    founded(&x, 0, WEIGHTS, 3);
-    settle(&x, entry(1, 5, 140)), settle(&x, entry(2, 6, 0)), settle(&x, entry(0, 63, 140));
-    put(&x, 0, entry(0, 8, 9)); /* pending, so line 8 has no code yet */
-    end = household(end, 5, 0xFFFFFFFF), end = household(end, 8, 257), end = household(end, 6, 0);
-    end = household(end, 9, 2), end = household(end, 63, 0xFFFFFFFF), end = household(end, 5, 2);
-    joukerpan_tabulated sheet = joukerpan_sheet(x.record, x.log, WORDS, bytes, sizeof bytes);
-    expect("sheet", sheet.number, JOUKERPAN_DONE);
-    expect("its rows", sheet.count, 3);
-    const joukerpan_row wanted[3] = {{0, 259}, {0 + 1, 0}, {140 + 1, 0x200000000}}; /* uncoded, 0 and 140 */
-    for (int i = 0; i < 3; i++) {
-        expect("a row's code", sheet.rows[i].code, wanted[i].code);
-        expect("a row's total", sheet.rows[i].total, wanted[i].total);
-    }
-    expect("the row behind them", sheet.rows[3].code == 0 && sheet.rows[3].total == 0, true);
-    refused_sheet("no households", joukerpan_sheet(x.record, x.log, WORDS, bytes, 0), JOUKERPAN_DONE);
-    for (size_t short_by = 1; short_by < JOUKERPAN_HOUSEHOLD; short_by++) {
-        refused_sheet("a record cut short", joukerpan_sheet(x.record, x.log, WORDS, bytes, sizeof bytes - short_by), JOUKERPAN_NO_HOUSEHOLDS);
-    }
-    bytes[sizeof bytes - JOUKERPAN_HOUSEHOLD + 2] = 64;
-    refused_sheet("line 64", joukerpan_sheet(x.record, x.log, WORDS, bytes, sizeof bytes), JOUKERPAN_NO_HOUSEHOLDS);
-    refused_sheet("1 before 12", joukerpan_sheet(x.record, x.log, JOUKERPAN_LOG - 1, bytes, sizeof bytes), JOUKERPAN_UNSOUND);
-}
-
-static void forecast(const office *of, const char *what, joukerpan_weights lowest, joukerpan_weights highest, uint32_t number, uint32_t named) {
-    joukerpan_foreseen answer = joukerpan_forecast(of->record, of->log, WORDS, lowest, highest);
-    expect(what, answer.number, number);
-    expect("whether an entry is named", answer.named, named != 0);
-    expect("the entry", answer.entry, named);
-}
-
-static void forecasts(void) {
-    static office x;
-    const uint32_t a = entry(0, 5, 120), b = entry(1, 5, 130);
-    const joukerpan_weights most = {{65535, 65535, 65535}}, none = {{0}};
-    founded(&x, 0, WEIGHTS, 3);
-    put(&x, 0, a), put(&x, 1, b);
-    forecast(&x, "bounds that meet", (joukerpan_weights){{50, 40, 9}}, (joukerpan_weights){{50, 40, 9}}, JOUKERPAN_DONE, a);
-    forecast(&x, "a tie at the bound", (joukerpan_weights){{50, 0, 0}}, (joukerpan_weights){{60, 40, 10}}, JOUKERPAN_DONE, a);
-    forecast(&x, "beyond it", (joukerpan_weights){{49, 0, 0}}, (joukerpan_weights){{60, 40, 10}}, JOUKERPAN_DONE, 0);
-    forecast(&x, "zero bounds", none, none, JOUKERPAN_DONE, 0);
-    forecast(&x, "any weights", none, most, JOUKERPAN_DONE, 0);
-    forecast(&x, "a bound from place n on", (joukerpan_weights){{50, 40, 9, 1}}, (joukerpan_weights){{50, 40, 9}}, JOUKERPAN_DONE, a);
-    forecast(&x, "a lowest above its highest", (joukerpan_weights){{50, 40, 9}}, (joukerpan_weights){{50, 40, 8}}, JOUKERPAN_NO_WEIGHTS, 0);
-    settle(&x, entry(0, 6, 7));
-    forecast(&x, "the tie behind an entry of office 0", (joukerpan_weights){{50, 0, 0}}, (joukerpan_weights){{60, 40, 10}}, JOUKERPAN_DONE, 0);
-    x.record.n = 9;
-    forecast(&x, "1 before 15", most, none, JOUKERPAN_UNSOUND, 0);
-}
-
-/* The frame as of an earlier place, over entries for lines 63, 0 and 63 and a move. */
-static void earlier_frame(void) {
-    static office of;
-    static const joukerpan_earlier zero;
-    static uint32_t many[JOUKERPAN_LINES + 1];
-    const joukerpan_weights weights = {{60, 40}};
-    const uint32_t lines[] = {63, 0, 63, 5};
-    founded(&of, 0, weights, 2);
-    expect("an edit", issue(&of, 63, 9999), JOUKERPAN_DONE);
-    expect("an edit to code 0", issue(&of, 0, 0), JOUKERPAN_DONE);
-    expect("line 63 once more", issue(&of, 63, 7), JOUKERPAN_DONE);
-    expect("a move to office 1", issue(&of, JOUKERPAN_LINES + 1, 10), JOUKERPAN_DONE);
-    expect("elect", elect(&of), 4);
-
-    joukerpan_earlier at = joukerpan_frame_at(of.record, of.log, WORDS, 2, lines, 3);
-    expect("as of place 2", at.number, JOUKERPAN_DONE);
-    expect("words read", at.words, 2);
-    expect("line 63 before it was edited again", at.edits[0], 10000);
-    expect("code 0", at.edits[1], 1);
-    expect("a line named twice", at.edits[2], 10000);
-    expect("past the lines", at.edits[3], 0);
-    at = joukerpan_frame_at(of.record, of.log, WORDS, 4, lines, 1);
-    expect("behind a move", at.words, 2);
-    expect("the settled code", at.edits[0], 8);
-    at = joukerpan_frame_at(of.record, of.log, WORDS, 4, lines, 4);
-    expect("a line with no edit", at.edits[3], 0);
-    expect("all is read", at.words, 4);
-    at = joukerpan_frame_at(of.record, of.log, WORDS, 4, lines, 0);
-    expect("no lines", at.number, JOUKERPAN_DONE);
-    expect("nothing read", at.words, 0);
-    expect("no edit yet", memcmp(at.edits, zero.edits, sizeof zero.edits), 0);
-
-    at = joukerpan_frame_at(of.record, of.log, WORDS, 5, lines, 4);
-    expect("past the settled length", at.number, JOUKERPAN_NO_PLACE);
-    expect("no words", at.words, 0);
-    expect("no edit yet", memcmp(at.edits, zero.edits, sizeof zero.edits), 0);
-    expect("64 lines", joukerpan_frame_at(of.record, of.log, WORDS, 4, many, 64).number, JOUKERPAN_DONE);
-    expect("65 lines", joukerpan_frame_at(of.record, of.log, WORDS, 4, many, 65).number, JOUKERPAN_NO_PLACE);
-    many[64] = 64;
-    expect("3 before 13", joukerpan_frame_at(of.record, of.log, WORDS, 5, many, 65).number, JOUKERPAN_NO_ENTRY);
-    expect("1 first", joukerpan_frame_at(of.record, of.log, JOUKERPAN_LOG - 1, 5, many, 65).number, JOUKERPAN_UNSOUND);
-}
-
-/* The standings of the log and of the paths of three offices, each a digit: 0 before, 1 equal, 2 after, 3 beside. */
-static void stands(const char *what, const office *of, const uint8_t *vector, size_t length, uint32_t number, const char *wanted) {
-    joukerpan_compared answer = joukerpan_compare_vector(of->record, of->log, WORDS, vector, length);
-    expect(what, answer.number, number);
-    for (int i = 0; i <= JOUKERPAN_OFFICES; i++) {
-        expect(what, answer.answers[i], i < 4 ? (uint32_t)(wanted[i] - '0') : JOUKERPAN_BESIDE);
-    }
-}
-
-/* Version vectors over a log with entries of offices 1, 2 and 1, and ballots of offices 0 and 2. */
-static void vectors(void) {
-    enum { SIZE = 3 * JOUKERPAN_COUNT, ALL = 4 * SIZE };
-    static office x;
-    static const uint8_t wanted[ALL] = {0, 0, 0, 0, 0, 0, 0, 2, 0, 0, 0, 1, 0, 0, 0, 1, 0, 0, 0, 2, 0, 0, 0, 1,
-                                        0, 0, 0, 0, 0, 0, 0, 2, 0, 0, 0, 1, 0, 0, 0, 0, 0, 0, 0, 2, 0, 0, 0, 2};
-    uint8_t output[ALL + 1], kept[ALL + 1], vector[SIZE + 1] = {0};
-    memset(kept, 0xA5, sizeof kept), memcpy(output, kept, sizeof output);
-    founded(&x, 0, WEIGHTS, 3);
-    settle(&x, entry(1, 5, 140)), settle(&x, entry(2, 6, 0)), settle(&x, entry(1, 63, 140));
-    put(&x, 0, entry(0, 8, 9)), put(&x, 2, entry(2, 8, 9));
-
-    joukerpan_written written = joukerpan_write_vectors(x.record, x.log, WORDS, output, ALL - 1);
-    expect("an output a byte short", written.number, JOUKERPAN_OUTPUT_SHORT);
-    expect("nothing written", written.length == 0 && memcmp(output, kept, sizeof kept) == 0, true);
-    written = joukerpan_write_vectors(x.record, x.log, JOUKERPAN_LOG - 1, output, ALL - 1);
-    expect("1 before 6", written.number, JOUKERPAN_UNSOUND);
-    written = joukerpan_write_vectors(x.record, x.log, WORDS, output, sizeof output);
-    expect("vectors", written.number, JOUKERPAN_DONE);
-    expect("their length", written.length, ALL);
-    expect("their bytes, and one behind them", memcmp(output, wanted, ALL) == 0 && output[ALL] == 0xA5, true);
-
-    stands("the log's own", &x, output, SIZE, JOUKERPAN_DONE, "1212");
-    stands("the path of office 0", &x, output + SIZE, SIZE, JOUKERPAN_DONE, "0103");
-    stands("the path of office 2", &x, output + 3 * SIZE, SIZE, JOUKERPAN_DONE, "0301");
-    stands("no entries", &x, vector, SIZE, JOUKERPAN_DONE, "2222");
-    stands("a byte less", &x, vector, SIZE - 1, JOUKERPAN_NO_VECTOR, "3333");
-    stands("a byte more", &x, vector, SIZE + 1, JOUKERPAN_NO_VECTOR, "3333");
-    stands("no bytes", &x, vector, 0, JOUKERPAN_NO_VECTOR, "3333");
-    vector[2] = 4;
-    stands("1,024 entries of office 0", &x, vector, SIZE, JOUKERPAN_DONE, "3333");
-    vector[3] = 1;
-    stands("1,025", &x, vector, SIZE, JOUKERPAN_NO_VECTOR, "3333");
-    x.record.n = 9;
-    stands("1 before 14", &x, vector, SIZE, JOUKERPAN_UNSOUND, "3333");
-}
-
 static void founding_refusals(void) {
     static uint32_t log[JOUKERPAN_LOG];
     static const joukerpan_record zero;
@@ -550,12 +306,12 @@ static void message_refusals(void) {
     const joukerpan_weights others = {{40, 35, 26}};
     founded(&x, 0, WEIGHTS, 3), founded(&y, 1, WEIGHTS, 3);
     memset(message, 0xEE, sizeof message);
-    joukerpan_sent sent = joukerpan_send(x.record, x.log, WORDS, message, 13);
-    expect("an output of 13 bytes", sent.number, JOUKERPAN_OUTPUT_SHORT);
+    joukerpan_sent sent = joukerpan_send(x.record, x.log, WORDS, message, 27);
+    expect("an output of 27 bytes", sent.number, JOUKERPAN_OUTPUT_SHORT);
     expect("its length", sent.length, 0);
     expect("its bytes", message[0], 0xEE);
-    size_t length = send(&x, message, 14);
-    expect("an output of 14 bytes", length, 14);
+    size_t length = send(&x, message, 28);
+    expect("an output of 28 bytes", length, 28);
     expect("one byte short", take(&y, message, length - 1), JOUKERPAN_NO_MESSAGE);
     expect("one byte more", take(&y, message, length + 1), JOUKERPAN_NO_MESSAGE);
     expect("no bytes", take(&y, message, 0), JOUKERPAN_NO_MESSAGE);
@@ -599,16 +355,13 @@ int main(void) {
     compared_logs();
     moves();
     whole_frame();
-    household_sheet();
-    forecasts();
-    earlier_frame();
-    vectors();
     founding_refusals();
     issue_refusals();
     parts();
     unsound_records();
     message_refusals();
     longest_message();
+    further_calls();
     printf("embed: %d answers as expected\n", checks);
     return 0;
 }

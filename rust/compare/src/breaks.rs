@@ -4,6 +4,7 @@ use second::random::Random;
 use second::record::{code_of, entry, is_move, line_of, Ballot, Record, CODES, LINES, LOG, OFFICES, TAIL};
 use second::samples::{crowded, Sample};
 
+use crate::folded::{break_folded, FOLDED};
 use crate::samples::{huge, wrong_word};
 
 /// A place from `from` to before `to`: the first, the last, or any.
@@ -15,8 +16,8 @@ fn place(random: &mut Random, from: usize, to: usize) -> usize {
     }
 }
 
-/// The clauses of soundness that can be broken apart.
-pub const CLAUSES: [&str; 31] = [
+/// The clauses of soundness that can be broken apart, but for those of dropped entries.
+const PLAIN: [&str; 31] = [
     "log below 1024 words",
     "n is 0",
     "n above 8",
@@ -50,8 +51,29 @@ pub const CLAUSES: [&str; 31] = [
     "more of one office in a tail than its part",
 ];
 
+/// How many clauses can be broken apart.
+pub const CLAUSES: usize = PLAIN.len() + FOLDED.len();
+
+/// A clause in words.
+pub fn clause_name(clause: usize) -> &'static str {
+    PLAIN.iter().chain(&FOLDED).nth(clause).expect("a clause")
+}
+
+/// Makes this many of the settled entries undropped ones; no noted length passes the new one.
+fn hold(record: &mut Record, held: usize) {
+    record.settled = record.kept.dropped.saturating_add(held as u64);
+    record.noted = record.noted.map(|noted| noted.min(record.settled));
+}
+
 /// Breaks one clause of soundness of a record that is sound, or was before other clauses were broken.
 pub fn break_clause(random: &mut Random, clause: usize, sample: &mut Sample) {
+    match clause.checked_sub(PLAIN.len()) {
+        Some(clause) => break_folded(random, clause, sample),
+        None => break_plain(random, clause, sample),
+    }
+}
+
+fn break_plain(random: &mut Random, clause: usize, sample: &mut Sample) {
     let Sample { record, log } = sample;
     let n = record.n.clamp(1, OFFICES);
     let office = random.below(n);
@@ -64,7 +86,7 @@ pub fn break_clause(random: &mut Random, clause: usize, sample: &mut Sample) {
         4 | 19 | 20 if n == OFFICES => record.n = past_office(record, n),
         4 => record.weights[past] = random.pick(&[1, u16::MAX]),
         5 => record.weights = [0; OFFICES],
-        6 => record.settled = (log.len() + 1).max(LOG + 1).max(if random.percent(50) { huge(random) } else { 0 }),
+        6 => hold(record, (log.len() + 1).max(LOG + 1).max(if random.percent(50) { huge(random) } else { 0 })),
         7..=11 => {
             let wrong = wrong_word(random, n, clause - 7);
             break_word(random, record, log, wrong);
@@ -74,7 +96,7 @@ pub fn break_clause(random: &mut Random, clause: usize, sample: &mut Sample) {
             let ballot = &mut record.ballots[office];
             ballot.len = ballot.len.clamp(1, TAIL);
             ballot.cells[place(random, 0, ballot.len)] = wrong_word(random, n, clause - 13);
-            record.settled = record.settled.min(LOG - TAIL);
+            hold(record, record.held().min(LOG - TAIL));
         }
         18 => {
             let ballot = &mut record.ballots[office];
@@ -100,7 +122,7 @@ fn crowd(random: &mut Random, record: &mut Record, office: usize) {
         return;
     }
     record.ballots[office] = Ballot::of(&crowded(random, n));
-    record.settled = record.settled.min(LOG - TAIL);
+    hold(record, record.held().min(LOG - TAIL));
 }
 
 /// Breaks the present weights; where the clause cannot be broken so, one of them by itself.
@@ -115,7 +137,7 @@ fn break_present(random: &mut Random, clause: usize, sample: &mut Sample) {
             present[other] += 1;
         }
         24 if n < OFFICES => present[random.within(n, OFFICES - 1)] = random.pick(&[1, u16::MAX]),
-        25 if random.percent(30) => *present = sample.record.weights,
+        25 if random.percent(30) => *present = sample.record.kept.present,
         25 => {
             let present = *present;
             *sample = with_last(sample, entry(office, LINES + other as u32, 1));
@@ -132,7 +154,7 @@ fn break_present(random: &mut Random, clause: usize, sample: &mut Sample) {
 
 /// Breaks the stored codes; where the clause cannot be broken so, one of them by itself.
 fn break_codes(random: &mut Random, clause: usize, sample: &mut Sample) {
-    let before = sample.clone();
+    let (before, held) = (sample.clone(), sample.record.held());
     let codes = &mut sample.record.codes;
     let any = random.below(codes.len());
     let line = random.pick(&[0, 1, 5, 62, 63, any]);
@@ -144,7 +166,7 @@ fn break_codes(random: &mut Random, clause: usize, sample: &mut Sample) {
             sample.record.codes = codes;
         }
         29 => {
-            let settled = sample.log.iter().take(sample.record.settled);
+            let settled = sample.log.iter().take(held);
             if let Some(&word) = settled.rev().find(|&&word| is_move(word)) {
                 codes[(line_of(word) % LINES) as usize] = code_of(word) + 1;
             }
@@ -158,7 +180,7 @@ fn break_codes(random: &mut Random, clause: usize, sample: &mut Sample) {
     }
 }
 
-/// The sample with present weights and codes that follow from its log.
+/// The sample with present weights and codes that follow from what is kept and from its log.
 fn derived(sample: &Sample) -> Sample {
     let mut derived = sample.clone();
     derived.derive();
@@ -168,10 +190,10 @@ fn derived(sample: &Sample) -> Sample {
 /// The sample with this entry as its last settled one, or as a first one, and with what follows from that.
 fn with_last(sample: &Sample, word: u32) -> Sample {
     let mut other = sample.clone();
-    let last = other.record.settled.saturating_sub(1);
+    let last = other.record.held().saturating_sub(1);
     if let Some(place) = other.log.get_mut(last) {
         *place = word;
-        other.record.settled = last + 1;
+        hold(&mut other.record, last + 1);
         other.derive();
     }
     other
@@ -189,17 +211,17 @@ fn break_word(random: &mut Random, record: &mut Record, log: &mut [u32], wrong: 
     if log.is_empty() {
         return;
     }
-    record.settled = record.settled.clamp(1, LOG.min(log.len()));
-    log[place(random, 0, record.settled)] = wrong;
+    hold(record, record.held().clamp(1, LOG.min(log.len())));
+    log[place(random, 0, record.held())] = wrong;
 }
 
 /// Makes the settled length and the tail of one ballot 1,025, each within its own limit.
 fn too_long_a_path(record: &mut Record, log: &mut [u32], office: usize) {
     let ballot = &mut record.ballots[office];
     ballot.len = ballot.len.clamp(1, TAIL);
-    let settled = LOG + 1 - ballot.len;
-    if let Some(rest) = log.get_mut(record.settled.min(LOG)..settled) {
+    let held = LOG + 1 - ballot.len;
+    if let Some(rest) = log.get_mut(record.held().min(LOG)..held) {
         rest.fill(0);
     }
-    record.settled = settled;
+    hold(record, held);
 }

@@ -4,6 +4,7 @@
 use std::slice::{from_raw_parts, from_raw_parts_mut};
 
 use joukerpan_sys::Weights;
+use second::archive::PATHS;
 use second::calls as plain;
 use second::record::{stored, Codes, Record};
 
@@ -26,6 +27,21 @@ impl Answer {
 pub struct Lines {
     number: u32,
     codes: Codes,
+}
+
+/// A number, the words read and 64 codes, as the engine answers an earlier frame.
+#[repr(C)]
+pub struct Earlier {
+    number: u32,
+    words: usize,
+    codes: Codes,
+}
+
+/// A number and nine standings, as the engine answers a comparison with a vector.
+#[repr(C)]
+pub struct Standings {
+    number: u32,
+    standings: [u32; PATHS],
 }
 
 // SAFETY of every function below: its pointers name as many elements as the number after them says, for as long as
@@ -83,4 +99,60 @@ pub unsafe extern "C" fn take(record: Record, log: *mut u32, words: usize, messa
     let log = from_raw_parts_mut(log, words);
     let (number, count, record) = second::take::take(record, log, from_raw_parts(message, bytes));
     Answer { record, number, count }
+}
+
+#[inline(never)]
+pub unsafe extern "C" fn fold(record: Record, log: *mut u32, words: usize) -> Answer {
+    let (number, count, record) = second::fold::fold(record, from_raw_parts_mut(log, words));
+    Answer { record, number, count: count as usize }
+}
+
+#[inline(never)]
+pub unsafe extern "C" fn frame_at(
+    record: Record,
+    log: *const u32,
+    words: usize,
+    p: u64,
+    lines: *const u32,
+    count: usize,
+) -> Earlier {
+    let lines = from_raw_parts(lines, count);
+    let (number, words, codes) = second::earlier::earlier(&record, from_raw_parts(log, words), p, lines);
+    Earlier { number, words, codes }
+}
+
+#[inline(never)]
+pub unsafe extern "C" fn write_vectors(
+    record: Record,
+    log: *const u32,
+    words: usize,
+    out: *mut u8,
+    bytes: usize,
+) -> usize {
+    second::archive::write_vectors(&record, from_raw_parts(log, words), from_raw_parts_mut(out, bytes)).1
+}
+
+#[inline(never)]
+pub unsafe extern "C" fn compare_vector(
+    record: Record,
+    log: *const u32,
+    words: usize,
+    vector: *const u8,
+    bytes: usize,
+) -> Standings {
+    let vector = from_raw_parts(vector, bytes);
+    let (number, standings) = second::archive::compare_vector(&record, from_raw_parts(log, words), vector);
+    Standings { number, standings: standings.map(|standing| standing as u32) }
+}
+
+#[inline(never)]
+pub unsafe extern "C" fn forecast(
+    record: Record,
+    log: *const u32,
+    words: usize,
+    lowest: Weights,
+    highest: Weights,
+) -> u64 {
+    let (_, named) = second::forecast::forecast(&record, from_raw_parts(log, words), lowest.of, highest.of);
+    named.map_or(0, |entry| u64::from(entry) + 1)
 }

@@ -5,64 +5,22 @@ use std::io::{self, stdout, Write};
 use second::calls as plain;
 use second::message::LONGEST;
 use second::random::Random;
-use second::record::{sound, Record, CODES, DONE, LINES, LOG, OFFICES, UNSOUND};
+use second::record::{sound, Record, CODES, DONE, LINES, LOG, OFFICES};
 use second::samples::Sample;
 
 use crate::alike::{same, same_lent, Lent};
-use crate::breaks::{break_clause, CLAUSES};
+use crate::breaks::{break_clause, clause_name, CLAUSES};
 use crate::earlier;
 use crate::engine;
 use crate::forecasts;
 use crate::forge::{any_bytes, damaged, forged};
 use crate::samples::{any_sample, huge, Family};
 use crate::sheets;
+use crate::tally::Tally;
 use crate::vectors;
 
-/// The calls, in the order of the tally.
-const CALLS: [&str; 15] = [
-    "found",
-    "sound",
-    "issue",
-    "settled",
-    "settled frame",
-    "tentative frame",
-    "elect",
-    "send",
-    "take",
-    "all lines",
-    "sheet",
-    "earlier place",
-    "write vectors",
-    "compare vector",
-    "forecast",
-];
-const NUMBERS: usize = 16;
 /// Calls on one record, one after the other.
 const CALLS_A_ROUND: usize = 8;
-
-/// How often each call answered each number, and what else was seen.
-#[derive(Default)]
-struct Tally {
-    numbers: [[u64; NUMBERS]; CALLS.len()],
-    clauses: [u64; CLAUSES.len()],
-    issued_moves: u64,
-    elected_one: u64,
-    elected_more: u64,
-    elected_weight: u64,
-    elected_code: u64,
-    grown: u64,
-    taken_weight: u64,
-    taken_code: u64,
-    adopted: u64,
-    compared_all: u64,
-    compared_some: u64,
-    rows: u64,
-    not_all_read: u64,
-    /// Of done comparisons, the standings of the log and of each office's path: before, equal, after, beside.
-    standings: [u64; 4],
-    named: u64,
-    long_logs: u64,
-}
 
 /// One record and its log, under both.
 struct Trial<'a> {
@@ -73,11 +31,6 @@ struct Trial<'a> {
 }
 
 impl Trial<'_> {
-    /// Counts the number that a call answered.
-    fn count(&mut self, call: usize, number: u32) {
-        self.tally.numbers[call][number as usize] += 1;
-    }
-
     /// A line: a move's, around a limit, or anywhere.
     fn line(&mut self) -> u32 {
         let n = self.record.n.min(OFFICES);
@@ -113,20 +66,20 @@ impl Trial<'_> {
             _ => {}
         }
         let answer = plain::found(n, own, weights, self.log.part());
-        self.count(0, answer.0);
+        self.tally.count(0, answer.0);
         same("found", engine::found(n, own, weights, self.log.part()), answer)
     }
 
     fn sound(&mut self) -> Result<(), String> {
         let answer = sound(&self.record, self.log.part());
-        self.count(1, u32::from(!answer));
+        self.tally.count(1, u32::from(!answer));
         same("sound", engine::sound(&self.record, self.log.part()), answer)
     }
 
     fn issue(&mut self) -> Result<(), String> {
         let (line, code) = (self.line(), self.code());
         let answer = plain::issue(self.record, self.log.part(), line, code);
-        self.count(2, answer.0);
+        self.tally.count(2, answer.0);
         self.tally.issued_moves += u64::from(answer.0 == DONE && line >= LINES);
         same(&format!("issue of {line} {code}"), engine::issue(&self.record, self.log.part(), line, code), answer)?;
         self.record = answer.1;
@@ -136,24 +89,24 @@ impl Trial<'_> {
     fn settled(&mut self) -> Result<(), String> {
         let (number, part) = plain::settled(&self.record, self.log.part());
         let answer = (number, part.len());
-        self.count(3, number);
+        self.tally.count(3, number);
         same("settled", engine::settled(&self.record, self.log.part()), answer)
     }
 
     fn frames(&mut self) -> Result<(), String> {
         let line = self.line();
         let answer = plain::settled_frame(&self.record, self.log.part(), line);
-        self.count(4, answer.0);
+        self.tally.count(4, answer.0);
         same(&format!("settled frame of {line}"), engine::settled_frame(&self.record, self.log.part(), line), answer)?;
         let answer = plain::tentative_frame(&self.record, self.log.part(), line);
-        self.count(5, answer.0);
+        self.tally.count(5, answer.0);
         let engine = engine::tentative_frame(&self.record, self.log.part(), line);
         same(&format!("tentative frame of {line}"), engine, answer)
     }
 
     fn all_lines(&mut self) -> Result<(), String> {
         let answer = plain::settled_codes(&self.record, self.log.part());
-        self.count(9, answer.0);
+        self.tally.count(9, answer.0);
         same("all lines", engine::all_lines(&self.record, self.log.part()), answer)
     }
 
@@ -161,13 +114,25 @@ impl Trial<'_> {
         let mut log = self.log.clone();
         let engine = engine::elect(&self.record, log.part_mut());
         let answer = second::elect::elect(self.record, self.log.part_mut());
-        self.count(6, answer.0);
+        self.tally.count(6, answer.0);
         self.tally.elected_one += u64::from(answer.1 == 1);
         self.tally.elected_more += u64::from(answer.1 > 1);
         self.tally.elected_weight += u64::from(answer.2.present != self.record.present);
         self.tally.elected_code += u64::from(answer.2.codes != self.record.codes);
         same("elect", engine, answer)?;
         same_lent("elect's log", &log, &self.log)?;
+        self.record = answer.2;
+        Ok(())
+    }
+
+    fn fold(&mut self) -> Result<(), String> {
+        let mut log = self.log.clone();
+        let engine = engine::fold(&self.record, log.part_mut());
+        let answer = second::fold::fold(self.record, self.log.part_mut());
+        self.tally.count(15, answer.0);
+        self.tally.folded += u64::from(answer.1 > 0);
+        same("fold", engine, answer)?;
+        same_lent("fold's log", &log, &self.log)?;
         self.record = answer.2;
         Ok(())
     }
@@ -184,7 +149,7 @@ impl Trial<'_> {
         let mut engine_output = output.clone();
         let engine = engine::send(&self.record, self.log.part(), engine_output.part_mut());
         let answer = second::message::send(&self.record, self.log.part(), output.part_mut());
-        self.count(7, answer.0);
+        self.tally.count(7, answer.0);
         same(&format!("send into {length} bytes"), engine, answer)?;
         same_lent("send's output", &engine_output, &output)
     }
@@ -195,11 +160,12 @@ impl Trial<'_> {
         let engine = engine::take(&self.record, log.part_mut(), &message);
         let answer = second::take::take(self.record, self.log.part_mut(), &message);
         let (number, places, after) = answer;
-        self.count(8, number);
+        self.tally.count(8, number);
         self.tally.grown += u64::from(after.settled > self.record.settled);
         self.tally.taken_weight += u64::from(after.present != self.record.present);
         self.tally.taken_code += u64::from(after.codes != self.record.codes);
         self.tally.adopted += u64::from(after.ballots != self.record.ballots);
+        self.tally.dropped_too += u64::from(after.kept.dropped > self.record.kept.dropped);
         self.tally.compared_all += u64::from(number == DONE && places > 0);
         self.tally.compared_some += u64::from(number != DONE && places > 1);
         same(&format!("take of {message:02X?}"), engine, answer)?;
@@ -210,27 +176,27 @@ impl Trial<'_> {
 
     fn sheet(&mut self) -> Result<(), String> {
         let (number, rows) = sheets::any(self.random, &self.record, self.log.part())?;
-        self.count(10, number);
+        self.tally.count(10, number);
         self.tally.rows += rows as u64;
         Ok(())
     }
 
     fn earlier(&mut self) -> Result<(), String> {
         let (number, not_all) = earlier::any(self.random, &self.record, self.log.part())?;
-        self.count(11, number);
+        self.tally.count(11, number);
         self.tally.not_all_read += u64::from(not_all);
         Ok(())
     }
 
     fn write_vectors(&mut self) -> Result<(), String> {
         let number = vectors::write(self.random, &self.record, self.log.part())?;
-        self.count(12, number);
+        self.tally.count(12, number);
         Ok(())
     }
 
     fn compare_vector(&mut self) -> Result<(), String> {
         let (number, standings) = vectors::any(self.random, &self.record, self.log.part())?;
-        self.count(13, number);
+        self.tally.count(13, number);
         if number == DONE {
             standings[..=self.record.n].iter().for_each(|&standing| self.tally.standings[standing as usize] += 1);
         }
@@ -239,7 +205,7 @@ impl Trial<'_> {
 
     fn forecast(&mut self) -> Result<(), String> {
         let (number, named) = forecasts::any(self.random, &self.record, self.log.part())?;
-        self.count(14, number);
+        self.tally.count(14, number);
         self.tally.named += u64::from(named);
         Ok(())
     }
@@ -270,7 +236,7 @@ impl Trial<'_> {
 
     /// One call of any kind.
     fn call(&mut self, family: &Family) -> Result<(), String> {
-        match self.random.below(18) {
+        match self.random.below(20) {
             0 => self.found(),
             1 => self.sound(),
             2 | 3 => self.issue(),
@@ -284,6 +250,7 @@ impl Trial<'_> {
             12 => self.write_vectors(),
             13 => self.compare_vector(),
             14 => self.forecast(),
+            15 | 16 => self.fold(),
             _ => self.take(family),
         }
     }
@@ -296,20 +263,21 @@ fn sample(random: &mut Random, tally: &mut Tally, family: &Family) -> Sample {
     match random.below(20) {
         0..=12 => assert!(sound(&sample.record, &sample.log), "a sample is sound"),
         13..=16 => {
-            let clause = random.below(CLAUSES.len());
+            let clause = random.below(CLAUSES);
             break_clause(random, clause, &mut sample);
-            assert!(!sound(&sample.record, &sample.log), "broken: {}", CLAUSES[clause]);
-            tally.clauses[clause] += 1;
+            assert!(!sound(&sample.record, &sample.log), "broken: {}", clause_name(clause));
+            *tally.clauses.entry(clause).or_default() += 1;
         }
         17 | 18 => {
             for _ in 0..random.within(2, 4) {
-                let clause = random.below(CLAUSES.len());
+                let clause = random.below(CLAUSES);
                 break_clause(random, clause, &mut sample);
             }
         }
         _ => sample = any_sample(random),
     }
     tally.long_logs += u64::from(sample.log.len() > LOG);
+    tally.with_dropped += u64::from(sample.record.kept.dropped > 0);
     sample
 }
 
@@ -333,50 +301,11 @@ pub fn compare(seed: u64, rounds: u64) -> io::Result<bool> {
             if let Err(difference) = trial.call(&family) {
                 writeln!(output, "seed {seed}, round {round}, call {call}: {difference}")?;
                 writeln!(output, "record: {before:?}\nlog length: {}", trial.log.part().len())?;
-                writeln!(output, "settled: {:?}", &trial.log.part().get(..before.settled))?;
+                writeln!(output, "settled: {:?}", &trial.log.part().get(..before.held()))?;
                 return Ok(false);
             }
         }
     }
     tally.print(seed, &mut output)?;
     Ok(true)
-}
-
-impl Tally {
-    fn print(&self, seed: u64, output: &mut impl Write) -> io::Result<()> {
-        let calls: u64 = self.numbers.iter().flatten().sum();
-        writeln!(output, "seed {seed}: {calls} calls, all alike")?;
-        writeln!(
-            output,
-            "\n| Call | {} |",
-            (0..NUMBERS).map(|number| number.to_string()).collect::<Vec<_>>().join(" | ")
-        )?;
-        writeln!(output, "|---|{}", "---:|".repeat(NUMBERS))?;
-        for (call, numbers) in CALLS.iter().zip(&self.numbers) {
-            let cells: Vec<String> =
-                numbers.iter().map(|&count| if count == 0 { String::new() } else { count.to_string() }).collect();
-            writeln!(output, "| {call} | {} |", cells.join(" | "))?;
-        }
-        writeln!(output, "\nmoves of weight issued {}", self.issued_moves)?;
-        writeln!(output, "elections of one entry {}, of more {}", self.elected_one, self.elected_more)?;
-        writeln!(output, "takes that grew the log {}, that changed a ballot {}", self.grown, self.adopted)?;
-        writeln!(
-            output,
-            "takes with all shared places alike {}, with a difference met behind others {}",
-            self.compared_all, self.compared_some
-        )?;
-        writeln!(output, "rows of sheets {}", self.rows)?;
-        writeln!(output, "earlier places with entries that were not read {}", self.not_all_read)?;
-        let [before, equal, after, beside] = self.standings;
-        writeln!(output, "versions before a vector {before}, equal {equal}, after {after}, beside {beside}")?;
-        writeln!(output, "forecasts that name an entry {}", self.named)?;
-        writeln!(output, "elections that moved weight {}, takes {}", self.elected_weight, self.taken_weight)?;
-        writeln!(output, "elections that changed a code {}, takes {}", self.elected_code, self.taken_code)?;
-        writeln!(output, "logs above {LOG} words {}", self.long_logs)?;
-        writeln!(output, "records refused with {UNSOUND} for one broken clause:")?;
-        for (clause, count) in CLAUSES.iter().zip(&self.clauses) {
-            writeln!(output, "  {clause}: {count}")?;
-        }
-        Ok(())
-    }
 }

@@ -11,20 +11,23 @@ use crate::samples::huge;
 /// Most lines that are named past those that can be.
 const MORE: usize = 100;
 
-/// A place around the ends of the settled log, inside it, or far past it.
-fn any_place(random: &mut Random, settled: usize) -> usize {
-    let inside = random.below(settled.saturating_add(1));
-    match random.below(12) {
+/// A place around the ends of what is settled and not dropped, inside it, or far from it.
+fn any_place(random: &mut Random, record: &Record) -> u64 {
+    let (dropped, settled) = (record.kept.dropped, record.settled);
+    let inside = dropped.wrapping_add(random.below(record.held().saturating_add(1)) as u64);
+    let far = huge(random) as u64;
+    match random.below(14) {
         0 => random.pick(&[0, 1]),
         1 => settled.saturating_add(1),
-        2 => huge(random),
+        2 => random.pick(&[far, settled ^ 1 << 32, settled ^ 1 << 63]),
         3 => settled.saturating_sub(1),
-        4..=7 => settled,
+        4 => random.pick(&[dropped, dropped.saturating_sub(1), dropped.saturating_add(1)]),
+        5..=9 => settled,
         _ => inside,
     }
 }
 
-/// Lines, most of them with an entry in the log: none, few, as many as can be or more, seldom one outside the frame.
+/// Lines, most of them with an entry among these: none, few, as many as can be or more, seldom one outside the frame.
 fn any_lines(random: &mut Random, log: &[u32]) -> Vec<u32> {
     let count = match random.below(12) {
         0 => 0,
@@ -53,10 +56,10 @@ fn any_lines(random: &mut Random, log: &[u32]) -> Vec<u32> {
 
 /// Compares random lines as of a random place; answers the number and whether some entries before it were not read.
 pub fn any(random: &mut Random, record: &Record, log: &[u32]) -> Result<(u32, bool), String> {
-    let p = any_place(random, record.settled);
-    let settled = &log[..record.settled.min(log.len())];
+    let p = any_place(random, record);
+    let settled = &log[..record.held().min(log.len())];
     let lines = any_lines(random, settled);
     let answer = earlier(record, log, p, &lines);
     same(&format!("lines {lines:?} as of {p}"), engine::frame_at(record, log, p, &lines), answer)?;
-    Ok((answer.0, answer.0 == 0 && answer.1 > 0 && answer.1 < p))
+    Ok((answer.0, answer.0 == 0 && answer.1 > 0 && (answer.1 as u64) < p - record.kept.dropped))
 }

@@ -11,6 +11,11 @@ use second::sheet::Row;
 const _: () = {
     assert!(size_of::<Record>() == size_of::<engine::Record>());
     assert!(offset_of!(Record, weights) == offset_of!(engine::Record, weights));
+    assert!(offset_of!(Record, kept.dropped) == offset_of!(engine::Record, kept.dropped));
+    assert!(offset_of!(Record, kept.present) == offset_of!(engine::Record, kept.summary.present));
+    assert!(offset_of!(Record, kept.codes) == offset_of!(engine::Record, kept.summary.codes));
+    assert!(offset_of!(Record, kept.counts) == offset_of!(engine::Record, kept.counts));
+    assert!(offset_of!(Record, noted) == offset_of!(engine::Record, noted));
     assert!(offset_of!(Record, present) == offset_of!(engine::Record, summary.present));
     assert!(offset_of!(Record, codes) == offset_of!(engine::Record, summary.codes));
     assert!(offset_of!(Record, settled) == offset_of!(engine::Record, settled));
@@ -24,7 +29,7 @@ pub fn to_engine(record: &Record) -> engine::Record {
 }
 
 /// The record as the second implementation declares it.
-fn from_engine(record: engine::Record) -> Record {
+pub fn from_engine(record: engine::Record) -> Record {
     // SAFETY: as in `to_engine`.
     unsafe { transmute::<engine::Record, Record>(record) }
 }
@@ -71,6 +76,11 @@ pub fn elect(record: &Record, log: &mut [u32]) -> (u32, usize, Record) {
     (answer.number, answer.count, from_engine(answer.record))
 }
 
+pub fn fold(record: &Record, log: &mut [u32]) -> (u32, u64, Record) {
+    let answer = unsafe { engine::joukerpan_fold(to_engine(record), log.as_mut_ptr(), log.len()) };
+    (answer.number, answer.count, from_engine(answer.record))
+}
+
 pub fn send(record: &Record, log: &[u32], output: &mut [u8]) -> (u32, usize) {
     let record = to_engine(record);
     let answer = unsafe { engine::joukerpan_send(record, log.as_ptr(), log.len(), output.as_mut_ptr(), output.len()) };
@@ -93,7 +103,7 @@ pub fn sheet(record: &Record, log: &[u32], households: &[u8]) -> (u32, usize, Ve
     (answer.number, answer.count, rows.collect())
 }
 
-pub fn frame_at(record: &Record, log: &[u32], p: usize, lines: &[u32]) -> (u32, usize, Codes) {
+pub fn frame_at(record: &Record, log: &[u32], p: u64, lines: &[u32]) -> (u32, usize, Codes) {
     let record = to_engine(record);
     let answer = unsafe { engine::joukerpan_frame_at(record, log.as_ptr(), log.len(), p, lines.as_ptr(), lines.len()) };
     (answer.number, answer.words, answer.edits)

@@ -1,7 +1,7 @@
 //! Messages: spelled from parts, so that each part can be made wrong by itself, and damaged bytes.
 
 use second::random::Random;
-use second::record::{LOG, OFFICES, TAIL};
+use second::record::{LENGTH, LOG, OFFICES, TAIL};
 use second::samples::{crowded, issued_by, Sample};
 
 use crate::samples::{any_entry, no_entry};
@@ -21,7 +21,8 @@ struct Forged {
     weights: Vec<u16>,
     /// The present weights, which no message has.
     present: Vec<u16>,
-    settled: u16,
+    settled: u64,
+    dropped: u64,
     log: Vec<u32>,
     ballots: Vec<Spelled>,
     after: Vec<u8>,
@@ -42,8 +43,9 @@ impl Forged {
             n: record.n as u8,
             weights: record.weights[..record.n].to_vec(),
             present: record.present[..record.n].to_vec(),
-            settled: record.settled as u16,
-            log: sample.log[..record.settled].to_vec(),
+            settled: record.settled,
+            dropped: record.kept.dropped,
+            log: sample.log[..record.held()].to_vec(),
             ballots: spelled.collect(),
             after: vec![],
         }
@@ -54,6 +56,7 @@ impl Forged {
         let mut bytes = vec![0x53, 0x48, self.sender, self.n];
         bytes.extend(self.weights.iter().flat_map(|weight| weight.to_be_bytes()));
         bytes.extend(self.settled.to_be_bytes());
+        bytes.extend(self.dropped.to_be_bytes());
         for value in &self.log {
             bytes.extend([0x4C, 0x47]);
             bytes.extend(value.to_be_bytes());
@@ -70,12 +73,15 @@ impl Forged {
     /// Changes one part; most changes make a message that is refused.
     fn change(&mut self, random: &mut Random) {
         let n = usize::from(self.n).clamp(1, OFFICES);
-        match random.below(15) {
+        match random.below(18) {
             0 => self.sender = random.pick(&[self.n, self.n.wrapping_add(1), 8, 255]),
             1 => self.sender = random.below(n) as u8,
             2 => self.n = random.pick(&[0, self.n.wrapping_sub(1), self.n.wrapping_add(1), 8, 9, 255]),
             3 => self.other_weights(random),
-            4 => self.settled = random.pick(&[self.settled ^ 1, self.settled.wrapping_add(1), 1025, 65535]),
+            4 => self.settled = random.pick(&[self.settled ^ 1, self.settled.wrapping_add(1), self.dropped, u64::MAX]),
+            15 => self.dropped = random.pick(&[self.dropped ^ 1, self.settled, self.settled.wrapping_add(1), u64::MAX]),
+            16 => self.elsewhere(random),
+            17 => self.at_the_limit(random),
             5 if !self.log.is_empty() => {
                 let at = random.below(self.log.len());
                 self.log[at] = if random.percent(50) { no_entry(random, n) } else { any_entry(random, n) };
@@ -125,7 +131,23 @@ impl Forged {
         while self.log.len() < length {
             self.log.push(any_entry(random, n));
         }
-        self.settled = self.log.len() as u16;
+        self.settled = self.dropped.wrapping_add(self.log.len() as u64);
+    }
+
+    /// The same entries behind more or fewer dropped ones, so that the log begins past the receiver's, ends inside its
+    /// dropped part, or is compared one place off.
+    fn elsewhere(&mut self, random: &mut Random) {
+        let by = random.pick(&[1, 2, self.log.len() as u64, self.log.len() as u64 + 1, 1 << 32]);
+        let by = if random.percent(50) { by } else { by.min(self.dropped).wrapping_neg() };
+        self.settled = self.settled.wrapping_add(by);
+        self.dropped = self.dropped.wrapping_add(by);
+    }
+
+    /// Lengths that reach 2^63 with the log or with a tail, or pass it by one.
+    fn at_the_limit(&mut self, random: &mut Random) {
+        let longest = self.ballots.iter().map(|ballot| ballot.values.len() as u64).max().unwrap_or(0);
+        self.settled = LENGTH - random.pick(&[0, longest]) + random.below(2) as u64;
+        self.dropped = self.settled - self.log.len() as u64;
     }
 
     /// Changes one ballot: its office, its length, its values, or both; or one office has more of it than its part.
@@ -168,7 +190,7 @@ pub fn forged(random: &mut Random, sample: &Sample) -> Vec<u8> {
 /// The bytes with one or a few of them changed, put in or left out.
 pub fn damaged(random: &mut Random, mut bytes: Vec<u8>) -> Vec<u8> {
     for _ in 0..random.pick(&[1, 1, 2, 4]) {
-        let front = bytes.len().min(40);
+        let front = bytes.len().min(54);
         let at = if random.percent(50) { random.below(front) } else { random.below(bytes.len()) };
         match random.below(7) {
             _ if bytes.is_empty() => bytes.push(0x53),
@@ -186,7 +208,7 @@ pub fn damaged(random: &mut Random, mut bytes: Vec<u8>) -> Vec<u8> {
 
 /// Any bytes, with a proper head now and then.
 pub fn any_bytes(random: &mut Random) -> Vec<u8> {
-    let length = random.pick(&[0, 1, 2, 3, 13, 14, 22, 100, 7033]);
+    let length = random.pick(&[0, 1, 2, 3, 27, 28, 36, 100, 7047]);
     let mut bytes: Vec<u8> =
         (0..length).map(|_| random.pick(&[0, 1, 2, 3, 0x42, 0x41, 0x45, 0x4E, 0x4C, 0x47])).collect();
     for (byte, mark) in bytes.iter_mut().zip([0x53, 0x48]) {

@@ -10,19 +10,23 @@ mod by_value;
 mod calls;
 mod earlier;
 mod engine;
+mod folded;
 mod forecasts;
 mod forge;
 mod households;
 mod samples;
 mod sheets;
+mod soak;
 mod stack;
+mod tally;
 mod vectors;
 
 const USAGE: &str = "usage:
   compare calls SEED ROUNDS     random records, logs, messages and outputs; stops at the first difference
   compare benchmark             times of both, as a Markdown table
   compare households            times of the household sheet alone
-  compare stack                 deepest stack of each of the engine's calls";
+  compare stack                 deepest stack of each of the engine's calls
+  compare soak SEED EDITS       eight offices that fold, restart and hear each other badly, until so many edits are made";
 
 /// An error about the arguments.
 fn wrong(what: &str) -> Error {
@@ -41,6 +45,7 @@ fn run(words: &[&str]) -> Result<bool> {
         ["benchmark"] => benchmark::print().map(|()| true),
         ["households"] => households::print(&mut std::io::stdout().lock()).map(|()| true),
         ["stack"] => stack::print(),
+        ["soak", seed, edits] => soak::run(number(seed)?, number(edits)?),
         _ => Err(wrong("no such command")),
     }
 }

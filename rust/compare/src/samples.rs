@@ -1,17 +1,22 @@
 //! Random records with their logs: sound ones that are related to each other, and records of any numbers at all.
 
 use second::random::Random;
-use second::record::{entry, part, Ballot, Record, CODES, LINES, LOG, OFFICES, TAIL};
-use second::samples::{fair_beginning, issued_by, Sample};
+use second::record::{entry, part, Ballot, Kept, Record, CODES, LENGTH, LINES, LOG, OFFICES, TAIL};
+use second::samples::{any_kept, fair_beginning, issued_by, Sample};
 
 /// What related samples have in common: offices, weights, few entries, and one path that they all stray from.
 pub struct Family {
     n: usize,
     weights: [u16; OFFICES],
     entries: Vec<u32>,
+    /// The path, behind entries that all have dropped.
     path: Vec<u32>,
-    /// Where the settled logs end, more or less.
+    /// What is kept of the entries before the path.
+    before: Kept,
+    /// Where the settled logs end on the path, more or less.
     around: usize,
+    /// How many of its settled entries an office drops at the most, in hundredths.
+    folded: usize,
 }
 
 /// Any edit among n offices, at the limits more often than not.
@@ -101,13 +106,17 @@ impl Family {
             8 => LOG,
             _ => random.below(LOG + 1),
         };
-        let mut path: Vec<u32> = (0..LOG).map(|_| random.pick(&entries)).collect();
+        let folded = random.pick(&[0, 0, 0, 30, 100, 100]);
+        let around = if folded > 0 && random.percent(20) { LOG + random.below(TAIL) } else { around };
+        let mut path: Vec<u32> = (0..LOG + 3 * TAIL).map(|_| random.pick(&entries)).collect();
         // Runs of each office's entries in turn, so that tails are long and parts full.
         let run = random.pick(&[0, 0, 1, part(n)]);
         if run > 0 {
             path.iter_mut().enumerate().for_each(|(at, word)| *word = issued_by(at / run % n, *word));
         }
-        Family { n, weights: weights(random, n), entries, path, around }
+        let weights = weights(random, n);
+        let dropped = any_dropped(random, around);
+        Family { n, weights, entries, path, before: any_kept(random, n, weights, dropped), around, folded }
     }
 
     /// The same offices with one weight changed, or one office more or fewer.
@@ -122,6 +131,7 @@ impl Family {
         if other.weights == [0; OFFICES] {
             other.weights[0] = 1;
         }
+        other.before = any_kept(random, other.n, other.weights, self.before.dropped);
         other
     }
 
@@ -132,21 +142,37 @@ impl Family {
 
     /// A sound record of the office, with its log.
     pub fn sample(&self, random: &mut Random, own: usize) -> Sample {
-        let near = self.around + random.below(5);
-        let settled = near.saturating_sub(2).min(LOG);
-        let mut log = self.lent_log(random);
-        log[..settled].copy_from_slice(&self.path[..settled]);
+        let most = if self.folded > 0 { self.path.len() - TAIL } else { LOG };
+        let most = (LENGTH - self.before.dropped).min(most as u64) as usize;
+        let settled = (self.around + random.below(5)).saturating_sub(2).min(most);
+        let gone = self.dropped(random, settled);
+        let mut path = self.path.clone();
         if settled > 0 && random.percent(6) {
             let at = if random.percent(50) { settled - 1 } else { random.below(settled) };
-            log[at] = random.pick(&self.entries);
+            path[at] = random.pick(&self.entries);
         }
-        let mut record = Record { n: self.n, own, weights: self.weights, settled, ..Record::ZERO };
-        for ballot in &mut record.ballots[..self.n] {
-            *ballot = self.ballot(random, settled);
+        let length = self.before.dropped + settled as u64;
+        let mut record = Record { n: self.n, own, weights: self.weights, settled: length, ..Record::ZERO };
+        record.kept = self.before;
+        // Dropped first, so that the log is one whose words past the held ones mean nothing.
+        record.kept = Sample { record, log: path.clone() }.without(gone).record.kept;
+        let mut log = self.lent_log(random);
+        log[..settled - gone].copy_from_slice(&path[gone..settled]);
+        let room = (LOG - (settled - gone)).min((LENGTH - length).min(TAIL as u64) as usize);
+        for office in 0..self.n {
+            record.ballots[office] = self.ballot(random, settled, room.min(TAIL));
+            record.noted[office] = if office == own { 0 } else { any_noted(random, &record) };
         }
         let mut sample = Sample { record, log };
         sample.derive();
         sample
+    }
+
+    /// How many entries of the path an office drops, of so many that are settled.
+    fn dropped(&self, random: &mut Random, settled: usize) -> usize {
+        let most = settled * self.folded / 100;
+        let any = random.below(most + 1);
+        random.pick(&[0, any, any, most, most.saturating_sub(1)]).max(settled.saturating_sub(LOG))
     }
 
     /// A log of 1,024 words or more, none of them settled.
@@ -156,12 +182,11 @@ impl Family {
         vec![filler; length]
     }
 
-    /// A ballot over a settled log of this length: none, the family's path, or one that strays from it.
-    fn ballot(&self, random: &mut Random, settled: usize) -> Ballot {
-        let most = TAIL.min(LOG - settled);
+    /// A ballot of at most so many entries behind this many of the path: none, the path, or one that strays from it.
+    fn ballot(&self, random: &mut Random, settled: usize, most: usize) -> Ballot {
         let length = match random.below(20) {
             0..=5 => 0,
-            6..=10 if settled + TAIL >= LOG => most,
+            6..=10 if most < TAIL => most,
             6..=15 => random.within(1, 5),
             16 | 17 => random.below(TAIL + 1),
             18 => TAIL - 1,
@@ -184,6 +209,24 @@ impl Family {
     }
 }
 
+/// How many entries a family has dropped before its path: mostly none; few; very many; or so many that lengths end at
+/// 2^63.
+fn any_dropped(random: &mut Random, around: usize) -> u64 {
+    match random.below(24) {
+        0 => random.pick(&[1, 2, 1 << 16, 1 << 32]),
+        1 => random.bits() >> random.within(2, 60),
+        2 | 3 => LENGTH - around as u64 - random.below(TAIL + 4) as u64,
+        _ => 0,
+    }
+}
+
+/// A length that may be noted of another office: none, the own one, or one around the dropped part.
+fn any_noted(random: &mut Random, record: &Record) -> u64 {
+    let (dropped, settled) = (record.kept.dropped, record.settled);
+    let inside = dropped + random.below(record.held() + 1) as u64;
+    random.pick(&[0, inside, inside, settled, settled, dropped, dropped / 2, settled.saturating_sub(1)])
+}
+
 /// A record of any numbers, with a log of any words.
 pub fn any_sample(random: &mut Random) -> Sample {
     let number = |random: &mut Random, limit: usize| match random.below(4) {
@@ -202,7 +245,15 @@ pub fn any_sample(random: &mut Random) -> Sample {
     for code in &mut record.codes {
         *code = random.pick(&[0, 0, 1, 121, CODES, CODES + 1, u32::MAX]);
     }
-    record.settled = number(random, LOG);
+    for weight in &mut record.kept.present {
+        *weight = random.pick(&[0, 1, u16::MAX]);
+    }
+    for number in record.kept.counts.iter_mut().chain(&mut record.noted) {
+        *number = random.pick(&[0, 0, 1, 2, 1 << 32, LENGTH, u64::MAX]);
+    }
+    record.kept.codes[random.below(LINES as usize)] = random.pick(&[0, 1, CODES, CODES + 1]);
+    record.settled = number(random, LOG) as u64;
+    record.kept.dropped = random.pick(&[0, 0, 1, record.settled, record.settled / 2, LENGTH, u64::MAX]);
     for ballot in &mut record.ballots {
         ballot.len = number(random, TAIL);
         for cell in &mut ballot.cells {

@@ -6,7 +6,10 @@ use std::io::{stdout, Result, Write};
 use std::mem::transmute;
 
 use joukerpan_sys as engine;
-use joukerpan_sys::{Elected, Founded, Framed, Issued, Lines, Part, Sent, Sheet, Taken, Weights, HOUSEHOLD};
+use joukerpan_sys::{
+    Compared, Earlier, Elected, Folded, Foreseen, Founded, Framed, Issued, Lines, Part, Sent, Sheet, Taken, Weights,
+    Written, COUNT, HOUSEHOLD,
+};
 use second::message::LONGEST;
 use second::random::Random;
 use second::record::{LOG, OFFICES};
@@ -37,6 +40,11 @@ struct Calls {
     send: unsafe extern "C" fn(engine::Record, *const u32, usize, *mut u8, usize) -> Sent,
     take: unsafe extern "C" fn(engine::Record, *mut u32, usize, *const u8, usize) -> Taken,
     sheet: unsafe extern "C" fn(engine::Record, *const u32, usize, *const u8, usize) -> Sheet,
+    fold: unsafe extern "C" fn(engine::Record, *mut u32, usize) -> Folded,
+    frame_at: unsafe extern "C" fn(engine::Record, *const u32, usize, u64, *const u32, usize) -> Earlier,
+    write_vectors: unsafe extern "C" fn(engine::Record, *const u32, usize, *mut u8, usize) -> Written,
+    compare_vector: unsafe extern "C" fn(engine::Record, *const u32, usize, *const u8, usize) -> Compared,
+    forecast: unsafe extern "C" fn(engine::Record, *const u32, usize, Weights, Weights) -> Foreseen,
 }
 
 extern "C" fn nothing() {}
@@ -55,6 +63,11 @@ impl Calls {
             send: engine::joukerpan_send,
             take: engine::joukerpan_take,
             sheet: engine::joukerpan_sheet,
+            fold: engine::joukerpan_fold,
+            frame_at: engine::joukerpan_frame_at,
+            write_vectors: engine::joukerpan_write_vectors,
+            compare_vector: engine::joukerpan_compare_vector,
+            forecast: engine::joukerpan_forecast,
         }
     }
 
@@ -76,6 +89,11 @@ impl Calls {
                 send: transmute(nothing),
                 take: transmute(nothing),
                 sheet: transmute(nothing),
+                fold: transmute(nothing),
+                frame_at: transmute(nothing),
+                write_vectors: transmute(nothing),
+                compare_vector: transmute(nothing),
+                forecast: transmute(nothing),
             }
         }
     }
@@ -110,7 +128,7 @@ macro_rules! call {
     }};
 }
 
-const CALLS: [Call; 11] = [
+const CALLS: [Call; 16] = [
     ("found", |calls, input| {
         let (log, length) = input.log();
         call!(calls.found, 3, 0, Weights { of: [1; OFFICES] }, log, length)
@@ -162,7 +180,40 @@ const CALLS: [Call; 11] = [
         let bytes = ALL_LINES;
         call!(calls.sheet, to_engine(&input.sample.record), log, length, bytes.as_ptr(), bytes.len())
     }),
+    ("fold", |calls, input| {
+        let log = &mut input.sample.log;
+        call!(calls.fold, to_engine(&input.sample.record), log.as_mut_ptr(), log.len())
+    }),
+    ("earlier frame", |calls, input| {
+        let ((log, length), lines, p) = (input.log(), NAMED, input.sample.record.settled);
+        call!(calls.frame_at, to_engine(&input.sample.record), log, length, p, lines.as_ptr(), lines.len())
+    }),
+    ("write vectors", |calls, input| {
+        let (log, length) = input.log();
+        let output = &mut input.output;
+        call!(calls.write_vectors, to_engine(&input.sample.record), log, length, output.as_mut_ptr(), output.len())
+    }),
+    ("compare vector", |calls, input| {
+        let (log, length) = input.log();
+        let bytes = &ALL_LINES[..COUNT * input.sample.record.n.min(OFFICES)];
+        call!(calls.compare_vector, to_engine(&input.sample.record), log, length, bytes.as_ptr(), bytes.len())
+    }),
+    ("forecast", |calls, input| {
+        let ((log, length), bound) = (input.log(), Weights { of: input.sample.record.present });
+        call!(calls.forecast, to_engine(&input.sample.record), log, length, bound, bound)
+    }),
 ];
+
+/// Every line of the frame.
+const NAMED: &[u32] = &{
+    let mut lines = [0; 64];
+    let mut line = 0;
+    while line < 64 {
+        lines[line] = line as u32;
+        line += 1;
+    }
+    lines
+};
 
 /// A household of each line.
 const ALL_LINES: &[u8] = &{

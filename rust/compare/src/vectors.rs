@@ -1,7 +1,7 @@
 //! Version vectors: what is written to outputs of any length, and how the log and the paths stand to random and damaged
 //! vectors, compared.
 
-use second::archive::{compare_vector, write_vectors, PATHS};
+use second::archive::{compare_vector, write_vectors, COUNT_SIZE as COUNT, PATHS};
 use second::random::Random;
 use second::record::{Record, OFFICES};
 use second::samples::{any_vector, Sample};
@@ -10,8 +10,6 @@ use crate::alike::{same, same_lent, Lent};
 use crate::engine;
 use crate::samples::Family;
 
-/// Bytes of a count.
-const COUNT: usize = 4;
 /// Most bytes of an office's vectors.
 const MOST: usize = COUNT * OFFICES * PATHS;
 

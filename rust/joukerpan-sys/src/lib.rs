@@ -16,16 +16,18 @@ pub const TAIL: usize = 32;
 pub const LINES: u32 = 64;
 /// Codes of a line: 0 to 9999. Weight that a move moves: 1 to 9999.
 pub const CODES: u32 = 10_000;
-/// Most settled entries, and fewest words of a log.
+/// Most settled entries that are not dropped, and fewest words of a log.
 pub const LOG: usize = 1024;
+/// Most settled entries and entries of a tail behind them, dropped ones included.
+pub const LENGTH: u64 = 1 << 63;
 /// Most bytes of a message.
-pub const MESSAGE_MAX: usize = 7032;
+pub const MESSAGE_MAX: usize = 7046;
 /// Bytes of a household record: 0x48 0x52, line (1), grossing weight (4, most significant first).
 pub const HOUSEHOLD: usize = 7;
 /// Most household records of a sheet.
 pub const HOUSEHOLDS: usize = 1_000_000;
 /// Bytes of a count in a version vector, most significant first. A vector has a count for each office.
-pub const COUNT: usize = 4;
+pub const COUNT: usize = 8;
 /// Most bytes of an office's version vectors.
 pub const VECTORS_MAX: usize = COUNT * OFFICES * (OFFICES + 1);
 
@@ -39,16 +41,28 @@ pub struct Ballot {
     pub cells: [u32; TAIL],
 }
 
-/// What the settled log has done. A record with any other summary than its founding weights and its settled
-/// log give is unsound.
+/// What settled entries have done. A record with any other summary than what is kept of its dropped entries and the
+/// undropped ones give is unsound.
 #[repr(C)]
 #[derive(Clone, Copy, Debug, PartialEq, Eq)]
 pub struct Summary {
-    /// Present weight of each office, by which elections count: the founding weights after the settled moves.
+    /// Weight of each office after their moves; of the record, by which elections count.
     pub present: [u16; OFFICES],
-    /// Of each line 0 for no edit yet, else one more than its settled code: that of the last entry for it in the
-    /// settled log.
+    /// Of each line 0 for no edit yet, else one more than the code of the last of them for it.
     pub codes: [u32; LINES as usize],
+}
+
+/// What is kept of the settled entries that were dropped. With none dropped its weights are the founding weights, and
+/// all else is zero.
+#[repr(C)]
+#[derive(Clone, Copy, Debug, PartialEq, Eq)]
+pub struct Kept {
+    /// How many they are.
+    pub dropped: u64,
+    /// What they have done.
+    pub summary: Summary,
+    /// How many of them each office issued; they add up to the dropped count.
+    pub counts: [u64; OFFICES],
 }
 
 /// What one office knows, apart from its log.
@@ -61,10 +75,14 @@ pub struct Record {
     pub own: usize,
     /// Weight of each office at the founding, as messages carry it; zero from place n on.
     pub weights: [u16; OFFICES],
-    /// What the settled log has done.
+    /// What is kept of the dropped entries.
+    pub kept: Kept,
+    /// Longest settled length heard of each other office; 0 at the own place and from place n on.
+    pub noted: [u64; OFFICES],
+    /// What all settled entries have done, dropped ones included.
     pub summary: Summary,
-    /// How many words at the front of the log are settled.
-    pub settled: usize,
+    /// Settled length, dropped entries included. The words at the front of the log are the others.
+    pub settled: u64,
     /// Last known ballot of each office; none from place n on.
     pub ballots: [Ballot; OFFICES],
 }
@@ -103,7 +121,7 @@ pub struct Issued {
 pub struct Part {
     /// 0, or the refusal's number.
     pub number: u32,
-    /// Settled words at the front of the log; 0 where the call is refused.
+    /// Settled words at the front of the log, those not dropped; 0 where the call is refused.
     pub length: usize,
 }
 
@@ -153,6 +171,18 @@ pub struct Elected {
     pub count: usize,
 }
 
+/// Fold's answer.
+#[repr(C)]
+#[derive(Clone, Copy, Debug, PartialEq, Eq)]
+pub struct Folded {
+    /// The next record; the one handed in where the call is refused.
+    pub record: Record,
+    /// 0, or the refusal's number.
+    pub number: u32,
+    /// Entries dropped; 0 where the call is refused.
+    pub count: u64,
+}
+
 /// Send's answer.
 #[repr(C)]
 #[derive(Clone, Copy, Debug, PartialEq, Eq)]
@@ -171,8 +201,8 @@ pub struct Taken {
     pub record: Record,
     /// 0, or the refusal's number.
     pub number: u32,
-    /// Places of the two settled logs that were compared, from the last that both have back to the first: up
-    /// to and including the first difference met, all of them if none differs; 0 on any refusal but 10.
+    /// Places of the two settled logs that were compared, from the last that both still have back to the first:
+    /// up to and including the first difference met, all of them if none differs; 0 on any refusal but 10.
     pub places: usize,
 }
 
@@ -243,7 +273,7 @@ extern "C" {
     /// The record with the entry, an edit or a move of weight, appended to its own ballot.
     pub fn joukerpan_issue(record: Record, log: *const u32, log_len: usize, line: u32, code: u32) -> Issued;
 
-    /// How many words at the front of the log are settled.
+    /// How many words at the front of the log are settled: the entries that are not dropped.
     pub fn joukerpan_settled(record: Record, log: *const u32, log_len: usize) -> Part;
 
     /// The code of the last entry for each line in the settled log, or no edit yet.
@@ -255,18 +285,22 @@ extern "C" {
     /// The code of the last entry for the line in the own path, or no edit yet.
     pub fn joukerpan_tentative_frame(record: Record, log: *const u32, log_len: usize, line: u32) -> Framed;
 
-    /// The code of the last entry for each line named in the first p settled entries, or no edit yet.
+    /// The code of the last entry for each line named in the first p settled entries, dropped ones included, or no
+    /// edit yet.
     pub fn joukerpan_frame_at(
         record: Record,
         log: *const u32,
         log_len: usize,
-        p: usize,
+        p: u64,
         lines: *const u32,
         lines_len: usize,
     ) -> Earlier;
 
     /// The record after election steps until no entry wins.
     pub fn joukerpan_elect(record: Record, log: *mut u32, log_len: usize) -> Elected;
+
+    /// The record without the first settled entries that every office is known to have.
+    pub fn joukerpan_fold(record: Record, log: *mut u32, log_len: usize) -> Folded;
 
     /// Writes the office's message.
     pub fn joukerpan_send(record: Record, log: *const u32, log_len: usize, output: *mut u8, output_len: usize) -> Sent;
@@ -323,19 +357,22 @@ const _: () = {
     assert!(size_of::<usize>() == 8);
     assert!(size_of::<Ballot>() == 136 && offset_of!(Ballot, cells) == 8);
     assert!(size_of::<Summary>() == 272 && offset_of!(Summary, codes) == 16 && align_of::<Summary>() == 4);
-    assert!(size_of::<Record>() == 1400 && align_of::<Record>() == 8);
-    assert!(offset_of!(Record, own) == 8 && offset_of!(Record, weights) == 16 && offset_of!(Record, summary) == 32);
-    assert!(offset_of!(Record, settled) == 304 && offset_of!(Record, ballots) == 312);
+    assert!(size_of::<Kept>() == 344 && offset_of!(Kept, summary) == 8 && offset_of!(Kept, counts) == 280);
+    assert!(size_of::<Record>() == 1808 && align_of::<Record>() == 8);
+    assert!(offset_of!(Record, own) == 8 && offset_of!(Record, weights) == 16 && offset_of!(Record, kept) == 32);
+    assert!(offset_of!(Record, noted) == 376 && offset_of!(Record, summary) == 440);
+    assert!(offset_of!(Record, settled) == 712 && offset_of!(Record, ballots) == 720);
     assert!(size_of::<Weights>() == 16 && align_of::<Weights>() == 2);
-    assert!(size_of::<Founded>() == 1408 && offset_of!(Founded, number) == 1400);
-    assert!(size_of::<Issued>() == 1408 && offset_of!(Issued, number) == 1400);
+    assert!(size_of::<Founded>() == 1816 && offset_of!(Founded, number) == 1808);
+    assert!(size_of::<Issued>() == 1816 && offset_of!(Issued, number) == 1808);
     assert!(size_of::<Part>() == 16 && offset_of!(Part, length) == 8);
     assert!(size_of::<Framed>() == 12 && offset_of!(Framed, coded) == 4 && offset_of!(Framed, code) == 8);
     assert!(size_of::<Lines>() == 260 && offset_of!(Lines, codes) == 4 && align_of::<Lines>() == 4);
     assert!(size_of::<Earlier>() == 272 && offset_of!(Earlier, words) == 8 && offset_of!(Earlier, edits) == 16);
-    assert!(size_of::<Elected>() == 1416 && offset_of!(Elected, number) == 1400 && offset_of!(Elected, count) == 1408);
+    assert!(size_of::<Elected>() == 1824 && offset_of!(Elected, number) == 1808 && offset_of!(Elected, count) == 1816);
+    assert!(size_of::<Folded>() == 1824 && offset_of!(Folded, number) == 1808 && offset_of!(Folded, count) == 1816);
     assert!(size_of::<Sent>() == 16 && offset_of!(Sent, length) == 8);
-    assert!(size_of::<Taken>() == 1416 && offset_of!(Taken, number) == 1400 && offset_of!(Taken, places) == 1408);
+    assert!(size_of::<Taken>() == 1824 && offset_of!(Taken, number) == 1808 && offset_of!(Taken, places) == 1816);
     assert!(size_of::<Row>() == 16 && offset_of!(Row, total) == 8);
     assert!(size_of::<Sheet>() == 1040 && offset_of!(Sheet, count) == 8 && offset_of!(Sheet, rows) == 16);
     assert!(size_of::<Foreseen>() == 12 && offset_of!(Foreseen, named) == 4 && offset_of!(Foreseen, entry) == 8);

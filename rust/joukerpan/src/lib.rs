@@ -28,6 +28,8 @@
 //! # Ok::<(), Refused>(())
 //! ```
 //!
+//! The settled log has room for 1,024 entries; [`Office::fold`] drops those that every office has.
+//!
 //! The tabulator's sheet of households, class by class, is [`Office::sheet`]; version vectors for an archive
 //! are [`Office::vectors`]. What would win by next round's weights, where they are known within bounds, is
 //! [`Office::forecast`].
@@ -52,7 +54,8 @@ mod vector;
 pub use earlier::Earlier;
 pub use entry::{Entry, EntryKind};
 pub use joukerpan_sys::{
-    Ballot, Record, Summary, CODES, COUNT, HOUSEHOLD, HOUSEHOLDS, LINES, LOG, MESSAGE_MAX, OFFICES, TAIL, VECTORS_MAX,
+    Ballot, Kept, Record, Summary, CODES, COUNT, HOUSEHOLD, HOUSEHOLDS, LENGTH, LINES, LOG, MESSAGE_MAX, OFFICES, TAIL,
+    VECTORS_MAX,
 };
 pub use office::{sound, Office};
 pub use refused::Refused;

@@ -31,7 +31,8 @@ pub enum Refused {
     /// The own ballot has 32 entries that are not settled yet. No longer given: in such a ballot the office
     /// has its part, so that [`Refused::PartFull`] holds (proved).
     TailFull = 4,
-    /// The settled log and the own ballot make 1,024 entries.
+    /// The settled entries that are not dropped and the own ballot make 1,024, or all settled ones and it 2^63. Where
+    /// every office is heard of, [`Office::fold`](crate::Office::fold) makes room.
     LogFull = 5,
     /// The output is shorter than what is to be written.
     OutputShort = 6,
@@ -41,7 +42,7 @@ pub enum Refused {
     OtherOffices = 8,
     /// The message is the office's own.
     OwnMessage = 9,
-    /// Neither settled log is a beginning of the other.
+    /// The settled logs differ in the part that both still have.
     ///
     /// Where a service does what [`Office`](crate::Office) asks of it, this is never given (proved). Where it
     /// is, an older state, a second copy or an altered message has been at work, and what is settled may
@@ -53,16 +54,24 @@ pub enum Refused {
     PartFull = 11,
     /// The bytes are not household records, have a line above 63, or are more than 1,000,000 records.
     NoHouseholds = 12,
-    /// The place is above the settled length, or more than 64 lines are named.
+    /// The place is above the settled length or below the dropped count, or more than 64 lines are named.
     NoPlace = 13,
-    /// The bytes are not a version vector: exactly one count for each office, 4 bytes each, at most 1,024.
+    /// The bytes are not a version vector: exactly one count for each office, 8 bytes each.
     NoVector = 14,
     /// A lowest weight exceeds its highest.
     NoWeights = 15,
+    /// The message's log begins past what is settled here: its sender had dropped entries that this office does not
+    /// have.
+    ///
+    /// Where a service does what [`Office`](crate::Office) asks of it, this is never given (proved). Where it is, do
+    /// as with [`Refused::OtherLog`].
+    BeginsPast = 16,
+    /// The message's log ends inside the part that is dropped here: an old message, which has nothing new.
+    EndsInside = 17,
 }
 
 /// Every refusal, by rising number.
-const ALL: [Refused; 15] = [
+const ALL: [Refused; 17] = [
     Refused::Unsound,
     Refused::Founding,
     Refused::NoEntry,
@@ -78,10 +87,12 @@ const ALL: [Refused; 15] = [
     Refused::NoPlace,
     Refused::NoVector,
     Refused::NoWeights,
+    Refused::BeginsPast,
+    Refused::EndsInside,
 ];
 
 impl Refused {
-    /// The number of the refusal, 1 to 15.
+    /// The number of the refusal, 1 to 17.
     pub fn number(self) -> u32 {
         self as u32
     }
@@ -117,19 +128,25 @@ impl Refused {
                 "the line or the code is outside the limits (0 to 63 and 0 to 9999; of a move 64 + an office and 1 to 9999)"
             }
             Refused::TailFull => "the own ballot has 32 entries that are not settled yet",
-            Refused::LogFull => "the settled log and the own ballot make 1024 entries",
+            Refused::LogFull => {
+                "the settled entries that are not dropped and the own ballot make 1024, or all settled ones and it 2^63"
+            }
             Refused::OutputShort => "the output is shorter than what is to be written",
             Refused::NoMessage => "the bytes are not a message, or a number in it is outside the limits",
             Refused::OtherOffices => "the message is from other offices, or from offices with other founding weights",
             Refused::OwnMessage => "the message is the office's own",
-            Refused::OtherLog => "neither settled log is a beginning of the other",
+            Refused::OtherLog => "the settled logs differ in the part that both still have",
             Refused::PartFull => "the own ballot has this office's part, 32 / n of the entries that are not settled yet",
             Refused::NoHouseholds => {
                 "the bytes are not household records, have a line above 63, or are more than 1000000 records"
             }
-            Refused::NoPlace => "the place is above the settled length, or more than 64 lines are named",
-            Refused::NoVector => "the bytes are not a version vector, a count of at most 1024 for each office",
+            Refused::NoPlace => {
+                "the place is above the settled length or below the dropped count, or more than 64 lines are named"
+            }
+            Refused::NoVector => "the bytes are not a version vector, a count of 8 bytes for each office",
             Refused::NoWeights => "a lowest weight exceeds its highest",
+            Refused::BeginsPast => "the message's log begins past what is settled here",
+            Refused::EndsInside => "the message's log ends inside the part that is dropped here",
         }
     }
 }
@@ -160,7 +177,7 @@ mod tests {
 
     #[test]
     fn no_other_number_is_a_refusal() {
-        for number in [0, 16, 256, u32::MAX] {
+        for number in [0, 18, 256, u32::MAX] {
             assert_eq!(Refused::from_number(number), None);
         }
     }

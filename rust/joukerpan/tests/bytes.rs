@@ -21,7 +21,7 @@ fn office() -> Office {
 fn what_is_stored_is_read_back() {
     for office in [office(), Office::found(0, &[1]).unwrap(), Office::found(7, &[65_535; 8]).unwrap()] {
         let bytes = office.to_bytes();
-        assert_eq!(bytes.len(), 1400 + 4 * office.settled().len());
+        assert_eq!(bytes.len(), 1828 + 4 * office.settled().len());
         assert_eq!(Office::from_bytes(&bytes), Ok(office));
     }
 }
@@ -37,9 +37,24 @@ fn a_full_log_is_read_back() {
 }
 
 #[test]
+fn a_folded_office_is_read_back() {
+    let mut office = Office::found(0, &[1]).unwrap();
+    for code in 0..3 * LOG as u32 {
+        office.issue(code % 64, code).unwrap();
+        office.elect();
+        if code % 1000 == 999 {
+            assert_eq!(office.fold(), 1000);
+        }
+    }
+    assert_eq!((office.settled_length(), office.dropped(), office.settled().len()), (3072, 3000, 72));
+    assert_eq!(office.to_bytes().len(), 1828 + 4 * 72);
+    assert_eq!(Office::from_bytes(&office.to_bytes()), Ok(office));
+}
+
+#[test]
 fn words_past_the_settled_ones_are_not_stored() {
     let (record, mut log) = office().into_parts();
-    log[record.settled..].fill(u32::MAX);
+    log[record.settled as usize..].fill(u32::MAX);
     assert_eq!(Office::from_parts(record, log).unwrap().to_bytes(), office().to_bytes());
 }
 

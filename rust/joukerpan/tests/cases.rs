@@ -16,7 +16,7 @@ fn words(entries: &[Entry]) -> Vec<u32> {
 /// An office with these edits settled and these ballots.
 fn office(own: usize, weights: &[u16], settled: &[Entry], ballots: &[(usize, &[Entry])]) -> Office {
     let (mut record, mut log) = Office::found(own, weights).unwrap().into_parts();
-    record.settled = settled.len();
+    record.settled = settled.len() as u64;
     log[..settled.len()].copy_from_slice(&words(settled));
     for edit in settled {
         record.summary.codes[usize::from(edit.line)] = u32::from(edit.code) + 1;
@@ -47,7 +47,7 @@ fn the_rehearsal() {
     zero.issue(5, 120).unwrap();
     one.issue(5, 130).unwrap();
     let message = zero.message();
-    assert_eq!(message.len(), 22);
+    assert_eq!(message.len(), 36);
     two.take(&message).unwrap();
     assert_eq!(two.elect(), 1);
     assert_eq!((two.settled_frame(5), two.tentative_frame(5)), (Ok(Some(120)), Ok(Some(120))));
@@ -70,7 +70,9 @@ fn a_to_h_elect() {
 fn i_a_longer_log_resets_the_own_ballot() {
     let mut one = office(1, &WEIGHTS, &[], &[(1, &[B])]);
     one.take(&office(2, &WEIGHTS, &[A], &[]).message()).unwrap();
-    assert_eq!(one, office(1, &WEIGHTS, &[A], &[]));
+    let (mut wanted, log) = office(1, &WEIGHTS, &[A], &[]).into_parts();
+    wanted.noted[2] = 1;
+    assert_eq!(one, Office::from_parts(wanted, log).unwrap());
 }
 
 #[test]
@@ -260,7 +262,7 @@ fn messages_that_are_refused() {
 #[test]
 fn parts_that_are_not_sound() {
     let sound = office(1, &WEIGHTS, &[A], &[(1, &[D])]);
-    let breaks: [fn(&mut Record); 13] = [
+    let breaks: [fn(&mut Record); 20] = [
         |record| record.n = 9,
         |record| record.own = 3,
         |record| record.weights = [0; OFFICES],
@@ -271,6 +273,13 @@ fn parts_that_are_not_sound() {
         |record| record.summary.codes[63] = 1,
         |record| record.summary.codes.swap(5, 6),
         |record| record.settled = 2,
+        |record| record.kept.summary.present.swap(0, 1),
+        |record| record.kept.summary.codes[6] = 1,
+        |record| record.kept.counts[0] = 1,
+        |record| (record.kept.dropped, record.kept.counts[0]) = (2, 2),
+        |record| record.noted[0] = 2,
+        |record| record.noted[1] = 1,
+        |record| record.noted[3] = 1,
         |record| record.ballots[2].len = 33,
         |record| record.ballots[7].len = 1,
         |record| {

@@ -30,7 +30,7 @@ fn shortest(first: &[u32], lines: &[u32]) -> usize {
 /// The answer is that of the log, for every p given.
 fn agrees(office: &Office, places: impl IntoIterator<Item = usize>, lines: &[u32]) {
     for p in places {
-        let answer = office.frame_at(p, lines).unwrap();
+        let answer = office.frame_at(p as u64, lines).unwrap();
         let first = &office.settled()[..p];
         assert_eq!(answer.edits(), edits(first, lines), "{p} {lines:?}");
         assert_eq!(answer.words(), shortest(first, lines), "{p} {lines:?}");
@@ -69,7 +69,7 @@ fn at_the_settled_length_it_is_the_settled_frame() {
     let mut dice = Dice(26);
     let office = settled(LOG, &mut dice);
     let all: Vec<u32> = (0..LINES).collect();
-    assert_eq!(office.frame_at(LOG, &all).unwrap().edits(), office.frame());
+    assert_eq!(office.frame_at(LOG as u64, &all).unwrap().edits(), office.frame());
     agrees(&office, [0, 1, 2, 511, 1023, 1024], &all);
     agrees(&office, [0, 1, 2, 511, 1023, 1024], &[5]);
 }
@@ -80,7 +80,7 @@ fn refused_in_order() {
     let office = settled(10, &mut dice);
     assert!(office.frame_at(10, &[0; 64]).is_ok());
     assert_eq!(office.frame_at(11, &[0]), Err(Refused::NoPlace));
-    assert_eq!(office.frame_at(usize::MAX, &[]), Err(Refused::NoPlace));
+    assert_eq!(office.frame_at(u64::MAX, &[]), Err(Refused::NoPlace));
     assert_eq!(office.frame_at(10, &[0; 65]), Err(Refused::NoPlace));
     assert_eq!(office.frame_at(10, &[64]), Err(Refused::NoEntry));
     assert_eq!(office.frame_at(11, &[0, u32::MAX]), Err(Refused::NoEntry)); // 3 before 13

@@ -99,15 +99,15 @@ fn an_edit_can_lose_in_the_own_offices_election() {
     assert_eq!((one.settled_frame(5), one.tentative_frame(5)), (Ok(Some(120)), Ok(Some(120))));
 }
 
-/// The words of the office's own path: the settled log, then its own ballot.
-fn own_path(office: &Office) -> Vec<u32> {
+/// The words of the office's own path from a place on, dropped or not: the settled log, then its own ballot.
+fn own_path(office: &Office, from: u64) -> Vec<u32> {
     let own = &office.record().ballots[office.own()];
-    [office.settled(), &own.cells[..own.len]].concat()
+    [&office.settled()[(from - office.dropped()) as usize..], &own.cells[..own.len]].concat()
 }
 
 /// The own edits of the path before that the path after does not begin with, place by place.
 fn lost_by_place(before: &Office, after: &Office) -> Vec<Entry> {
-    let (old, new) = (own_path(before), own_path(after));
+    let (old, new) = (own_path(before, after.dropped()), own_path(after, after.dropped()));
     let alike = old.iter().zip(&new).take_while(|(a, b)| a == b).count();
     let gone = old[alike..].iter().map(|&word| Entry::from(word));
     gone.filter(|entry| usize::from(entry.office) == before.own()).collect()
@@ -116,7 +116,7 @@ fn lost_by_place(before: &Office, after: &Office) -> Vec<Entry> {
 #[test]
 fn what_is_lost_is_what_left_the_own_path() {
     let mut dice = Dice(15);
-    let (mut settled, mut gone) = (0, 0);
+    let (mut settled, mut gone, mut dropped) = (0, 0, 0);
     for _ in 0..200 {
         let weights: Vec<u16> = (0..2 + dice.below(4)).map(|_| 1 + dice.below(9) as u16).collect();
         let n = weights.len();
@@ -134,12 +134,15 @@ fn what_is_lost_is_what_left_the_own_path() {
             }
             let before = office.clone();
             let taken = office.take(&sent[dice.below(sent.len())]);
-            assert!(matches!(taken, Ok(()) | Err(Refused::OwnMessage)));
+            assert!(matches!(taken, Ok(()) | Err(Refused::OwnMessage | Refused::EndsInside)));
             settled += office.elect();
             assert_eq!(lost(&before, office), lost_by_place(&before, office));
             gone += lost(&before, office).len();
+            if dice.below(4) == 0 {
+                dropped += office.fold();
+            }
             sent.push(office.message());
         }
     }
-    assert!(settled > 1000 && gone > 1000, "{settled} {gone}");
+    assert!(settled > 1000 && gone > 1000 && dropped > 100, "{settled} {gone} {dropped}");
 }

@@ -18,7 +18,7 @@ fn office(weights: &[u16], votes: &[Option<Entry>], settled: &[Entry]) -> Office
         *word = entry.value();
         record.summary.codes[usize::from(entry.line)] = u32::from(entry.code) + 1;
     }
-    record.settled = settled.len();
+    record.settled = settled.len() as u64;
     for (ballot, entry) in record.ballots.iter_mut().zip(votes) {
         if let Some(entry) = entry {
             ballot.len = 1;

@@ -18,16 +18,16 @@ fn versions(office: &Office) -> Vec<Vec<u32>> {
 }
 
 /// "A count of entries per office."
-fn counts(version: &[u32], offices: usize) -> Vec<u32> {
-    (0..offices as u32).map(|office| version.iter().filter(|&&word| word >> 24 == office).count() as u32).collect()
+fn counts(version: &[u32], offices: usize) -> Vec<u64> {
+    (0..offices as u32).map(|office| version.iter().filter(|&&word| word >> 24 == office).count() as u64).collect()
 }
 
-fn bytes(counts: &[u32]) -> Vec<u8> {
+fn bytes(counts: &[u64]) -> Vec<u8> {
     counts.iter().flat_map(|count| count.to_be_bytes()).collect()
 }
 
 /// "Whether by counts it comes before, equals, comes after or stands beside that vector."
-fn standing(counts: &[u32], vector: &[u32]) -> Standing {
+fn standing(counts: &[u64], vector: &[u64]) -> Standing {
     let orders: Vec<Ordering> = counts.iter().zip(vector).map(|(count, other)| count.cmp(other)).collect();
     match (orders.contains(&Ordering::Less), orders.contains(&Ordering::Greater)) {
         (true, false) => Standing::Before,
@@ -67,7 +67,7 @@ fn vectors_and_standings() {
         for office in world(&mut dice) {
             let n = office.offices();
             let versions = versions(&office);
-            let vectors: Vec<Vec<u32>> = versions.iter().map(|version| counts(version, n)).collect();
+            let vectors: Vec<Vec<u64>> = versions.iter().map(|version| counts(version, n)).collect();
             assert_eq!(office.vectors(), vectors.iter().flat_map(|vector| bytes(vector)).collect::<Vec<u8>>());
             for (at, written) in office.vectors().chunks(COUNT * n).enumerate() {
                 let answers = all(&office.compare(written).unwrap());
@@ -78,8 +78,8 @@ fn vectors_and_standings() {
                     assert_eq!(begins, matches!(answer, Standing::Before | Standing::Equal), "counts decide");
                 }
             }
-            let most = [4, 1025][dice.below(2)];
-            let other: Vec<u32> = (0..n).map(|_| dice.below(most) as u32).collect();
+            let most = [4, 1025, usize::MAX][dice.below(3)];
+            let other: Vec<u64> = (0..n).map(|_| dice.below(most) as u64).collect();
             let answers = all(&office.compare(&bytes(&other)).unwrap());
             assert_eq!(answers, vectors.iter().map(|vector| standing(vector, &other)).collect::<Vec<_>>());
         }
@@ -111,26 +111,16 @@ fn a_short_output_keeps_its_contents() {
 fn other_bytes_are_no_vector() {
     for n in 1..=8 {
         let office = Office::found(0, &vec![1; n]).unwrap();
-        let longest = bytes(&vec![1024; n + 2]);
+        let longest = bytes(&vec![u64::MAX; n + 2]);
         for length in 0..longest.len() {
             assert_eq!(office.compare(&longest[..length]).is_ok(), length == COUNT * n);
         }
         for at in 0..COUNT * n {
             for value in 0..=255 {
-                let mut damaged = bytes(&vec![0; n]);
-                damaged[at] = value;
-                let fine = match at % COUNT {
-                    0 | 1 => value == 0,
-                    2 => value <= 4,
-                    _ => true,
-                };
-                assert_eq!(office.compare(&damaged).err(), (!fine).then_some(Refused::NoVector));
-                damaged[at / COUNT * COUNT + 2] = 4;
-                let fine = match at % COUNT {
-                    2 => true,
-                    _ => value == 0,
-                };
-                assert_eq!(office.compare(&damaged).is_ok(), fine);
+                let mut other = bytes(&vec![0; n]); // any counts do, and each byte is looked at
+                other[at] = value;
+                let wanted = if value == 0 { Standing::Equal } else { Standing::Before };
+                assert_eq!(office.compare(&other).unwrap().log, wanted);
             }
         }
     }

@@ -3,7 +3,7 @@
 use crate::record::*;
 
 /// Bytes of a count.
-const COUNT_SIZE: usize = 4;
+pub const COUNT_SIZE: usize = 8;
 
 /// The settled log and the paths of all offices there can be.
 pub const PATHS: usize = 1 + OFFICES;
@@ -22,7 +22,7 @@ pub enum Standing {
 }
 
 /// A count of entries for each office.
-type Counts = [u32; OFFICES];
+type Counts = [u64; OFFICES];
 
 /// The counts with those of these entries added.
 fn counted(mut counts: Counts, entries: &[u32]) -> Counts {
@@ -30,9 +30,9 @@ fn counted(mut counts: Counts, entries: &[u32]) -> Counts {
     counts
 }
 
-/// The counts of the settled log of a sound record, and then of each office's path.
+/// The counts of the settled log of a sound record, and then of each office's path, dropped entries included.
 fn all_counts(record: &Record, log: &[u32]) -> impl Iterator<Item = Counts> {
-    let settled = counted([0; OFFICES], &log[..record.settled]);
+    let settled = counted(record.kept.counts, &log[..record.held()]);
     let (n, ballots) = (record.n, record.ballots);
     std::iter::once(settled).chain((0..n).map(move |office| counted(settled, ballots[office].tail())))
 }
@@ -78,9 +78,9 @@ fn read_vector(bytes: &[u8], n: usize) -> Option<Counts> {
     }
     let mut vector = [0; OFFICES];
     for (count, &place) in vector.iter_mut().zip(places) {
-        *count = u32::from_be_bytes(place);
+        *count = u64::from_be_bytes(place);
     }
-    vector.iter().all(|&count| count <= LOG as u32).then_some(vector)
+    Some(vector)
 }
 
 /// How the counts stand to the vector.

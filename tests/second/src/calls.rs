@@ -10,7 +10,7 @@ pub fn found(n: usize, own: usize, weights: [u16; OFFICES], log: &[u32]) -> (u32
     if !within_limits(n, own, &weights) {
         return (LIMITS, Record::ZERO);
     }
-    (DONE, Record { n, own, weights, present: weights, ..Record::ZERO })
+    (DONE, Record { n, own, weights, kept: Kept::nothing(weights), present: weights, ..Record::ZERO })
 }
 
 /// The record with the entry appended to the office's own ballot. An office that is below its part always finds room in
@@ -22,8 +22,8 @@ pub fn issue(mut record: Record, log: &[u32], line: u32, code: u32) -> (u32, Rec
     if !proper(line, code, record.n) {
         return (NO_ENTRY, record);
     }
-    let ballot = &mut record.ballots[record.own];
-    if record.settled + ballot.len == LOG {
+    let (held, ballot) = (record.held(), &mut record.ballots[record.own]);
+    if held + ballot.len == LOG || record.settled + ballot.len as u64 == LENGTH {
         return (LOG_FULL, record);
     }
     if ballot.tail().iter().filter(|&&word| office_of(word) == record.own).count() == part(record.n) {
@@ -34,15 +34,15 @@ pub fn issue(mut record: Record, log: &[u32], line: u32, code: u32) -> (u32, Rec
     (DONE, record)
 }
 
-/// The settled part of the log.
+/// The settled part of the log: the entries that are not dropped.
 pub fn settled<'a>(record: &Record, log: &'a [u32]) -> (u32, &'a [u32]) {
     if !sound(record, log) {
         return (UNSOUND, &[]);
     }
-    (DONE, &log[..record.settled])
+    (DONE, &log[..record.held()])
 }
 
-/// The stored code of the last entry for each line in the settled log.
+/// The stored code of the last settled entry for each line, dropped ones included.
 pub fn settled_codes(record: &Record, log: &[u32]) -> (u32, Codes) {
     if !sound(record, log) {
         return (UNSOUND, Record::ZERO.codes);
@@ -50,7 +50,7 @@ pub fn settled_codes(record: &Record, log: &[u32]) -> (u32, Codes) {
     (DONE, record.codes)
 }
 
-/// The code of the last entry for the line in the settled log; nothing for no edit yet.
+/// The code of the last settled entry for the line, dropped ones included; nothing for no edit yet.
 pub fn settled_frame(record: &Record, log: &[u32], line: u32) -> (u32, Option<u32>) {
     if !sound(record, log) {
         return (UNSOUND, None);

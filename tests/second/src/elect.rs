@@ -4,13 +4,15 @@ use crate::record::*;
 
 /// What the ballots of a sound record say.
 pub(crate) struct Tally<'a> {
+    /// How many of the dropped entries each office issued.
+    dropped: [u64; OFFICES],
     /// First tail entry of each office's ballot; nothing for an office with no ballot.
     first: [Option<u32>; OFFICES],
     /// T of that entry.
     support: [u32; OFFICES],
     /// U: weight of the offices with no ballot.
     unheard: u32,
-    /// The settled log, which decides between level entries.
+    /// The settled entries that are not dropped. They and the dropped ones decide between level entries.
     settled: &'a [u32],
 }
 
@@ -22,7 +24,8 @@ impl<'a> Tally<'a> {
 
     /// The tally of a sound record with this settled log, by these weights.
     pub(crate) fn by(weights: &[u16; OFFICES], record: &Record, settled: &'a [u32]) -> Tally<'a> {
-        let mut tally = Tally { first: [None; OFFICES], support: [0; OFFICES], unheard: 0, settled };
+        let dropped = record.kept.counts;
+        let mut tally = Tally { dropped, first: [None; OFFICES], support: [0; OFFICES], unheard: 0, settled };
         for (office, ballot) in record.ballots[..record.n].iter().enumerate() {
             tally.first[office] = ballot.tail().first().copied();
         }
@@ -45,10 +48,10 @@ impl<'a> Tally<'a> {
         self.first.iter().zip(&self.support).filter_map(|(first, &support)| Some(((*first)?, support)))
     }
 
-    /// What decides between level entries, the lower first: the entries of its office in the settled log, then its value.
-    fn rank(&self, e: u32) -> (usize, u32) {
+    /// What decides between level entries, the lower first: the settled entries of its office, then its value.
+    fn rank(&self, e: u32) -> (u64, u32) {
         let entries = self.settled.iter().filter(|&&word| word >> 24 == e >> 24).count();
-        (entries, e)
+        (self.dropped[office_of(e)] + entries as u64, e)
     }
 
     /// Whether an entry e with this T wins.
@@ -75,7 +78,7 @@ impl<'a> Tally<'a> {
 /// Writes the winner to the log of a sound record, and moves the weight or stores the code that it has; ballots that
 /// start with it lose it, all others become none.
 fn settle(record: &mut Record, log: &mut [u32], winner: u32) {
-    log[record.settled] = winner;
+    log[record.held()] = winner;
     record.settled += 1;
     move_weight(&mut record.present, winner);
     set_code(&mut record.codes, winner);
@@ -90,7 +93,7 @@ fn settle(record: &mut Record, log: &mut [u32], winner: u32) {
 
 /// One step of a sound record: whether an entry won and was settled.
 pub(crate) fn step(record: &mut Record, log: &mut [u32]) -> bool {
-    let Some(winner) = Tally::of(record, &log[..record.settled]).winner() else {
+    let Some(winner) = Tally::of(record, &log[..record.held()]).winner() else {
         return false;
     };
     settle(record, log, winner);

@@ -12,7 +12,7 @@ pub fn forecast(record: &Record, log: &[u32], lowest: [u16; OFFICES], highest: [
     if lowest.iter().zip(&highest).take(record.n).any(|(low, high)| low > high) {
         return (NO_BOUNDS, None);
     }
-    let settled = &log[..record.settled];
+    let settled = &log[..record.held()];
     let first = record.ballots.map(|ballot| ballot.tail().first().copied());
     let always = |&e: &u32| {
         // The worst choice for e: its supporters have their lowest weight, all others their highest.

@@ -73,7 +73,7 @@ impl Script {
 
     /// Settled length of an office.
     pub(crate) fn settled(&self, office: usize) -> usize {
-        self.world.offices.get(office).map_or(0, |office| office.record.settled)
+        self.world.offices.get(office).map_or(0, |office| office.record.settled as usize)
     }
 
     /// Present weights as an office knows them.
@@ -83,7 +83,7 @@ impl Script {
 }
 
 /// Weights of n offices: level, uneven, with a heavy one, with zeros, as large as can be or nearly so.
-pub(crate) fn weights(random: &mut Random, n: usize) -> Vec<usize> {
+pub fn weights(random: &mut Random, n: usize) -> Vec<usize> {
     let n = n.clamp(1, OFFICES);
     let level = random.within(1, 60);
     let heavy = random.below(n);

@@ -10,6 +10,7 @@ pub mod archive;
 pub mod calls;
 pub mod earlier;
 pub mod elect;
+pub mod fold;
 pub mod forecast;
 pub mod generate;
 pub mod lines;

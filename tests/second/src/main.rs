@@ -19,7 +19,7 @@ const USAGE: &str = "usage:
   second survey < SCRIPT                    count what it shows
   second trial < SCRIPT                     answer a trial script
   second generate-trials KIND SEED COUNT    write one: boundaries elections takes damaged random sheets earlier
-                                            vectors forecasts
+                                            vectors forecasts folds
   second tables < WEIGHTS                   print every small ballot table with what is elected from it
   second generate-tables SEED               write weights, now and then something else
   second shrink rehearse|trial FILE PROGRAM ARGUMENT…

@@ -11,7 +11,7 @@ const END: [u8; 2] = [0x45, 0x4E];
 const SETTLED_SIZE: usize = 6;
 
 /// Bytes of the longest message.
-pub const LONGEST: usize = 7032;
+pub const LONGEST: usize = 7046;
 
 /// A message of the layout whose numbers are all within the limits.
 pub struct Message<'a> {
@@ -21,26 +21,25 @@ pub struct Message<'a> {
     pub n: usize,
     /// Weight of each office at the founding, zero from place n on.
     pub weights: [u16; OFFICES],
-    /// Settled entries as they stand in the message, marks included.
-    settled: &'a [u8],
+    /// Settled entries that its sender had dropped.
+    pub dropped: u64,
+    /// The other settled entries as they stand in the message, marks included.
+    entries: &'a [u8],
     /// Each office's tail as it stands in the message; empty where there is none.
     tails: [&'a [u8]; OFFICES],
 }
 
 impl<'a> Message<'a> {
-    /// The settled length.
-    pub fn settled(&self) -> usize {
-        self.settled.len() / SETTLED_SIZE
+    /// The settled length, dropped entries included.
+    pub fn settled(&self) -> u64 {
+        self.dropped + (self.entries.len() / SETTLED_SIZE) as u64
     }
 
-    /// The settled log.
-    pub fn log(&self) -> impl ExactSizeIterator<Item = u32> + 'a {
-        self.settled.chunks_exact(SETTLED_SIZE).map(|part| word(&part[2..]))
-    }
-
-    /// The first settled entries, so many of them, from the last of these back to the first.
-    pub fn log_back(&self, count: usize) -> impl Iterator<Item = u32> + 'a {
-        self.settled[..SETTLED_SIZE * count].rchunks_exact(SETTLED_SIZE).map(|part| word(&part[2..]))
+    /// The settled entries from one place to before another, places that the message still has; the first place is 0,
+    /// dropped or not.
+    pub fn entries(&self, from: u64, to: u64) -> impl DoubleEndedIterator<Item = u32> + 'a {
+        let [from, to] = [from, to].map(|place| SETTLED_SIZE * (place - self.dropped) as usize);
+        self.entries[from..to].chunks_exact(SETTLED_SIZE).map(|part| word(&part[2..]))
     }
 
     /// An office's tail; empty where the message has no ballot of it.
@@ -74,7 +73,7 @@ pub fn read(bytes: &[u8]) -> Option<Message<'_>> {
     }
 }
 
-/// The message with its head and settled log read, and the bytes after them.
+/// The message with its head and settled entries read, and the bytes after them.
 fn read_head(bytes: &[u8]) -> Option<(Message<'_>, &[u8])> {
     let (&[a, b, sender, n], rest) = bytes.split_first_chunk::<4>()?;
     let (sender, n) = (usize::from(sender), usize::from(n));
@@ -86,24 +85,23 @@ fn read_head(bytes: &[u8]) -> Option<(Message<'_>, &[u8])> {
     for (weight, pair) in weights.iter_mut().zip(given.chunks_exact(2)) {
         *weight = u16::from_be_bytes([pair[0], pair[1]]);
     }
-    let (&length, rest) = rest.split_first_chunk::<2>()?;
-    let length = usize::from(u16::from_be_bytes(length));
-    if length > LOG {
-        return None;
-    }
-    let (settled, rest) = rest.split_at_checked(SETTLED_SIZE * length)?;
+    let (&settled, rest) = rest.split_first_chunk()?;
+    let (&dropped, rest) = rest.split_first_chunk()?;
+    let (settled, dropped) = (u64::from_be_bytes(settled), u64::from_be_bytes(dropped));
+    tail_limit(settled, dropped)?;
+    let (entries, rest) = rest.split_at_checked(SETTLED_SIZE * (settled - dropped) as usize)?;
     let proper = |part: &[u8]| part[..2] == SETTLED && is_entry(word(&part[2..]), n);
-    if !settled.chunks_exact(SETTLED_SIZE).all(proper) {
+    if !entries.chunks_exact(SETTLED_SIZE).all(proper) {
         return None;
     }
-    Some((Message { sender, n, weights, settled, tails: [&[]; OFFICES] }, rest))
+    Some((Message { sender, n, weights, dropped, entries, tails: [&[]; OFFICES] }, rest))
 }
 
 /// Reads one ballot of an office at or after `next`, and answers the bytes after it.
 fn read_ballot<'a>(message: &mut Message<'a>, next: &mut usize, bytes: &'a [u8]) -> Option<&'a [u8]> {
     let (&[office, length], rest) = bytes.split_first_chunk::<2>()?;
     let (office, length) = (usize::from(office), usize::from(length));
-    let limit = TAIL.min(LOG - message.settled());
+    let limit = tail_limit(message.settled(), message.dropped)?;
     if office < *next || office >= message.n || !(1..=limit).contains(&length) {
         return None;
     }
@@ -120,7 +118,7 @@ fn read_ballot<'a>(message: &mut Message<'a>, next: &mut usize, bytes: &'a [u8])
 pub(crate) fn length(record: &Record) -> usize {
     let ballots = record.ballots[..record.n].iter().filter(|ballot| ballot.len > 0);
     let ballots: usize = ballots.map(|ballot| 4 + 4 * ballot.len).sum();
-    6 + 2 * record.n + SETTLED_SIZE * record.settled + ballots + 2
+    4 + 2 * record.n + 16 + SETTLED_SIZE * record.held() + ballots + 2
 }
 
 /// Writes the office's message and answers its length; later bytes of the output keep their contents.
@@ -132,18 +130,20 @@ pub fn send(record: &Record, log: &[u32], output: &mut [u8]) -> (u32, usize) {
     let Some(output) = output.get_mut(..length) else {
         return (OUTPUT_SHORT, 0);
     };
-    write(record, &log[..record.settled], output);
+    write(record, &log[..record.held()], output);
     (DONE, length)
 }
 
-/// Writes the message of such a record into an output of exactly its length.
+/// Writes the message of such a record, whose settled entries but the dropped ones are these, into an output of exactly
+/// its length.
 pub(crate) fn write(record: &Record, settled: &[u32], output: &mut [u8]) {
     let rest = put(output, &HEAD);
     let mut rest = put(rest, &[record.own as u8, record.n as u8]);
     for weight in &record.weights[..record.n] {
         rest = put(rest, &weight.to_be_bytes());
     }
-    let rest = put(rest, &(record.settled as u16).to_be_bytes());
+    let rest = put(rest, &record.settled.to_be_bytes());
+    let rest = put(rest, &record.kept.dropped.to_be_bytes());
     let (entries, mut rest) = rest.split_at_mut(SETTLED_SIZE * settled.len());
     for (part, value) in entries.chunks_exact_mut(SETTLED_SIZE).zip(settled) {
         part[..2].copy_from_slice(&SETTLED);

@@ -8,8 +8,10 @@ pub const TAIL: usize = 32;
 pub const LINES: u32 = 64;
 /// Codes of a line: 0 to 9999. Weight of a move: 1 to 9999.
 pub const CODES: u32 = 10_000;
-/// Longest settled log, and fewest words of a lent log.
+/// Most settled entries that are not dropped, with a tail, and fewest words of a lent log.
 pub const LOG: usize = 1024;
+/// Most settled entries, dropped ones included, with a tail.
+pub const LENGTH: u64 = 1 << 63;
 
 /// Words that are looked through together.
 const PIECE: usize = 64;
@@ -22,9 +24,9 @@ pub const UNSOUND: u32 = 1;
 pub const LIMITS: u32 = 2;
 /// Line or code outside the limits.
 pub const NO_ENTRY: u32 = 3;
-/// Settled length and own tail length make 1024.
+/// The entries that are not dropped make 1024 with the own tail, or the settled ones 2^63.
 pub const LOG_FULL: u32 = 5;
-/// The output is shorter than the message.
+/// The output is shorter than what is to be written.
 pub const OUTPUT_SHORT: u32 = 6;
 /// The message is not of the layout, or holds a number outside the limits.
 pub const NO_MESSAGE: u32 = 7;
@@ -32,18 +34,22 @@ pub const NO_MESSAGE: u32 = 7;
 pub const OTHER_WEIGHTS: u32 = 8;
 /// The sender is the receiver's own office.
 pub const OWN_MESSAGE: u32 = 9;
-/// Neither settled log is a beginning of the other.
+/// The settled logs differ in the part that both still have.
 pub const LOGS_PART: u32 = 10;
 /// The own office has its part in its own tail.
 pub const PART_FULL: u32 = 11;
 /// The households are not of the layout, have a line above 63, or are too many.
 pub const NO_HOUSEHOLDS: u32 = 12;
-/// The place is past the settled length, or more than 64 lines are named.
+/// The place is past the settled length or inside the dropped part, or more than 64 lines are named.
 pub const NO_PLACE: u32 = 13;
-/// The vector has not exactly n counts of at most 1024.
+/// The vector has not exactly n counts.
 pub const NO_VECTOR: u32 = 14;
 /// A lowest weight is above its highest.
 pub const NO_BOUNDS: u32 = 15;
+/// The message's log begins past the receiver's length.
+pub const BEGINS_PAST: u32 = 16;
+/// The message's log ends inside the receiver's dropped part.
+pub const ENDS_INSIDE: u32 = 17;
 
 /// A tail of entries; length 0 means none, or unknown. Unused cells are zero.
 #[repr(C)]
@@ -58,6 +64,20 @@ pub struct Ballot {
 /// A stored code for each line of the frame: 0 for no edit yet, one more than the code otherwise.
 pub type Codes = [u32; LINES as usize];
 
+/// What is kept of the settled entries that are no longer in the log.
+#[repr(C)]
+#[derive(Clone, Copy, Debug, PartialEq, Eq)]
+pub struct Kept {
+    /// How many they are.
+    pub dropped: u64,
+    /// Weight of each office after their moves.
+    pub present: [u16; OFFICES],
+    /// Stored code of the last of them for each line.
+    pub codes: Codes,
+    /// How many of them each office issued.
+    pub counts: [u64; OFFICES],
+}
+
 /// What one office knows, apart from its log.
 #[repr(C)]
 #[derive(Clone, Copy, Debug, PartialEq, Eq)]
@@ -68,12 +88,16 @@ pub struct Record {
     pub own: usize,
     /// Weight of each office at the founding, zero from place n on.
     pub weights: [u16; OFFICES],
-    /// Weight of each office after the moves of the settled log.
+    /// What is kept of the dropped entries.
+    pub kept: Kept,
+    /// Longest settled length in accepted messages of each other office.
+    pub noted: [u64; OFFICES],
+    /// Weight of each office after the moves of all settled entries.
     pub present: [u16; OFFICES],
-    /// Stored code of the last entry for each line in the settled log.
+    /// Stored code of the last settled entry for each line.
     pub codes: Codes,
-    /// Settled words of the log.
-    pub settled: usize,
+    /// Settled entries, dropped ones included.
+    pub settled: u64,
     /// Last known ballot of each office, none from place n on.
     pub ballots: [Ballot; OFFICES],
 }
@@ -102,17 +126,31 @@ impl Ballot {
     }
 }
 
+impl Kept {
+    /// What is kept while nothing is dropped, of offices founded with these weights.
+    pub const fn nothing(weights: [u16; OFFICES]) -> Kept {
+        Kept { dropped: 0, present: weights, codes: [0; LINES as usize], counts: [0; OFFICES] }
+    }
+}
+
 impl Record {
     /// The record that a refused founding answers.
     pub const ZERO: Record = Record {
         n: 0,
         own: 0,
         weights: [0; OFFICES],
+        kept: Kept::nothing([0; OFFICES]),
+        noted: [0; OFFICES],
         present: [0; OFFICES],
         codes: [0; LINES as usize],
         settled: 0,
         ballots: [Ballot::NONE; OFFICES],
     };
+
+    /// Settled words at the front of the log: the entries that are not dropped.
+    pub fn held(&self) -> usize {
+        self.settled.saturating_sub(self.kept.dropped) as usize
+    }
 }
 
 /// The value of an entry whose numbers are within the limits.
@@ -225,6 +263,37 @@ pub(crate) fn within_limits(n: usize, own: usize, weights: &[u16; OFFICES]) -> b
         && weights[..n].iter().any(|&weight| weight != 0)
 }
 
+/// Most entries of a tail behind so many settled entries, of which so many are dropped; nothing if these themselves are
+/// outside the limits.
+pub(crate) fn tail_limit(settled: u64, dropped: u64) -> Option<usize> {
+    let held = settled.checked_sub(dropped)?;
+    let room = (LOG as u64).checked_sub(held)?.min(LENGTH.checked_sub(settled)?);
+    Some(room.min(TAIL as u64) as usize)
+}
+
+/// The sum of the weights.
+fn total(weights: &[u16; OFFICES]) -> u32 {
+    weights.iter().map(|&weight| u32::from(weight)).sum()
+}
+
+/// Whether what is kept of the dropped entries is within the limits. Which entries they were nobody knows any more, so
+/// nothing else can be asked of it, unless there are none.
+fn sound_kept(kept: &Kept, n: usize, weights: &[u16; OFFICES]) -> bool {
+    let sum = kept.counts.iter().try_fold(0_u64, |sum, &count| sum.checked_add(count));
+    kept.counts[n..].iter().all(|&count| count == 0)
+        && sum == Some(kept.dropped)
+        && kept.present[n..].iter().all(|&weight| weight == 0)
+        && total(&kept.present) == total(weights)
+        && kept.codes.iter().fold(true, |good, &number| good & (number <= CODES))
+        && (kept.dropped > 0 || *kept == Kept::nothing(*weights))
+}
+
+/// Whether no noted length passes the record's own, and only the other offices have one.
+fn sound_noted(record: &Record) -> bool {
+    let other = |office: usize| office != record.own && office < record.n;
+    record.noted.iter().enumerate().all(|(office, &noted)| noted <= if other(office) { record.settled } else { 0 })
+}
+
 /// Whether the ballot is a tail of at most `limit` entries, none of n offices with more than its part, with zeros after it.
 fn sound_ballot(ballot: &Ballot, n: usize, limit: usize) -> bool {
     ballot.len <= limit
@@ -235,17 +304,20 @@ fn sound_ballot(ballot: &Ballot, n: usize, limit: usize) -> bool {
 
 /// Whether the record with its log is sound.
 pub fn sound(record: &Record, log: &[u32]) -> bool {
-    if log.len() < LOG
-        || !within_limits(record.n, record.own, &record.weights)
-        || record.settled > LOG
-        || !all_entries(&log[..record.settled], record.n)
-        || record.present != weights_after(record.weights, &log[..record.settled])
-        || record.codes != codes_after(&Record::ZERO.codes, &log[..record.settled])
+    let Record { n, own, weights, kept, .. } = record;
+    if log.len() < LOG || !within_limits(*n, *own, weights) || !sound_kept(kept, *n, weights) || !sound_noted(record) {
+        return false;
+    }
+    let Some(limit) = tail_limit(record.settled, kept.dropped) else {
+        return false;
+    };
+    let entries = &log[..record.held()];
+    if !all_entries(entries, *n)
+        || record.present != weights_after(kept.present, entries)
+        || record.codes != codes_after(&kept.codes, entries)
     {
         return false;
     }
-    let limit = TAIL.min(LOG - record.settled);
-    let (known, past) = record.ballots.split_at(record.n);
-    known.iter().all(|ballot| sound_ballot(ballot, record.n, limit))
-        && past.iter().all(|ballot| sound_ballot(ballot, record.n, 0))
+    let (known, past) = record.ballots.split_at(*n);
+    known.iter().all(|ballot| sound_ballot(ballot, *n, limit)) && past.iter().all(|ballot| sound_ballot(ballot, *n, 0))
 }

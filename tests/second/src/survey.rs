@@ -8,7 +8,7 @@ use crate::lines::each_line;
 use crate::message::read;
 use crate::record::{is_move, office_of, part, Ballot, Record, DONE, LOG_FULL, OFFICES, PART_FULL};
 use crate::rehearsal::{Command, Office, World, SLOTS};
-use crate::take::{adopt_all, grow, refusal};
+use crate::take::{adopt_all, drop_too, grow, refusal};
 
 /// Who sent the message in a slot, and who has taken it.
 #[derive(Clone, Copy)]
@@ -92,7 +92,7 @@ impl Survey {
             self.add("message lost", 1);
         }
         let record = self.world.offices[k].record;
-        self.most("longest log sent", record.settled);
+        self.most("longest log sent", record.settled as usize);
         self.sent[m] = Some(Sent { sender: k, record, taken: [false; OFFICES] });
     }
 
@@ -107,6 +107,7 @@ impl Survey {
         if refusal(&record, &log, &message).0 != DONE {
             return;
         }
+        drop_too(&mut record, &mut log, &message);
         let before = record;
         grow(&mut record, &mut log, &message);
         let grown = record;
@@ -163,7 +164,7 @@ impl Survey {
         };
         let Office { mut record, mut log } = *office;
         let (mut count, first) = (0, record);
-        while let Some(winner) = Tally::of(&record, &log[..record.settled]).winner() {
+        while let Some(winner) = Tally::of(&record, &log[..record.held()]).winner() {
             self.count_win(&record, &log, winner, &first);
             let before = record.present;
             step(&mut record, &mut log);
@@ -174,7 +175,7 @@ impl Survey {
             }
         }
         self.add("entry settled by an election", count);
-        self.most("longest log", record.settled);
+        self.most("longest log", record.settled as usize);
         if count > 1 {
             self.add("election of two or more entries", 1);
         }
@@ -191,7 +192,7 @@ impl Survey {
         if voted().count() < record.n {
             self.add("win with offices unheard", 1);
         }
-        let (settled, began) = (&log[..record.settled], &log[..first.settled]);
+        let (settled, began) = (&log[..record.held()], &log[..first.held()]);
         let under = |present| Record { present, ..*record };
         let otherwise = |record: &Record, settled| Tally::of(record, settled).winner() != Some(winner);
         for (name, shown) in [

@@ -6,10 +6,11 @@ use crate::archive::{compare_vector, write_vectors};
 use crate::calls::{found, issue, settled, settled_codes, settled_frame, tentative_frame};
 use crate::earlier::earlier;
 use crate::elect::elect;
+use crate::fold::fold;
 use crate::forecast::forecast;
 use crate::lines::{each_line, letter_and_numbers};
 use crate::message::send;
-use crate::record::{sound, stored, Ballot, Record, OFFICES, TAIL};
+use crate::record::{sound, stored, Ballot, Kept, Record, OFFICES, TAIL};
 use crate::rehearsal::push_number;
 use crate::sheet::sheet;
 use crate::take::take;
@@ -34,15 +35,15 @@ impl Digest {
         self.0 = (self.0 * 1_000_003 + number % Digest::PRIME + 1) % Digest::PRIME;
     }
 
-    fn add_words(&mut self, words: &[u32]) {
-        for &word in words {
-            self.add(u64::from(word));
+    fn add_all<T: Copy + Into<u64>>(&mut self, numbers: &[T]) {
+        for &number in numbers {
+            self.add(number.into());
         }
     }
 
     fn of(words: &[u32]) -> u64 {
         let mut digest = Digest::default();
-        digest.add_words(words);
+        digest.add_all(words);
         digest.0
     }
 }
@@ -117,6 +118,11 @@ impl State {
             (b'r', 11) => self.set_record(values)?,
             (b'p', 8) => self.record.present = weights(values)?,
             (b'k', 2..) => overwrite(&mut self.record.codes, values[0], &words(&values[1..])?)?,
+            (b'f', 1) => self.record.kept.dropped = values[0],
+            (b'q', 8) => self.record.kept.present = weights(values)?,
+            (b'j', 2..) => overwrite(&mut self.record.kept.codes, values[0], &words(&values[1..])?)?,
+            (b't', 2..) => overwrite(&mut self.record.kept.counts, values[0], &values[1..])?,
+            (b'n', 2..) => overwrite(&mut self.record.noted, values[0], &values[1..])?,
             (b'b', 2) => {
                 let ballot = self.record.ballots.get_mut(length(values, 0, OFFICES - 1)?)?;
                 *ballot = Ballot { len: values[1] as usize, cells: [0; TAIL] };
@@ -141,11 +147,12 @@ impl State {
         Some(())
     }
 
-    /// Sets all of the record but its stored codes and ballots; the present weights are those of the founding.
+    /// Sets n, own office, weights and settled length; the kept and the present weights are those of the founding.
     fn set_record(&mut self, values: &[u64]) -> Option<()> {
         let weights = weights(&values[2..10])?;
-        let (n, own, settled) = (values[0] as usize, values[1] as usize, values[10] as usize);
-        self.record = Record { n, own, weights, present: weights, settled, ..self.record };
+        let (n, own, settled) = (values[0] as usize, values[1] as usize, values[10]);
+        let kept = Kept { present: weights, ..self.record.kept };
+        self.record = Record { n, own, weights, kept, present: weights, settled, ..self.record };
         Some(())
     }
 
@@ -182,6 +189,11 @@ impl State {
                 self.record = record;
                 vec![number.into(), count as u64]
             }
+            (b'D', 0) => {
+                let (number, count, record) = fold(self.record, &mut self.log);
+                self.record = record;
+                vec![number.into(), count]
+            }
             (b'S', 0) => {
                 let (number, length) = send(&self.record, &self.log, &mut self.output);
                 vec![number.into(), length as u64]
@@ -200,7 +212,7 @@ impl State {
     fn further_call(&mut self, letter: u8, values: &[u64]) -> Option<Vec<u64>> {
         let answers = match (letter, values.len()) {
             (b'H', 0) => self.sheet(),
-            (b'Q', 1) => self.earlier(values[0] as usize),
+            (b'Q', 1) => self.earlier(values[0]),
             (b'W', 0) => {
                 let (number, length) = write_vectors(&self.record, &self.log, &mut self.output);
                 vec![number.into(), length as u64]
@@ -246,7 +258,7 @@ impl State {
     }
 
     /// The lines that the message's bytes name as of place p: number, words read, and the digest of the 64 answers.
-    fn earlier(&self, p: usize) -> Vec<u64> {
+    fn earlier(&self, p: u64) -> Vec<u64> {
         let lines: Vec<u32> = self.message.iter().map(|&line| line.into()).collect();
         let (number, words, codes) = earlier(&self.record, &self.log, p, &lines);
         vec![number.into(), words as u64, Digest::of(&codes)]
@@ -260,25 +272,27 @@ impl State {
 
     /// The digest of the record, the log and the output.
     pub fn digest(&self) -> u64 {
-        let Record { n, own, weights, present, codes, settled, ballots } = &self.record;
+        let Record { n, own, weights, kept, noted, present, codes, settled, ballots } = &self.record;
         let mut digest = Digest::default();
         digest.add(*n as u64);
         digest.add(*own as u64);
-        for &weight in weights.iter().chain(present) {
-            digest.add(weight.into());
-        }
-        digest.add(*settled as u64);
-        digest.add_words(codes);
+        digest.add_all(weights);
+        digest.add_all(present);
+        digest.add(*settled);
+        digest.add_all(codes);
+        digest.add(kept.dropped);
+        digest.add_all(&kept.present);
+        digest.add_all(&kept.codes);
+        digest.add_all(&kept.counts);
+        digest.add_all(noted);
         for ballot in ballots {
             digest.add(ballot.len as u64);
-            digest.add_words(&ballot.cells);
+            digest.add_all(&ballot.cells);
         }
         digest.add(self.log.len() as u64);
-        digest.add_words(&self.log);
+        digest.add_all(&self.log);
         digest.add(self.output.len() as u64);
-        for &byte in &self.output {
-            digest.add(byte.into());
-        }
+        digest.add_all(&self.output);
         digest.0
     }
 }

@@ -1,6 +1,6 @@
 //! Trial scripts: boundaries worked from document 01, damaged messages, and random records and messages.
 
-use crate::record::Record;
+use crate::record::{Kept, Record, OFFICES};
 use crate::samples::Sample;
 use crate::trial::State;
 
@@ -9,6 +9,7 @@ mod cases;
 mod codes;
 mod damaged;
 mod earlier;
+mod folds;
 mod forecasts;
 mod layout;
 mod moves;
@@ -21,8 +22,8 @@ mod ties;
 mod vectors;
 
 /// The kinds of trial script there are.
-pub const KINDS: [&str; 9] =
-    ["boundaries", "elections", "takes", "damaged", "random", "sheets", "earlier", "vectors", "forecasts"];
+pub const KINDS: [&str; 10] =
+    ["boundaries", "elections", "takes", "damaged", "random", "sheets", "earlier", "vectors", "forecasts", "folds"];
 
 /// Words or bytes of a line that has several.
 const WORDS: usize = 10;
@@ -64,12 +65,14 @@ impl Trials {
         if head(&held) != head(record) {
             let weights = record.weights.iter().map(|&weight| u64::from(weight));
             let head = [record.n as u64, record.own as u64].into_iter().chain(weights);
-            self.set('r', head.chain([record.settled as u64]));
+            self.set('r', head.chain([record.settled]));
         }
         if self.state.record.present != record.present {
             self.set('p', record.present.iter().map(|&weight| weight.into()));
         }
         self.set_words('k', &held.codes, &record.codes);
+        self.kept(&record.kept);
+        self.set_numbers('n', held.noted, record.noted);
         for (office, ballot) in record.ballots.iter().enumerate() {
             if held.ballots[office] == *ballot {
                 continue;
@@ -79,6 +82,28 @@ impl Trials {
             for (piece, cells) in ballot.cells[..used].chunks(WORDS).enumerate() {
                 let place = [office as u64, (piece * WORDS) as u64];
                 self.set('a', place.into_iter().chain(cells.iter().map(|&cell| cell.into())));
+            }
+        }
+    }
+
+    /// Makes what is kept of the dropped entries what is given, by the lines that this needs.
+    fn kept(&mut self, kept: &Kept) {
+        let held = self.state.record.kept;
+        if held.dropped != kept.dropped {
+            self.set('f', [kept.dropped]);
+        }
+        if held.present != kept.present {
+            self.set('q', kept.present.iter().map(|&weight| weight.into()));
+        }
+        self.set_words('j', &held.codes, &kept.codes);
+        self.set_numbers('t', held.counts, kept.counts);
+    }
+
+    /// Writes the eight numbers that differ from those held; a line has room for four of them.
+    fn set_numbers(&mut self, letter: char, held: [u64; OFFICES], numbers: [u64; OFFICES]) {
+        for (at, (held, numbers)) in (0..).step_by(4).zip(held.chunks(4).zip(numbers.chunks(4))) {
+            if held != numbers {
+                self.set(letter, std::iter::once(at).chain(numbers.iter().copied()));
             }
         }
     }
@@ -162,7 +187,7 @@ impl Trials {
 
     /// Every call on the state as it is. Those that change nothing come first; take goes before elect.
     pub(crate) fn all_calls(&mut self) {
-        for line in ["U", "P", "A", "V 5", "V 64", "S", "I 64 0", "T", "I 5 9999", "E"] {
+        for line in ["U", "P", "A", "V 5", "V 64", "S", "I 64 0", "T", "I 5 9999", "E", "D"] {
             self.say(line);
         }
     }
@@ -188,8 +213,8 @@ fn most_common(log: &[u32]) -> u32 {
 }
 
 /// A trial script of one kind; nothing if there is no such kind.
-/// `count` is how many messages are damaged, or how many random records are tried; kinds without chance have neither seed
-/// nor count.
+/// `count` is how many messages are damaged, how many random records are tried, or how many calls worlds that fold make;
+/// kinds without chance have neither seed nor count.
 pub fn script(kind: &str, seed: u64, count: usize) -> Option<Vec<u8>> {
     let mut trials = Trials::default();
     match kind {
@@ -211,6 +236,7 @@ pub fn script(kind: &str, seed: u64, count: usize) -> Option<Vec<u8>> {
         "earlier" => earlier::write(&mut trials, seed, count),
         "vectors" => vectors::write(&mut trials, seed, count),
         "forecasts" => forecasts::write(&mut trials, seed, count),
+        "folds" => folds::write(&mut trials, seed, count),
         _ => return None,
     }
     Some(trials.text)

@@ -13,9 +13,11 @@ use second::samples::in_turn;
 
 #[test]
 fn layout() {
-    assert_eq!((size_of::<Ballot>(), size_of::<Record>()), (136, 1400));
-    assert_eq!((offset_of!(Record, weights), offset_of!(Record, present), offset_of!(Record, codes)), (16, 32, 48));
-    assert_eq!((offset_of!(Record, settled), offset_of!(Record, ballots)), (304, 312));
+    assert_eq!((size_of::<Ballot>(), size_of::<Kept>(), size_of::<Record>()), (136, 344, 1808));
+    assert_eq!((offset_of!(Kept, present), offset_of!(Kept, codes), offset_of!(Kept, counts)), (8, 24, 280));
+    assert_eq!((offset_of!(Record, weights), offset_of!(Record, kept), offset_of!(Record, noted)), (16, 32, 376));
+    assert_eq!((offset_of!(Record, present), offset_of!(Record, codes)), (440, 456));
+    assert_eq!((offset_of!(Record, settled), offset_of!(Record, ballots)), (712, 720));
 }
 
 #[test]
@@ -50,12 +52,12 @@ fn unsound() -> Vec<Record> {
     broken(&|r| r.n = 1);
     broken(&|r| r.own = 3);
     broken(&|r| r.own = usize::MAX);
-    broken(&|r| (r.weights[3], r.present[3]) = (1, 1));
-    broken(&|r| (r.weights[7], r.present[7]) = (65535, 65535));
-    broken(&|r| (r.weights, r.present) = ([0; 8], [0; 8]));
+    broken(&|r| (r.weights[3], r.kept.present[3], r.present[3]) = (1, 1, 1));
+    broken(&|r| (r.weights[7], r.kept.present[7], r.present[7]) = (65535, 65535, 65535));
+    broken(&|r| (r.weights, r.kept.present, r.present) = ([0; 8], [0; 8], [0; 8]));
     broken(&|r| r.present[0] = 41);
     broken(&|r| r.present[3] = 1);
-    broken(&|r| r.weights[0] = 41);
+    broken(&|r| (r.weights[0], r.kept.present[0]) = (41, 41));
     broken(&|r| r.codes[5] = 121);
     broken(&|r| r.codes[5] = 130);
     broken(&|r| r.codes[5] = 0);
@@ -64,7 +66,7 @@ fn unsound() -> Vec<Record> {
     broken(&|r| r.codes.swap(5, 6));
     broken(&|r| r.settled = 3);
     broken(&|r| r.settled = 1025);
-    broken(&|r| r.settled = usize::MAX);
+    broken(&|r| r.settled = u64::MAX);
     broken(&|r| r.ballots[0].len = 33);
     broken(&|r| r.ballots[0].len = usize::MAX);
     broken(&|r| r.ballots[0].len = 0);
@@ -206,8 +208,9 @@ fn outputs() {
     let settled_log = log(&[A, B]);
     let sent = message(&office, &settled_log);
     let by_hand = [
-        0x53, 0x48, 1, 3, 0, 40, 0, 35, 0, 25, 0, 2, 0x4C, 0x47, 0, 5, 0, 120, 0x4C, 0x47, 1, 5, 0, 130, 0x42, 0x41, 0,
-        1, 0, 5, 0, 120, 0x42, 0x41, 1, 2, 1, 5, 0, 130, 0, 6, 0, 7, 0x45, 0x4E,
+        0x53, 0x48, 1, 3, 0, 40, 0, 35, 0, 25, 0, 0, 0, 0, 0, 0, 0, 2, 0, 0, 0, 0, 0, 0, 0, 0, 0x4C, 0x47, 0, 5, 0,
+        120, 0x4C, 0x47, 1, 5, 0, 130, 0x42, 0x41, 0, 1, 0, 5, 0, 120, 0x42, 0x41, 1, 2, 1, 5, 0, 130, 0, 6, 0, 7,
+        0x45, 0x4E,
     ];
     assert_eq!(sent, by_hand);
     let mut short = vec![9; sent.len() - 1];
@@ -224,7 +227,7 @@ fn the_longest_message() {
     let ballots: Vec<(usize, &[u32])> = (0..8).map(|office| (office, &tail[..])).collect();
     let office = record(3, &[65535; 8], &long_log(992), &ballots);
     let sent = message(&office, &log(&long_log(992)));
-    assert_eq!(sent.len(), 7032);
+    assert_eq!(sent.len(), 7046);
     let mut kept = log(&[]);
     let (number, after) = take(record(0, &[65535; 8], &[], &[]), &mut kept, &sent);
     assert_eq!((number, after), (DONE, Record { own: 0, ..office }));

@@ -11,7 +11,7 @@ fn elected(weights: &[u16], ballots: &[(usize, &[u32])]) -> (usize, Vec<u32>, Re
     let mut log = log(&[]);
     let (number, count, after) = elect(record(0, weights, &[], ballots), &mut log);
     assert_eq!(number, DONE);
-    assert_eq!(after.settled, count);
+    assert_eq!(after.held(), count);
     assert!(log[count..].iter().all(|&word| word == 0xDEAD_BEEF));
     (count, log[..count].to_vec(), after)
 }

@@ -10,7 +10,7 @@ use second::record::*;
 use second::samples::{Family, Sample};
 
 /// Words read and codes of the lines named as of p, at office 1 with this settled log.
-fn asked(settled: &[u32], p: usize, lines: &[u32]) -> (usize, Vec<Option<u32>>) {
+fn asked(settled: &[u32], p: u64, lines: &[u32]) -> (usize, Vec<Option<u32>>) {
     let (number, words, codes) = earlier(&record(1, &WEIGHTS, settled, &[(1, &[B])]), &log(settled), p, lines);
     assert_eq!(number, DONE);
     assert!(codes[lines.len()..].iter().all(|&code| code == 0));
@@ -54,7 +54,7 @@ fn what_is_refused() {
     let given = |p, lines: &[u32]| earlier(&office, &lent, p, lines);
     assert_eq!(given(2, &[5]).0, DONE);
     assert_eq!(given(3, &[5]), (NO_PLACE, 0, nothing));
-    assert_eq!(given(usize::MAX, &[]), (NO_PLACE, 0, nothing));
+    assert_eq!(given(u64::MAX, &[]), (NO_PLACE, 0, nothing));
     assert_eq!(given(2, &[5; 64]).0, DONE);
     assert_eq!(given(2, &[5; 65]), (NO_PLACE, 0, nothing));
     // A line above 63 comes first, also among more than 64.
@@ -71,17 +71,20 @@ fn earlier_frames_are_what_the_request_says() {
         let family = Family::new(&mut random);
         let own = family.office(&mut random);
         let Sample { record, log } = family.sample(&mut random, own);
-        let p = if random.percent(50) { record.settled } else { random.below(record.settled + 1) };
+        let held = record.held();
+        let read = if random.percent(50) { held } else { random.below(held + 1) };
+        let p = record.kept.dropped + read as u64;
         let count = random.below(5);
         let lines: Vec<u32> = (0..count).map(|_| random.pick(&[0, 1, 5, 62, 63, 7])).collect();
         let (number, words, codes) = earlier(&record, &log, p, &lines);
-        let first = &log[..p];
+        let first = &log[..read];
         let has = |run: &[u32], line: u32| run.iter().any(|&word| word / 65536 % 256 == line);
-        let shortest = (0..=p).find(|&length| lines.iter().all(|&line| has(&first[p - length..], line)));
-        assert_eq!((number, words), (DONE, shortest.unwrap_or(p)));
+        let shortest = (0..=read).find(|&length| lines.iter().all(|&line| has(&first[read - length..], line)));
+        assert_eq!((number, words), (DONE, shortest.unwrap_or(read)));
         for (at, &code) in codes.iter().enumerate() {
             let last = |line: &u32| first.iter().rfind(|&&word| word / 65536 % 256 == *line).map(|word| word % 65536);
-            assert_eq!(coded(code), lines.get(at).and_then(last));
+            let kept = |line: &u32| coded(record.kept.codes[*line as usize]);
+            assert_eq!(coded(code), lines.get(at).and_then(|line| last(line).or(kept(line))));
             if let Some(&line) = lines.get(at).filter(|_| p == record.settled) {
                 assert_eq!(settled_frame(&record, &log, line), (DONE, coded(code)));
             }

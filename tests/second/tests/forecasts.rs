@@ -71,19 +71,19 @@ fn what_is_refused() {
 fn winner(sample: &Sample, weights: [u16; 8]) -> Option<u32> {
     let Sample { mut record, mut log } = sample.clone();
     // Moves of the log would change the weights: the same entries as edits, so that the counts stay.
-    for word in &mut log[..record.settled] {
+    for word in &mut log[..record.held()] {
         *word = entry(office_of(*word), 0, 0);
     }
-    (record.weights, record.present) = (weights, weights);
+    (record.weights, record.kept.present) = (weights, weights);
     let mut sample = Sample { record, log };
     sample.derive();
     if !sound(&sample.record, &sample.log) {
         return None; // a total of zero: nothing is above it
     }
-    let settled = sample.record.settled;
+    let held = sample.record.held();
     let (number, count, _) = elect_step(sample.record, &mut sample.log);
     assert_eq!(number, DONE);
-    (count == 1).then(|| sample.log[settled])
+    (count == 1).then(|| sample.log[held])
 }
 
 /// Every choice of weights for the first n offices, lowest first.

@@ -30,9 +30,10 @@ fn with(at: usize, byte: u8) -> Vec<u8> {
 }
 
 /// A message that ends after what is given, of office 0 with the paper's weights.
-fn spelled(settled: u16, body: &[u8]) -> Vec<u8> {
+fn spelled(settled: u64, body: &[u8]) -> Vec<u8> {
     let mut bytes = vec![0x53, 0x48, 0, 3, 0, 40, 0, 35, 0, 25];
     bytes.extend(settled.to_be_bytes());
+    bytes.extend([0; 8]);
     bytes.extend(body);
     bytes.extend([0x45, 0x4E]);
     bytes
@@ -45,8 +46,8 @@ fn spelled_ballot(office: u8, length: u8, times: usize) -> Vec<u8> {
     bytes
 }
 
-/// Bytes that make the proper message improper: marks, sender, n, settled length, entries, ballots, end.
-const IMPROPER: [(usize, u8); 28] = [
+/// Bytes that make the proper message improper: marks, sender, n, settled length, dropped count, entries, ballots, end.
+const IMPROPER: [(usize, u8); 34] = [
     (0, 0x52),
     (1, 0x47),
     (2, 3),
@@ -54,27 +55,33 @@ const IMPROPER: [(usize, u8); 28] = [
     (3, 0),
     (3, 9),
     (10, 1),
-    (10, 255),
-    (11, 1),
-    (11, 3),
-    (12, 0x4D),
-    (13, 0x48),
-    (14, 3),
-    (15, 67),
-    (16, 40),
-    (24, 0x43),
-    (25, 0x42),
-    (26, 3),
-    (27, 0),
-    (27, 2),
+    (10, 128),
+    (15, 1),
+    (16, 4),
+    (17, 1),
+    (17, 3),
+    (18, 1),
+    (18, 128),
+    (25, 1),
+    (25, 3),
+    (26, 0x4D),
+    (27, 0x48),
     (28, 3),
     (29, 67),
     (30, 40),
-    (32, 0x45),
-    (34, 0),
-    (35, 33),
-    (44, 0x44),
-    (45, 0x4F),
+    (38, 0x43),
+    (39, 0x42),
+    (40, 3),
+    (41, 0),
+    (41, 2),
+    (42, 3),
+    (43, 67),
+    (44, 40),
+    (46, 0x45),
+    (48, 0),
+    (49, 33),
+    (58, 0x44),
+    (59, 0x4F),
 ];
 
 #[test]
@@ -97,12 +104,10 @@ fn other_weights_own_message_and_their_order() {
     assert_eq!(given(&with(5, 41)), OTHER_WEIGHTS);
     assert_eq!(given(&with(4, 1)), OTHER_WEIGHTS);
     assert_eq!(given(&with(2, 1)), OWN_MESSAGE);
-    let none = [0x53, 0x48, 1, 3, 0, 0, 0, 0, 0, 0, 0, 0, 0x45, 0x4E];
-    assert_eq!(given(&none), OTHER_WEIGHTS);
-    let two = [0x53, 0x48, 1, 2, 0, 40, 0, 35, 0, 0, 0x45, 0x4E];
-    assert_eq!(given(&two), OTHER_WEIGHTS);
-    let four = [0x53, 0x48, 0, 4, 0, 40, 0, 35, 0, 25, 0, 0, 0, 0, 0x45, 0x4E];
-    assert_eq!(given(&four), OTHER_WEIGHTS);
+    let empty = |front: &[u8]| [front, &[0; 16], &[0x45, 0x4E]].concat();
+    assert_eq!(given(&empty(&[0x53, 0x48, 1, 3, 0, 0, 0, 0, 0, 0])), OTHER_WEIGHTS);
+    assert_eq!(given(&empty(&[0x53, 0x48, 1, 2, 0, 40, 0, 35])), OTHER_WEIGHTS);
+    assert_eq!(given(&empty(&[0x53, 0x48, 0, 4, 0, 40, 0, 35, 0, 25, 0, 0])), OTHER_WEIGHTS);
     let own = message(&record(1, &WEIGHTS, &[B], &[]), &log(&[B]));
     let parted = record(1, &WEIGHTS, &[A], &[]);
     assert_eq!(take(parted, &mut log(&[A]), &own), (OWN_MESSAGE, parted));
@@ -141,6 +146,6 @@ fn lengths_in_a_message() {
         if tail > 0 {
             body.extend(spelled_ballot(2, tail as u8, tail));
         }
-        assert_eq!(given(&spelled(settled as u16, &body)), number, "{settled} {tail}");
+        assert_eq!(given(&spelled(settled as u64, &body)), number, "{settled} {tail}");
     }
 }

@@ -43,7 +43,7 @@ fn a_move_is_an_edit_of_a_line_past_the_frame() {
                 let number = if edit || weight { DONE } else { NO_ENTRY };
                 let (given, after) = issue(office, &log(&[]), line, code);
                 assert_eq!(given, number, "{n} {line} {code}");
-                let tail = [((n as u32 - 1) << 24) + (line << 16) + code];
+                let tail = [(n as u32 - 1) << 24 | line << 16 | code];
                 assert_eq!(after.ballots[n - 1], ballot(if number == DONE { &tail } else { &[] }));
             }
         }
@@ -158,8 +158,12 @@ fn messages_carry_the_founding_weights() {
     let settled = [move_entry(0, 1, 15)];
     let office = moved(0, &WEIGHTS, &[25, 50, 25], &settled, &[]);
     let sent = message(&office, &log(&settled));
-    let by_hand = [0x53, 0x48, 0, 3, 0, 40, 0, 35, 0, 25, 0, 1, 0x4C, 0x47, 0, 65, 0, 15, 0x45, 0x4E];
-    assert_eq!(sent, by_hand);
+    let with = |weights: [u8; 3]| {
+        let [a, b, c] = weights;
+        let lengths = [0, 0, 0, 0, 0, 0, 0, 1, 0, 0, 0, 0, 0, 0, 0, 0];
+        [&[0x53, 0x48, 0, 3, 0, a, 0, b, 0, c], &lengths[..], &[0x4C, 0x47, 0, 65, 0, 15, 0x45, 0x4E]].concat()
+    };
+    assert_eq!(sent, with([40, 35, 25]));
     // A receiver that has not settled the move has other present weights and accepts it.
     let (number, after) = take(record(2, &WEIGHTS, &[], &[]), &mut log(&[]), &sent);
     assert_eq!((number, after), (DONE, Record { own: 2, ..office }));
@@ -168,9 +172,8 @@ fn messages_carry_the_founding_weights() {
     let ahead = moved(2, &WEIGHTS, &[25, 0, 75], &more, &[]);
     assert_eq!(take(ahead, &mut log(&more), &sent), (DONE, ahead));
     // The present weights in its place are others.
-    let present = [0x53, 0x48, 0, 3, 0, 25, 0, 50, 0, 25, 0, 1, 0x4C, 0x47, 0, 65, 0, 15, 0x45, 0x4E];
     let before = Record { own: 2, ..office };
-    assert_eq!(take(before, &mut log(&settled), &present), (OTHER_WEIGHTS, before));
+    assert_eq!(take(before, &mut log(&settled), &with([25, 50, 25])), (OTHER_WEIGHTS, before));
 }
 
 #[test]
@@ -179,7 +182,8 @@ fn a_message_has_moves_under_its_own_n() {
     let given = |n: u8, line: u8, code: u8| {
         let mut sent = vec![0x53, 0x48, 0, n];
         (0..n).for_each(|office| sent.extend([0, [40, 35, 25, 0, 0, 0, 0, 0][usize::from(office)]]));
-        sent.extend([0, 0, 0x42, 0x41, 0, 1, 0, line, 0, code, 0x45, 0x4E]);
+        sent.extend([0; 16]);
+        sent.extend([0x42, 0x41, 0, 1, 0, line, 0, code, 0x45, 0x4E]);
         take(receiver, &mut log(&[]), &sent).0
     };
     for n in 1..=8 {

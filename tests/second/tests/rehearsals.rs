@@ -15,7 +15,7 @@ fn rehearsed(input: &[u8]) -> String {
 #[test]
 fn the_papers_example() {
     let input = b"f 3 40 35 25\ni 0 5 120\ni 1 5 130\ns 0 0\nt 2 0\ne 2\nv 2 5\n";
-    let output = "f 0\ni 0\ni 0\ns 0 22\nt 0\ne 0 1\nv 0 120 120\n";
+    let output = "f 0\ni 0\ni 0\ns 0 36\nt 0\ne 0 1\nv 0 120 120\n";
     assert_eq!(rehearsed(input), output);
     assert_eq!(rehearsed(&input[..input.len() - 1]), output);
 }
@@ -65,17 +65,17 @@ fn places_and_slots() {
     assert_eq!(rehearsed(before.as_bytes()), "?\n?\n?\n?\n?\nf 2\n?\n");
     let input =
         "f 2 1 1\nt 0 0\nt 0 3\nt 0 4\nt 2 0\ni 2 1 1\ni 1 66 1\ni 1 1 10000\ns 1 3\nt 0 3\nt 1 3\nv 1 64\nv 1 9\n";
-    let output = "f 0\nt 7\nt 7\n?\n?\n?\ni 3\ni 3\ns 0 12\nt 0\nt 9\nv 3 - -\nv 0 - -\n";
+    let output = "f 0\nt 7\nt 7\n?\n?\n?\ni 3\ni 3\ns 0 26\nt 0\nt 9\nv 3 - -\nv 0 - -\n";
     assert_eq!(rehearsed(input.as_bytes()), output);
     // A refused founding keeps offices and slots; a done one empties the slots.
     let input = "f 2 1 1\ni 0 1 7\ns 0 0\nf 2\nv 0 1\nt 1 0\nf 2 1 1\nv 0 1\nt 1 0\n";
-    assert_eq!(rehearsed(input.as_bytes()), "f 0\ni 0\ns 0 20\nf 2\nv 0 - 7\nt 0\nf 0\nv 0 - -\nt 7\n");
+    assert_eq!(rehearsed(input.as_bytes()), "f 0\ni 0\ns 0 34\nf 2\nv 0 - 7\nt 0\nf 0\nv 0 - -\nt 7\n");
 }
 
 /// The entries of an office's own path.
 fn own_path(world: &World, office: usize) -> Vec<u32> {
     let held = &world.offices[office];
-    let mut path = held.log[..held.record.settled].to_vec();
+    let mut path = held.log[..held.record.held()].to_vec();
     path.extend(held.record.ballots[office].tail());
     path
 }
@@ -108,7 +108,7 @@ impl History {
         self.issues.extend(view);
         if let Command::Take(k, _) | Command::Elect(k) = command {
             let held = &self.world.offices[k];
-            let log = held.log[..held.record.settled].to_vec();
+            let log = held.log[..held.record.held()].to_vec();
             if self.logs.last() != Some(&log) {
                 self.logs.push(log);
             }

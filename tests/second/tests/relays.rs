@@ -4,7 +4,7 @@ use second::elect::elect;
 use second::generate::{script, KINDS};
 use second::lines::each_line;
 use second::random::Random;
-use second::record::{Ballot, DONE};
+use second::record::{Ballot, Kept, DONE};
 use second::rehearsal::{Command, World};
 use second::samples::{Family, Sample};
 use second::take::take;
@@ -37,20 +37,24 @@ fn twice_is_once(office: &Sample, message: &[u8]) -> bool {
 /// The settled log before a take is a beginning of the one after it, and a path that extends the new log is a beginning
 /// of its path after it.
 fn never_unsettles(before: &Sample, after: &Sample) {
-    let log = |office: &Sample| office.log[..office.record.settled].to_vec();
-    assert!(log(after).starts_with(&log(before)));
+    let gone = (after.record.kept.dropped - before.record.kept.dropped) as usize;
+    let log = |office: &Sample, gone: usize| office.log[gone..office.record.held()].to_vec();
+    let (before_log, after_log) = (log(before, gone), log(after, 0));
+    assert!(after_log.starts_with(&before_log));
     for (old, new) in before.record.ballots.iter().zip(&after.record.ballots) {
-        let (old, new) = ([&log(before)[..], old.tail()].concat(), [&log(after)[..], new.tail()].concat());
-        let extends = old.len() > log(after).len() && old.starts_with(&log(after));
+        let (old, new) = ([&before_log[..], old.tail()].concat(), [&after_log[..], new.tail()].concat());
+        let extends = old.len() > after_log.len() && old.starts_with(&after_log);
         assert!(!extends || new.starts_with(&old));
     }
 }
 
-/// What must not depend on the order: the settled log and the other offices' ballots.
-fn shared(office: &Sample) -> (&[u32], Vec<&Ballot>) {
-    let ballots = office.record.ballots.iter().enumerate();
-    let others = ballots.filter(|&(place, _)| place != office.record.own).map(|(_, ballot)| ballot);
-    (&office.log[..office.record.settled], others.collect())
+/// What must not depend on the order: the settled log with what was kept of its dropped part, the noted lengths, and the
+/// other offices' ballots.
+fn shared(office: &Sample) -> (&[u32], Kept, [u64; 8], Vec<&Ballot>) {
+    let record = &office.record;
+    let ballots = record.ballots.iter().enumerate();
+    let others = ballots.filter(|&(place, _)| place != record.own).map(|(_, ballot)| ballot);
+    (&office.log[..record.held()], record.kept, record.noted, others.collect())
 }
 
 /// The paths of both orders, where the messages are accepted in both.

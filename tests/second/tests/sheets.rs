@@ -102,8 +102,9 @@ fn sheets_are_what_the_request_says() {
         };
         done += 1;
         let class = |line: u32| {
-            let settled = log[..record.settled].iter();
-            settled.rev().find(|&&word| word / 65536 % 256 == line).map(|word| word % 65536)
+            let settled = log[..record.held()].iter();
+            let last = settled.rev().find(|&&word| word / 65536 % 256 == line).map(|word| word % 65536);
+            last.or(coded(record.kept.codes[line as usize]))
         };
         let mut classes: Vec<Option<u32>> = read.iter().map(|&(line, _)| class(line)).collect();
         classes.sort_unstable();

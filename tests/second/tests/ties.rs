@@ -10,9 +10,9 @@ use second::record::*;
 fn elected(weights: &[u16], settled: &[u32], ballots: &[(usize, &[u32])]) -> Vec<u32> {
     let mut kept = log(settled);
     let (number, count, after) = elect(record(0, weights, settled, ballots), &mut kept);
-    assert_eq!((number, after.settled), (DONE, settled.len() + count));
+    assert_eq!((number, after.held()), (DONE, settled.len() + count));
     assert!(sound(&after, &kept));
-    kept[settled.len()..after.settled].to_vec()
+    kept[settled.len()..after.held()].to_vec()
 }
 
 /// Weights 50, 50, 0; 0:a 1:b.

@@ -20,11 +20,30 @@ fn the_documents_example() {
 }
 
 /// Lines outside the language, each for one cause.
-const WRONG: [&str; 64] = [
+const WRONG: [&str; 84] = [
     "",
     "d 1",
-    "q",
+    "e",
     "Z",
+    "f",
+    "f 1 2",
+    "f 18446744073709551616",
+    "q 1 0 0 0 0 0 0",
+    "q 1 0 0 0 0 0 0 0 0",
+    "q 65536 0 0 0 0 0 0 0",
+    "j 0",
+    "j 64 1",
+    "j 63 1 1",
+    "j 0 4294967296",
+    "t 0",
+    "t 8 1",
+    "t 7 1 1",
+    "t 18446744073709551615 1",
+    "t 0 18446744073709551616",
+    "n 0",
+    "n 8 1",
+    "n 7 1 1",
+    "n 0 18446744073709551616",
     "r 1",
     "r 1 0 65536 0 0 0 0 0 0 0 0",
     "p 1 0 0 0 0 0 0",
@@ -73,6 +92,7 @@ const WRONG: [&str; 64] = [
     "A 1",
     "U 1",
     "E 0",
+    "D 0",
     "S 0",
     "T 0",
     "H 0",
@@ -122,8 +142,10 @@ fn every_number_of_the_further_calls_is_shown() {
     for (kind, beginnings) in [
         ("sheets", &["H 0 0 0 ", "H 0 64 ", "H 1 0 0 ", "H 12 0 0 "][..]),
         ("earlier", &["Q 0 0 ", "Q 0 1 ", "Q 0 64 ", "Q 0 1024 ", "Q 1 0 ", "Q 3 0 ", "Q 13 0 "]),
-        ("vectors", &["W 0 8 ", "W 0 288 ", "W 1 0 ", "W 6 0 ", "C 0 ", "C 1 ", "C 14 "]),
+        ("vectors", &["W 0 16 ", "W 0 576 ", "W 1 0 ", "W 6 0 ", "C 0 ", "C 1 ", "C 14 "]),
         ("forecasts", &["B 0 0 ", "B 0 327801 ", "B 1 0 ", "B 15 0 "]),
+        ("folds", &["D 0 0 ", "D 0 1 ", "D 0 1024 ", "D 1 0 ", "T 16 0 ", "T 17 0 ", "T 10 1 ", "T 10 2 ", "T 0 5 "]),
+        ("folds", &["I 5 ", "I 11 ", "Q 13 0 ", "Q 0 0 ", "Q 0 3 ", "W 0 96 ", "C 0 ", "B 0 327801 ", "H 0 "]),
     ] {
         let answers = tried(&script(kind, 1, 100).unwrap());
         for beginning in beginnings {
@@ -161,7 +183,7 @@ fn every_number_is_shown() {
         "S 0 ",
         "S 1 0 ",
         "S 6 0 ",
-        "S 0 7032 ",
+        "S 0 7046 ",
         "T 0 0 ",
         "T 0 1 ",
         "T 0 1024 ",

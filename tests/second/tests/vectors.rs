@@ -13,7 +13,7 @@ use second::samples::{any_vector, Family, Sample};
 use Standing::{After, Before, Beside, Equal};
 
 /// The bytes of a vector.
-fn vector(counts: &[u32]) -> Vec<u8> {
+fn vector(counts: &[u64]) -> Vec<u8> {
     counts.iter().flat_map(|count| count.to_be_bytes()).collect()
 }
 
@@ -22,17 +22,17 @@ fn written_vectors() {
     // The log a, b, c; then 0:d, 1 with none, 2:d b.
     let office = record(1, &WEIGHTS, &[A, B, C], &[(0, &[D]), (2, &[D, B])]);
     let expected = [vector(&[1, 1, 1]), vector(&[2, 1, 1]), vector(&[1, 1, 1]), vector(&[2, 2, 1])].concat();
-    let mut output = vec![9; 60];
-    assert_eq!(write_vectors(&office, &log(&[A, B, C]), &mut output), (DONE, 48));
-    assert_eq!((&output[..48], &output[48..]), (&expected[..], &[9; 12][..]));
-    let mut short = vec![9; 47];
+    let mut output = vec![9; 108];
+    assert_eq!(write_vectors(&office, &log(&[A, B, C]), &mut output), (DONE, 96));
+    assert_eq!((&output[..96], &output[96..]), (&expected[..], &[9; 12][..]));
+    let mut short = vec![9; 95];
     assert_eq!(write_vectors(&office, &log(&[A, B, C]), &mut short), (OUTPUT_SHORT, 0));
-    assert_eq!(short, [9; 47]);
+    assert_eq!(short, [9; 95]);
     assert_eq!(write_vectors(&Record { own: 3, ..office }, &log(&[A, B, C]), &mut short), (UNSOUND, 0));
     // A count past 255.
     let long = record(0, &[1], &long_log(1000), &[(0, &long_tail(24))]);
-    assert_eq!(write_vectors(&long, &log(&long_log(1000)), &mut output), (DONE, 8));
-    assert_eq!(output[..8], [0, 0, 3, 232, 0, 0, 4, 0]);
+    assert_eq!(write_vectors(&long, &log(&long_log(1000)), &mut output), (DONE, 16));
+    assert_eq!(output[..16], [0, 0, 0, 0, 0, 0, 3, 232, 0, 0, 0, 0, 0, 0, 4, 0]);
 }
 
 #[test]
@@ -48,6 +48,8 @@ fn standings() {
         ([1, 2, 0], Before, Beside, Before, Beside),
         ([0, 2, 0], Beside, Beside, Beside, Beside),
         ([1024, 1024, 1024], Before, Before, Before, Before),
+        ([u64::MAX, u64::MAX, u64::MAX], Before, Before, Before, Before),
+        ([1 << 32, 1, 0], Before, Before, Before, Beside),
     ] {
         let (number, standings) = compare_vector(&office, &log(&[A, B]), &vector(&counts));
         assert_eq!((number, &standings[..4]), (DONE, &[log_stands, first, second, third][..]), "{counts:?}");
@@ -60,30 +62,30 @@ fn what_is_refused() {
     let office = record(1, &WEIGHTS, &[A, B], &[]);
     let given = |bytes: &[u8]| compare_vector(&office, &log(&[A, B]), bytes);
     let refused = (NO_VECTOR, [Beside; PATHS]);
-    assert_eq!(given(&vector(&[1, 1, 1024])).0, DONE);
-    assert_eq!(given(&vector(&[1, 1, 1025])), refused);
-    assert_eq!(given(&vector(&[1 << 24, 1, 0])), refused);
+    assert_eq!(given(&vector(&[1, 1, 1025])).0, DONE);
+    assert_eq!(given(&vector(&[1 << 63, 1, u64::MAX])).0, DONE);
     assert_eq!(given(&vector(&[1, 1])), refused);
     assert_eq!(given(&vector(&[1, 1, 0, 0])), refused);
     assert_eq!(given(&[]), refused);
-    assert_eq!(given(&vector(&[1, 1, 0])[..11]), refused);
+    assert_eq!(given(&vector(&[1, 1, 0])[..23]), refused);
+    assert_eq!(given(&vector(&[1, 1, 0])[..12]), refused);
     assert_eq!(compare_vector(&office, &log(&[A, B])[..1023], &[]), (UNSOUND, [Beside; PATHS]));
 }
 
 /// The log and then each office's path.
 fn paths(record: &Record, log: &[u32]) -> Vec<Vec<u32>> {
-    let settled = &log[..record.settled];
+    let settled = &log[..record.held()];
     let tails = record.ballots[..record.n].iter().map(|ballot| [settled, ballot.tail()].concat());
     std::iter::once(settled.to_vec()).chain(tails).collect()
 }
 
 /// Entries of each office, one by one.
-fn counts(path: &[u32], n: usize) -> Vec<usize> {
-    (0..n as u32).map(|office| path.iter().filter(|&&word| word / 16777216 == office).count()).collect()
+fn counts(path: &[u32], n: usize) -> Vec<u64> {
+    (0..n as u32).map(|office| path.iter().filter(|&&word| word / 16777216 == office).count() as u64).collect()
 }
 
 /// Whether each of its counts is at most the other's.
-fn at_most(one: &[usize], other: &[usize]) -> bool {
+fn at_most(one: &[u64], other: &[u64]) -> bool {
     one.iter().zip(other).all(|(one, other)| one <= other)
 }
 
@@ -98,11 +100,11 @@ fn vectors_are_what_the_request_says() {
         let Sample { record, log } = &sample;
         let n = record.n;
         let bytes = any_vector(&mut random, &sample);
-        let given: Vec<usize> =
-            bytes.chunks(4).map(|part| part.iter().fold(0, |a, &b| 256 * a + usize::from(b))).collect();
+        let given: Vec<u64> = bytes.chunks(8).map(|part| part.iter().fold(0, |a, &b| 256 * a + u64::from(b))).collect();
         let (number, standings) = compare_vector(record, log, &bytes);
-        let all: Vec<Vec<usize>> = paths(record, log).iter().map(|path| counts(path, n)).collect();
-        if bytes.len() != 4 * n || given.iter().any(|&count| count > 1024) {
+        let kept = |counts: Vec<u64>| counts.iter().zip(record.kept.counts).map(|(a, b)| a + b).collect();
+        let all: Vec<Vec<u64>> = paths(record, log).iter().map(|path| kept(counts(path, n))).collect();
+        if bytes.len() != 8 * n {
             assert_eq!((number, standings), (NO_VECTOR, [Beside; PATHS]));
             continue;
         }
@@ -117,9 +119,9 @@ fn vectors_are_what_the_request_says() {
             seen[standing as usize] += 1;
         }
         // Reading back what was written answers equal for what it was written from.
-        let mut output = vec![0; 4 * n * (n + 1)];
+        let mut output = vec![0; 8 * n * (n + 1)];
         assert_eq!(write_vectors(record, log, &mut output), (DONE, output.len()));
-        for (place, vector) in output.chunks(4 * n).enumerate() {
+        for (place, vector) in output.chunks(8 * n).enumerate() {
             assert_eq!(compare_vector(record, log, vector).1[place], Equal);
         }
     }

@@ -15,6 +15,9 @@ use crate::storage::{store, stored};
 /// An office is killed at one of so many events, at one of three places.
 const KILLED_AT: usize = 25;
 
+/// An office folds where so many entries are settled and not dropped. A service waits for more: 1,024 are the most.
+const FOLDED_AT: usize = 10;
+
 /// What outlives the office's process: its file, its inbox, and what this run counts.
 pub struct Desk<'a> {
     pub own: usize,
@@ -34,14 +37,17 @@ enum End {
     Stopped,
 }
 
-/// Works an event into the office and elects; answers how many edits were made and how many lost.
-/// Any refused message ends the office here, since each was sent by one of them. A service may pass over
-/// bytes from elsewhere, and stops at `OtherLog`.
+/// Works an event into the office, elects, and folds; answers how many edits were made and how many lost.
+/// Any other refused message than an old one ends the office here, since each was sent by one of them. A service
+/// may pass over bytes from elsewhere, and stops at `OtherLog` and `BeginsPast`.
 fn work(office: &mut Office, event: Event) -> Result<(usize, usize), Refused> {
     let mut before = office.clone();
     let mut edits = 0;
     match event {
-        Event::Message(message) => office.take(&message)?,
+        Event::Message(message) => match office.take(&message) {
+            Err(Refused::EndsInside) => {} // all that it has is settled here, and dropped
+            taken => taken?,
+        },
         Event::Turn(Some((line, code)), _done) => match office.issue(line, code) {
             Err(Refused::PartFull) => {} // the supervisor waits until some of her edits are decided
             issued => {
@@ -53,7 +59,11 @@ fn work(office: &mut Office, event: Event) -> Result<(usize, usize), Refused> {
         Event::Stop => {}
     }
     office.elect();
-    Ok((edits, lost(&before, office).len()))
+    let gone = lost(&before, office).len();
+    if office.settled().len() > FOLDED_AT {
+        office.fold();
+    }
+    Ok((edits, gone))
 }
 
 impl Desk<'_> {

@@ -139,9 +139,9 @@ const BREAKS: [Break; 37] = [
     |r| r.own = 3,
     |r| r.own = 257,
     |r| r.own = usize::MAX,
-    |r| (r.weights[3], r.present[3]) = (1, 1),
-    |r| (r.weights[7], r.present[7]) = (65535, 65535),
-    |r| (r.weights, r.present) = ([0; 8], [0; 8]),
+    |r| (r.weights[3], r.kept.present[3], r.present[3]) = (1, 1, 1),
+    |r| (r.weights[7], r.kept.present[7], r.present[7]) = (65535, 65535, 65535),
+    |r| (r.weights, r.kept.present, r.present) = ([0; 8], [0; 8], [0; 8]),
     |r| r.codes[5] = 121,
     |r| r.codes[5] = 130,
     |r| r.codes[5] = 132,
@@ -151,7 +151,7 @@ const BREAKS: [Break; 37] = [
     |r| r.settled = 3,
     |r| r.settled = 1025,
     |r| r.settled = 1 << 32,
-    |r| r.settled = usize::MAX,
+    |r| r.settled = u64::MAX,
     |r| r.ballots[0].len = 0,
     |r| r.ballots[1].len = 33,
     |r| r.ballots[1].len = 1 << 32,
@@ -246,7 +246,7 @@ fn longest(trials: &mut Trials) {
         trials.say("S");
         trials.say(&format!("g {length}"));
         trials.output(3);
-        for known in [0, 991, sample.record.settled] {
+        for known in [0, 991, sample.record.held()] {
             trials.sample(&Sample::new(0, &[65535; 8], &settled[..known], &[]));
             trials.all_calls();
         }

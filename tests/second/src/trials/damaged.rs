@@ -5,7 +5,7 @@ use crate::random::Random;
 use crate::samples::{Family, Sample};
 
 /// Longest message that is damaged.
-const LONGEST: usize = 160;
+const LONGEST: usize = 174;
 
 /// Damages this many messages.
 pub(super) fn write(trials: &mut Trials, seed: u64, count: usize) {

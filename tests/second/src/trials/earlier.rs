@@ -3,7 +3,7 @@
 use super::boundaries::{A, B, C, D, WEIGHTS};
 use super::Trials;
 use crate::random::Random;
-use crate::record::{entry, LOG};
+use crate::record::{entry, Record, LOG};
 use crate::samples::{break_one, Family, Sample};
 
 /// Writes the trials of earlier places, this many of them at random.
@@ -23,7 +23,7 @@ const PATH: [u32; 10] =
     [A, entry(0, 64, 1), D, B, entry(1, 66, 2), entry(2, 63, 0), C, C, entry(0, 65, 3), entry(1, 0, 9999)];
 
 /// Asks for the lines as of the place.
-fn ask(trials: &mut Trials, lines: &[u8], p: usize) {
+fn ask(trials: &mut Trials, lines: &[u8], p: u64) {
     if trials.state().message != lines {
         trials.message(lines);
     }
@@ -52,7 +52,7 @@ fn places(trials: &mut Trials) {
     ];
     for lines in cases {
         for p in 0..=PATH.len() + 1 {
-            ask(trials, lines, p);
+            ask(trials, lines, p as u64);
         }
     }
 }
@@ -66,7 +66,7 @@ fn every_line(trials: &mut Trials) {
         trials.sample(&Sample::new(0, &WEIGHTS, settled, &[]));
         for named in [&lines[..63], &lines[..64], &lines[1..65], &lines, &[63; 64], &[0; 64], &[0; 65], &[64; 65]] {
             for p in [0, 1, settled.len(), settled.len() + 1] {
-                ask(trials, named, p);
+                ask(trials, named, p as u64);
             }
         }
     }
@@ -93,7 +93,7 @@ fn refusals(trials: &mut Trials) {
         sample.log.truncate(length);
         trials.sample(&sample);
         for lines in [&[5][..], &[64], &[5; 65], &[[5; 64].as_slice(), &[64]].concat(), &[]] {
-            for p in [0, 10, 11, 1024, usize::MAX] {
+            for p in [0, 10, 11, 1024, u64::MAX] {
                 ask(trials, lines, p);
             }
         }
@@ -118,9 +118,20 @@ fn any(trials: &mut Trials, random: &mut Random) {
         if count > 0 && random.percent(5) {
             lines[random.below(count)] = random.pick(&[64, 65, 255]);
         }
-        let settled = sample.record.settled;
-        let p =
-            random.pick(&[0, 1, settled / 2, settled.saturating_sub(1), settled, settled, settled.saturating_add(1)]);
-        ask(trials, &lines, p);
+        ask(trials, &lines, place(random, &sample.record));
+    }
+}
+
+/// A place around the ends of what is settled and not dropped, or inside it.
+fn place(random: &mut Random, record: &Record) -> u64 {
+    let (dropped, settled) = (record.kept.dropped, record.settled);
+    let inside = dropped.wrapping_add(random.below(record.held().saturating_add(1)) as u64);
+    match random.below(8) {
+        0 => random.pick(&[0, 1, dropped.wrapping_sub(1)]),
+        1 => random.pick(&[dropped, dropped.wrapping_add(1)]),
+        2 => settled.wrapping_add(1),
+        3 | 4 => settled,
+        5 => settled.saturating_sub(1),
+        _ => inside,
     }
 }

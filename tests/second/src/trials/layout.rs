@@ -5,8 +5,8 @@ use super::Trials;
 use crate::samples::{issued_by, Sample};
 
 /// Bytes of a proper message that make it improper, or proper but refused: place and value.
-/// The message is that of `proper`; marks, sender, n, weights, settled length, entries, ballots, end.
-const CHANGES: [(usize, u8); 47] = [
+/// The message is that of `proper`; marks, sender, n, weights, settled length, dropped count, entries, ballots, end.
+const CHANGES: [(usize, u8); 57] = [
     (0, 0x52),
     (1, 0x47),
     (2, 0),
@@ -23,37 +23,47 @@ const CHANGES: [(usize, u8); 47] = [
     (5, 41),
     (9, 0),
     (10, 1),
-    (10, 4),
-    (10, 255),
-    (11, 0),
-    (11, 1),
-    (11, 3),
-    (12, 0x4D),
-    (13, 0x48),
-    (14, 2),
-    (14, 3),
-    (15, 63),
-    (15, 64),
-    (15, 66),
-    (15, 67),
-    (16, 39),
-    (16, 40),
-    (24, 0x43),
-    (25, 0x42),
-    (26, 1),
-    (26, 2),
-    (26, 3),
-    (27, 0),
-    (27, 2),
+    (10, 128),
+    (14, 1),
+    (15, 1),
+    (16, 1),
+    (16, 4),
+    (17, 0),
+    (17, 1),
+    (17, 3),
+    (18, 1),
+    (18, 128),
+    (22, 1),
+    (24, 1),
+    (25, 1),
+    (25, 2),
+    (25, 3),
+    (26, 0x4D),
+    (27, 0x48),
+    (28, 2),
     (28, 3),
+    (29, 63),
     (29, 64),
+    (29, 66),
     (29, 67),
+    (30, 39),
     (30, 40),
-    (34, 0),
-    (35, 1),
-    (35, 33),
-    (44, 0x44),
-    (45, 0x4F),
+    (38, 0x43),
+    (39, 0x42),
+    (40, 1),
+    (40, 2),
+    (40, 3),
+    (41, 0),
+    (41, 2),
+    (42, 3),
+    (43, 64),
+    (43, 67),
+    (44, 40),
+    (48, 0),
+    (49, 1),
+    (49, 33),
+    (58, 0x44),
+    (59, 0x4F),
 ];
 
 /// Writes the trials of messages that no record sends.
@@ -111,7 +121,7 @@ fn spelled(trials: &mut Trials, n: usize, settled: usize, ballots: &[(u8, u8, us
     trials.begin();
     trials.sample(&Sample::new(1, &weights, &[], &[(1, &[B])]));
     let head = [0x53, 0x48, 0, n as u8].into_iter().chain(weights.iter().flat_map(|weight| weight.to_be_bytes()));
-    trials.message(&head.chain((settled as u16).to_be_bytes()).collect::<Vec<_>>());
+    trials.message(&head.chain((settled as u64).to_be_bytes()).chain([0; 8]).collect::<Vec<_>>());
     trials.say(&format!("m {settled} 76 71 0 6 0 7"));
     for &(office, length, entries) in ballots {
         trials.say(&format!("m 1 66 65 {office} {length}"));
@@ -178,15 +188,18 @@ fn weights(trials: &mut Trials) {
     trials.begin();
     trials.sample(&Sample::new(1, &WEIGHTS, &[A], &[(1, &[B])]));
     for sender in [0, 1, 2] {
-        for message in [
-            &[0x53, 0x48, sender, 3, 0, 0, 0, 0, 0, 0, 0, 0, 0x45, 0x4E][..],
-            &[0x53, 0x48, sender, 2, 0, 40, 0, 35, 0, 0, 0x45, 0x4E],
-            &[0x53, 0x48, sender, 4, 0, 40, 0, 35, 0, 25, 0, 0, 0, 0, 0x45, 0x4E],
-            &[0x53, 0x48, sender, 3, 0, 40, 0, 35, 0, 25, 0, 1, 0x4C, 0x47, 1, 5, 0, 130, 0x45, 0x4E],
-            &[0x53, 0x48, sender, 3, 0, 40, 0, 35, 0, 26, 0, 1, 0x4C, 0x47, 1, 5, 0, 130, 0x45, 0x4E],
-            &[0x53, 0x48, sender, 3, 0, 40, 0, 35, 0, 26, 0, 1, 0x4C, 0x47, 3, 5, 0, 130, 0x45, 0x4E],
-        ] {
-            trials.message(message);
+        let edit = [0x4C, 0x47, 1, 5, 0, 130];
+        let cases: [(&[u8], &[u8]); 6] = [
+            (&[3, 0, 0, 0, 0, 0, 0], &[]),
+            (&[2, 0, 40, 0, 35], &[]),
+            (&[4, 0, 40, 0, 35, 0, 25, 0, 0], &[]),
+            (&[3, 0, 40, 0, 35, 0, 25], &edit),
+            (&[3, 0, 40, 0, 35, 0, 26], &edit),
+            (&[3, 0, 40, 0, 35, 0, 26], &[0x4C, 0x47, 3, 5, 0, 130]),
+        ];
+        for (weights, entries) in cases {
+            let lengths = [(entries.len() as u64 / 6).to_be_bytes(), [0; 8]].concat();
+            trials.message(&[&[0x53, 0x48, sender], weights, &lengths, entries, &[0x45, 0x4E]].concat());
             trials.say("T");
         }
     }

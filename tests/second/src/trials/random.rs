@@ -3,7 +3,7 @@
 use super::Trials;
 use crate::generate::weights;
 use crate::random::Random;
-use crate::record::{Ballot, OFFICES, TAIL};
+use crate::record::{Ballot, LENGTH, OFFICES, TAIL};
 use crate::samples::{break_one, crowded, Family, Sample};
 use crate::trial::BYTE_ROOM;
 
@@ -69,14 +69,20 @@ fn message(random: &mut Random, family: &Family, receiver: usize) -> Vec<u8> {
 fn forge(random: &mut Random, sender: &mut Sample) {
     let Sample { record, log } = sender;
     let wrong = random.pick(&[(record.n as u32) << 24, 64 << 16, (64 + record.n as u32) << 16 | 1, 10_000, u32::MAX]);
-    let ballot = &mut record.ballots[random.below(record.n)];
-    match random.below(5) {
+    let (held, ballot) = (record.held(), &mut record.ballots[random.below(record.n)]);
+    match random.below(8) {
         4 if record.n > 1 => *ballot = Ballot::of(&crowded(random, record.n)),
+        5 => record.kept.dropped = record.settled.wrapping_add(random.pick(&[0, 1])),
+        6 => record.settled = record.settled.wrapping_add(LENGTH),
+        7 => {
+            record.settled = LENGTH - random.below(TAIL) as u64;
+            record.kept.dropped = record.settled - held as u64;
+        }
         0 => record.own = random.pick(&[record.n, 8, 255]),
-        1 if record.settled > 0 => log[random.below(record.settled)] = wrong,
+        1 if held > 0 => log[random.below(held)] = wrong,
         2 if ballot.len > 0 => ballot.cells[random.below(ballot.len)] = wrong,
         _ if ballot.len < TAIL => ballot.len += 1,
-        _ => record.settled = (record.settled + random.within(1, 3)).min(log.len()),
+        _ => record.settled += random.within(1, 3) as u64,
     }
 }
 
@@ -97,9 +103,10 @@ fn damaged(random: &mut Random, mut bytes: Vec<u8>) -> Vec<u8> {
 fn call(trials: &mut Trials, random: &mut Random) {
     let line = random.pick(&[0, 1, 5, 62, 63, 63, 64, 65, 66, 71, 72, 256, u32::MAX]);
     let code = random.pick(&[0, 1, 120, 9999, 9999, 10_000, 65_536, u32::MAX]);
-    match random.below(10) {
+    match random.below(11) {
         0 | 1 => trials.say("T"),
         2 => trials.say("E"),
+        10 => trials.say("D"),
         3 => trials.say("S"),
         4 => trials.say(&format!("V {line}")),
         5 => trials.say("P"),

@@ -2,6 +2,7 @@
 
 use super::boundaries::{A, B, C, D, WEIGHTS};
 use super::Trials;
+use crate::archive::COUNT_SIZE;
 use crate::random::Random;
 use crate::record::{entry, Record, LOG, OFFICES};
 use crate::samples::{any_vector, break_one, in_turn, Family, Sample};
@@ -20,7 +21,7 @@ pub(super) fn write(trials: &mut Trials, seed: u64, count: usize) {
 }
 
 /// Compares with the vector of these counts.
-fn compare(trials: &mut Trials, counts: &[u32]) {
+fn compare(trials: &mut Trials, counts: &[u64]) {
     let bytes: Vec<u8> = counts.iter().flat_map(|count| count.to_be_bytes()).collect();
     trials.message(&bytes);
     trials.say("C");
@@ -31,15 +32,15 @@ fn written(trials: &mut Trials, n: usize) {
     let path = in_turn(n, 100, 3 * n + 5);
     let ballots = [(0, &path[5..]), (n - 1, &path[5..6]), (n / 2, &path[5..7])];
     let sample = Sample::new(0, &vec![1; n], &path[..5], &ballots);
-    let length = 4 * n * (n + 1);
+    let length = COUNT_SIZE * n * (n + 1);
     trials.begin();
     trials.sample(&sample);
-    for room in [0, 1, length - 4, length - 1, length, length + 1, length + 30] {
+    for room in [0, 1, length / 2, length - 8, length - 1, length, length + 1, length + 30] {
         trials.output(room);
         trials.say("W");
     }
     let vectors = trials.state().output.clone();
-    for vector in vectors[..length].chunks(4 * n) {
+    for vector in vectors[..length].chunks(COUNT_SIZE * n) {
         trials.message(vector);
         trials.say("C");
     }
@@ -67,7 +68,7 @@ fn standings(trials: &mut Trials) {
 fn damaged(trials: &mut Trials) {
     trials.begin();
     trials.sample(&Sample::new(1, &WEIGHTS, &[A, B, C], &[(1, &[D])]));
-    let bytes = [0, 0, 0, 2, 0, 0, 0, 1, 0, 0, 0, 1];
+    let bytes = [2_u64, 1, 1].map(u64::to_be_bytes).concat();
     trials.message(&bytes);
     for (at, &byte) in bytes.iter().enumerate() {
         for other in [0, 1, 2, 3, 4, 5, 128, 255] {
@@ -80,18 +81,18 @@ fn damaged(trials: &mut Trials) {
         trials.cut(length);
         trials.say("C");
     }
-    for more in [&[0][..], &[0, 0, 0], &[0, 0, 0, 0], &[0; 20]] {
+    for more in [&[0][..], &[0, 0, 0], &[0; 4], &[0; 8], &[0; 40]] {
         trials.message(&[&bytes[..], more].concat());
         trials.say("C");
     }
 }
 
-/// Counts around 1024, at a full log and at an empty one.
+/// Counts around 1024, which is no limit, and as large as can be, at a full log and at an empty one.
 fn limits(trials: &mut Trials) {
     trials.begin();
     for settled in [vec![], vec![B; LOG - 1], vec![B; LOG]] {
         trials.sample(&Sample::new(0, &WEIGHTS, &settled, &[]));
-        for count in [0, 1, 1023, 1024, 1025, 65_536, 16_777_216, u32::MAX] {
+        for count in [0, 1, 1023, 1024, 1025, 65_536, 16_777_216, 1 << 32, 1 << 63, u64::MAX] {
             compare(trials, &[0, count, 0]);
             compare(trials, &[count, 1024, 0]);
         }
@@ -99,7 +100,7 @@ fn limits(trials: &mut Trials) {
     trials.sample(&Sample::new(0, &WEIGHTS, &vec![B; LOG - 10], &[(0, &[B; 10]), (2, &[C; 3])]));
     compare(trials, &[0, 1024, 0]);
     compare(trials, &[0, 1014, 3]);
-    trials.output(48);
+    trials.output(96);
     trials.say("W");
 }
 
@@ -109,7 +110,7 @@ fn unsound(trials: &mut Trials) {
     for record in [Record { own: 3, ..whole.record }, Record { n: 2, ..whole.record }, Record::ZERO, whole.record] {
         trials.begin();
         trials.sample(&Sample { record, ..whole.clone() });
-        for room in [0, 48] {
+        for room in [0, 96] {
             trials.output(room);
             trials.say("W");
         }
@@ -124,7 +125,7 @@ fn any(trials: &mut Trials, random: &mut Random) {
     let own = family.office(random);
     let mut sample = family.sample(random, own);
     let vectors: Vec<Vec<u8>> = (0..random.within(1, 4)).map(|_| any_vector(random, &sample)).collect();
-    let length = 4 * sample.record.n * (sample.record.n + 1);
+    let length = COUNT_SIZE * sample.record.n * (sample.record.n + 1);
     if random.percent(10) {
         break_one(random, &mut sample);
     }

@@ -1,6 +1,9 @@
 //! What the tests share: short ways to say records, logs and messages.
 #![allow(dead_code)]
 
+pub mod lists;
+
+use second::message::read;
 use second::record::{entry, Ballot, Record};
 use second::samples::Sample;
 
@@ -45,8 +48,15 @@ pub fn message(record: &Record, log: &[u32]) -> Vec<u8> {
     sent
 }
 
-/// Takes the message: the number and the record after it.
+/// Takes the message: the number and the record after it, but with the lengths noted before it. What a done take notes is
+/// the sender's settled length.
 pub fn take(record: Record, log: &mut [u32], bytes: &[u8]) -> (u32, Record) {
     let (number, _, after) = second::take::take(record, log, bytes);
-    (number, after)
+    let mut noted = record.noted;
+    if number == 0 {
+        let sent = read(bytes).expect("a message that is accepted");
+        noted[sent.sender] = noted[sent.sender].max(sent.settled());
+    }
+    assert_eq!(after.noted, noted);
+    (number, Record { noted: record.noted, ..after })
 }
