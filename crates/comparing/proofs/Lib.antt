@@ -1,3 +1,4 @@
 -- Laws that belong to no one function.
 pub mod FromEnd
 pub mod Walk
+pub mod Checking

@@ -1,2 +1,3 @@
 -- The definitions that the contracts of `comparing` cite.
 pub mod FromEnd
+pub mod Checking

@@ -26,11 +26,11 @@ use Rattle.backward.proofs.Runs.{shortest-is}
 use Rattle.backward.proofs.Placed.{named-at, getD-mapped, placed-at, placed-past}
 use Rattle.frame.specs.State.{heldLength}
 use Rattle.frame.specs.Soundness.{soundB}
-use Rattle.frame.specs.Frames.{editIs, storedEdit, keptEdit, frameOf, settledFrameOf}
+use Rattle.both_frames.specs.Frames.{editIs, storedEdit, keptEdit, frameOf, settledFrameOf}
 use Rattle.frame.specs.declared.Record.{Record}
 use Rattle.frame.proofs.Sound.{sound}
 use Rattle.frame.proofs.State.{log-length}
-use Rattle.frame.proofs.Shown.{shown-done, frame-shown}
+use Rattle.both_frames.proofs.Shown.{shown-done, frame-shown}
 use Rattle.earlier.specs.Earlier.{firstOf, earlierDone, earlierRefused, readable, earlierOf}
 use Rattle.earlier.specs.Claims.{shownAt, runEdits, Claims}
 use Rattle.earlier.specs.declared.Earlier.{Earlier}

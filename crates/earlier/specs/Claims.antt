@@ -7,9 +7,9 @@ use mathlib.Core.List.{List}
 use Prim.Native.Nat.{ℕ, _-_, _≤_, _<_}
 use lib.ListN.{length, getD, drop}
 use Rattle.backward.specs.Runs.{editsAll, Shortest}
-use Rattle.frame.specs.Frames.{storedEdit, frameOf, settledFrameOf}
+use Rattle.both_frames.specs.Frames.{storedEdit, frameOf, settledFrameOf}
 use Rattle.frame.specs.declared.Record.{Record}
-use Rattle.frame.specs.declared.frames.Framed.{Framed}
+use Rattle.both_frames.specs.declared.Framed.{Framed}
 use Rattle.earlier.specs.Earlier.{firstOf, earlierOf}
 
 -- what the answer shows at place i

@@ -1,9 +1,9 @@
 -- A frame's answer across C: a flag beside the code. Assumes nothing.
 use mathlib.Core.Bool.{Bool, true, false}
 use Prim.Native.Nat.{ℕ}
-use Rattle.frame.specs.declared.frames.Edit.{Edit}
-use Rattle.frame.specs.declared.frames.Edit.the-variants.{Code, NotYet}
-use Rattle.frame.specs.declared.frames.Framed as frames
+use Rattle.both_frames.specs.declared.Edit.{Edit}
+use Rattle.both_frames.specs.declared.Edit.the-variants.{Code, NotYet}
+use Rattle.both_frames.specs.declared.Framed as frames
 use Rattle.embed.specs.declared.Framed.{Framed}
 
 -- whether there is an edit, and its code; 0 where there is none yet

@@ -4,7 +4,7 @@ ghost use mathlib.Core.Path.{_≡_};
 ghost use Rattle.frame.specs.Soundness.{soundB};
 ghost use Rattle.frame.specs.Founding.{foundOf};
 ghost use Rattle.frame.specs.Issuing.{issueOf};
-ghost use Rattle.frame.specs.Frames.{settledFrameOf, tentativeFrameOf, allLinesOf};
+ghost use Rattle.both_frames.specs.Frames.{settledFrameOf, tentativeFrameOf, allLinesOf};
 ghost use Rattle.frame.specs.Electing.{electOf, electWords};
 ghost use Rattle.frame.specs.Folding.{foldOf, foldWords};
 ghost use Rattle.frame.specs.Sending.{sendOf, sendBytes};
@@ -24,9 +24,8 @@ use frame::Record;
 use frame::electing::Elected;
 use frame::folding::Folded;
 use frame::founding::Founded;
-use frame::frames;
-use frame::frames::Edit;
-use frame::frames::Lines;
+use both_frames::Edit;
+use both_frames::Lines;
 use frame::issuing::Issued;
 use frame::sending::Sent;
 use frame::taking::Taken;
@@ -55,7 +54,7 @@ pub struct Framed {
 }
 
 // A frame's answer, across C.
-fn across(framed: frames::Framed) -> Framed
+fn across(framed: both_frames::Framed) -> Framed
     ensures { λ r. ⌜ r ≡ across framed ⌝ }
 {
     let number = framed.number;
@@ -123,7 +122,7 @@ pub extern "C" fn joukerpan_settled(office: Record, log: &[u32]) -> Part
 pub extern "C" fn joukerpan_all_lines(office: Record, log: &[u32]) -> Lines
     ensures { λ r. ⌜ r ≡ allLinesOf office (now (log .entry)) ⌝ }
 {
-    office.all_lines(log)
+    both_frames::all_lines(office, log)
 }
 
 // The code of the last entry for the line in the settled log.
@@ -131,7 +130,7 @@ pub extern "C" fn joukerpan_all_lines(office: Record, log: &[u32]) -> Lines
 pub extern "C" fn joukerpan_settled_frame(office: Record, log: &[u32], line: u32) -> Framed
     ensures { λ r. ⌜ r ≡ across (settledFrameOf office (now (log .entry)) line) ⌝ }
 {
-    across(office.settled_frame(log, line))
+    across(both_frames::settled_frame(office, log, line))
 }
 
 // The code of the last entry for the line in the own path.
@@ -139,7 +138,7 @@ pub extern "C" fn joukerpan_settled_frame(office: Record, log: &[u32], line: u32
 pub extern "C" fn joukerpan_tentative_frame(office: Record, log: &[u32], line: u32) -> Framed
     ensures { λ r. ⌜ r ≡ across (tentativeFrameOf office (now (log .entry)) line) ⌝ }
 {
-    across(office.tentative_frame(log, line))
+    across(both_frames::tentative_frame(office, log, line))
 }
 
 // The last edit of each line named in the first p settled entries, dropped ones included, as it is stored, and how many words of the log were read.

@@ -14,10 +14,10 @@ use Rattle.protocol.specs.Codes.{noCodes, codesAfter}
 use Rattle.protocol.proofs.Beginning.{⊑-comparable, ⊑-cases, ⊏-length}
 use Rattle.households.specs.Households.{areHouseholds}
 use Rattle.frame.specs.Soundness.{soundB}
-use Rattle.frame.specs.Frames.{allLinesOf}
+use Rattle.both_frames.specs.Frames.{allLinesOf}
 use Rattle.frame.specs.declared.Record.{Record}
 use Rattle.frame.proofs.Sound.{sound}
-use Rattle.frame.proofs.Shown.{lines-shown}
+use Rattle.both_frames.proofs.Shown.{lines-shown}
 use Rattle.sheet.specs.Sheet.{sheetOf, sheetNumber}
 use Rattle.sheet.proofs.Claims as claims
 use Rattle.agreement.specs.World.{Replica, World, Call, replicaAt, onSome, after}

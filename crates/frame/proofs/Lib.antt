@@ -5,9 +5,7 @@ pub mod Fold
 pub mod Found
 pub mod Ineffective
 pub mod Issue
-pub mod Promise
 pub mod Send
-pub mod Shown
 pub mod Sound
 pub mod State
 pub mod Take

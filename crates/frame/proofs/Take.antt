@@ -37,8 +37,9 @@ use Rattle.spelling.proofs.Laws.{reading-valid, reading-log, reading-room}
 use Rattle.reading.specs.Read.{readingOf, badReading, eightWeights, ballotsOf}
 use Rattle.reading.specs.declared.Reading.{Reading}
 use Rattle.comparing.specs.FromEnd.{compares}
-use Rattle.intake.specs.Intake.{packetIn, takenIn, intakenOf, refusalOf, checkedBy, checkedOf, Ready}
-use Rattle.intake.specs.declared.Checked.{Checked}
+use Rattle.intake.specs.Intake.{packetIn, takenIn, intakenOf, refusalOf, checkedOf, Ready}
+use Rattle.comparing.specs.Checking.{checkedBy}
+use Rattle.comparing.specs.declared.Checked.{Checked}
 use Rattle.intake.specs.declared.Intaken.{Intaken}
 use Rattle.intake.proofs.Numbers.{refusal-folded}
 use Rattle.intake.proofs.Dropping.{summary-taken, dropped-taken}

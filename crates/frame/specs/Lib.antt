@@ -5,7 +5,6 @@ pub mod Founding
 pub mod Issuing
 pub mod Sending
 pub mod Settling
-pub mod Frames
 pub mod Electing
 pub mod Taking
 pub mod Folding

@@ -12,7 +12,6 @@ use summary::Summary;
 pub mod electing;
 pub mod folding;
 pub mod founding;
-pub mod frames;
 pub mod issuing;
 pub mod sending;
 mod settling;

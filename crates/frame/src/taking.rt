@@ -53,7 +53,7 @@ impl Record {
         let behind = taken.kept;
         let after = taken.state;
         let lengths = self.noted;
-        let noted = intake::noted(lengths, m.sender, m.dropped + m.held as u64);
+        let noted = noting::noted(lengths, m.sender, m.dropped + m.held as u64);
         let mut next = self.with_state(behind, after);
         next.noted = noted;
         Taken {

@@ -15,7 +15,7 @@ use Rattle.numbers.specs.Numbers.{runAt}
 use Rattle.numbers.proofs.Runs.{runAt-length}
 use Rattle.spelling.specs.Reading.{recordAt}
 use Rattle.reading.specs.declared.Reading.{Reading}
-use Rattle.reading.proofs.Logs.{run-rest}
+use Rattle.numbers.proofs.Runs.{run-rest}
 use Rattle.protocol.specs.Beginning.{comparable}
 use Rattle.protocol.specs.Office.{Office}
 use Rattle.protocol.specs.Take.{withTake}

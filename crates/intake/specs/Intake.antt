@@ -17,11 +17,11 @@ use Rattle.numbers.specs.Numbers.{runAt}
 use Rattle.spelling.specs.Reading.{recordAt}
 use Rattle.reading.specs.declared.Reading.{Reading}
 use Rattle.summary.specs.Summary.{summaryAfter}
-use Rattle.comparing.specs.FromEnd.{placesFromEnd, compares}
+use Rattle.comparing.specs.Checking.{logsRefusal, checkedBy}
+use Rattle.comparing.specs.declared.Checked.{Checked}
 use Rattle.elections.specs.declared.State.{State}
 use Rattle.kept.specs.Kept.{keptAfter, Roomy}
 use Rattle.kept.specs.declared.Kept.{Kept}
-use Rattle.intake.specs.declared.Checked.{Checked}
 use Rattle.intake.specs.declared.Intaken.{Intaken}
 
 -- the message that was read: its log records stand in the rest after the head
@@ -33,14 +33,6 @@ abbrev pub foldedIn : List ℕ → State → Kept → Folded
 foldedIn words s kept = record { dropped = kept .dropped; held = officeIn words (s .held) (s .ballots); noted = [] }
 
 -- ── the number ──
--- 16: "the message's log begins past the receiver's length"; 17: "it ends inside the receiver's dropped part"; 10: logs that are not comparable on
--- "the part both still have". Of an office's log behind `dropped` entries, and of a message's behind `other`
-unfoldable pub logsRefusal : ℕ → List ℕ → ℕ → List ℕ → ℕ
-logsRefusal dropped log other theirs =
-    pick (ltb (dropped + length log) other) 16
-    (pick (ltb (other + length theirs) dropped) 17
-    (pick (comparable (drop (other - dropped) log) (drop (dropped - other) theirs)) 0 10))
-
 -- the number of a take on a sound record with these fields. 7: "message not of the layout, .."; 8: "message's n or weights differ from the
 -- record's"; 9: the own message; 16, 17 and 10 by the logs
 unfoldable pub refusalOf : ℕ → ℕ → List ℕ → ℕ → List ℕ → ℕ → List ℕ → Reading → ℕ
@@ -49,13 +41,6 @@ refusalOf n own weights dropped words held rest m =
     (pick (not (both (eqb (m .n) n) (same (m .weights) weights))) 8
     (pick (eqb (m .sender) own) 9
     (logsRefusal dropped (take held words) (m .dropped) (packetIn rest m .state .log))))
-
--- a number, and how many places the comparison of the logs needed: "0 on any refusal but 10"
-unfoldable pub checkedBy : ℕ → ℕ → List ℕ → ℕ → List ℕ → Checked
-checkedBy number dropped log other theirs = record {
-  number = number;
-  places = pick (compares number) (placesFromEnd (drop (other - dropped) log) (drop (dropped - other) theirs)) 0;
-}
 
 unfoldable pub checkedOf : ℕ → ℕ → List ℕ → ℕ → List ℕ → ℕ → List ℕ → Reading → Checked
 checkedOf n own weights dropped words held rest m =

@@ -1,69 +1,23 @@
 // Take's number, and its work on what a record holds, from a message that was read: the two logs compared on the part that both still have, what
-// the sender had dropped dropped, the log caught up, the ballots brought past it and offered the message's, and the sender's length noted.
+// the sender had dropped dropped, the log caught up, the ballots brought past it and offered the message's.
 // Public only for the crate above, which proves what the functions require.
 ghost use mathlib.Core.Path.{_≡_};
-ghost use Prim.Native.Nat.{_-_, _*_, _<_, _≤_};
+ghost use Prim.Native.Nat.{_-_, _*_, _≤_};
 ghost use lib.ListN.{length, take};
-ghost use Rattle.protocol.specs.Folding.{note};
 ghost use Rattle.numbers.specs.Numbers.{runAt};
 ghost use Rattle.spelling.specs.Reading.{recordAt};
 ghost use Rattle.ballots.specs.Ballots.{wordsWith};
-ghost use Rattle.intake.specs.Intake.{takenIn, intakenOf, alignedTake, mergedOf, checkedBy, checkedOf, logsRefusal, caughtLength, caughtWords, Aligned, Ready};
+ghost use Rattle.intake.specs.Intake.{takenIn, intakenOf, alignedTake, mergedOf, checkedOf, caughtLength, caughtWords, Aligned, Ready};
 use ballots::Ballot;
+use comparing::Checked;
 use elections::State;
 use kept::Kept;
 use reading::Reading;
-
-// The number of a take, and how many places the comparison of the logs needed.
-pub struct Checked {
-    pub number: u32,
-    pub places: usize,
-}
 
 // What takes change of a record: the state, and what is kept of the dropped entries.
 pub struct Intaken {
     pub state: State,
     pub kept: Kept,
-}
-
-// The number of a take that came to no comparison.
-fn refused(number: u32) -> Checked
-    ensures { λ r. ⌜ r ≡ record { number = number; places = 0 } ⌝ }
-{
-    Checked { number, places: 0 }
-}
-
-// By how many entries a log that begins behind `dropped` entries begins later than one behind `other`.
-fn later(dropped: u64, other: u64) -> usize
-    ensures { λ r. ⌜ r ≡ dropped - other ⌝ }
-{
-    if dropped <= other {
-        return 0;
-    }
-    (dropped - other) as usize
-}
-
-// The number of a take by the logs alone, compared on the part that both still have: the held one, behind `dropped` entries, and the values of a
-// message's k log records, behind `other` entries.
-fn check_logs(dropped: u64, log: &[u32], held: usize, other: u64, rest: &[u8], k: usize) -> Checked
-    requires { ⌜ (held ≤ length (now log)) × (6 * k ≤ length (now rest)) ⌝ }
-    ensures { λ r. ⌜ r ≡ checkedBy (logsRefusal dropped (take held (now (log .entry))) other (runAt 6 recordAt k (now (rest .entry)))) dropped (take held (now (log .entry))) other (runAt 6 recordAt k (now (rest .entry))) ⌝ }
-{
-    let ahead = later(other, dropped);
-    if ahead > held {
-        return refused(16);
-    }
-    let behind = later(dropped, other);
-    if behind > k {
-        return refused(17);
-    }
-    let from = 6 * behind;
-    let c = comparing::compare(&log[ahead..], held - ahead, &rest[from..], k - behind);
-    let places = c.places;
-    if c.differ {
-        return Checked { number: 10, places };
-    }
-    Checked { number: 0, places }
 }
 
 // The number of a take on a sound record with these fields, in the order of the definition; m is what the message was read as.
@@ -81,31 +35,19 @@ pub fn check(
     ensures { λ r. ⌜ r ≡ checkedOf n own weights dropped (now (log .entry)) held (now (rest .entry)) m ⌝ }
 {
     if !m.ok {
-        return refused(7);
+        return comparing::refused(7);
     }
     if m.n != n {
-        return refused(8);
+        return comparing::refused(8);
     }
     let theirs = m.weights;
     if !lists::same_eight(theirs, weights) {
-        return refused(8);
+        return comparing::refused(8);
     }
     if m.sender == own {
-        return refused(9);
+        return comparing::refused(9);
     }
-    check_logs(dropped, log, held, m.dropped, rest, m.held)
-}
-
-// The longest settled length noted for each office, after a message of this one with this settled length.
-pub fn noted(lengths: [u64; 8], sender: usize, length: u64) -> [u64; 8]
-    requires { ⌜ sender < 8 ⌝ }
-    ensures { λ r. ⌜ r ≡ note sender length lengths ⌝ }
-{
-    let mut next = lengths;
-    if lengths[sender] < length {
-        next[sender] = length;
-    }
-    next
+    comparing::check(dropped, log, held, m.dropped, rest, m.held)
 }
 
 // Where the message's log is the longer, writes the missing entries from the held length onward; answers the new held length.
@@ -164,8 +106,8 @@ pub fn take_in(
 {
     let held = state.held;
     let offers = m.ballots;
-    let ahead = later(m.dropped, kept.dropped);
-    let behind = later(kept.dropped, m.dropped);
+    let ahead = comparing::later(m.dropped, kept.dropped);
+    let behind = comparing::later(kept.dropped, m.dropped);
     let mut aligned = state;
     aligned.held = held - ahead;
     let from = 6 * behind;

@@ -1,9 +1,9 @@
-// What an office knows of the others' settled lengths.
+// What an office knows of the others' settled lengths: the least of them, and the longest heard of each.
 ghost use mathlib.Core.Path.{_≡_};
-ghost use Prim.Native.Nat.{_-_, _≤_, min};
+ghost use Prim.Native.Nat.{_-_, _<_, _≤_, min};
 ghost use lib.Dec.{eqb};
 ghost use Rattle.lists.specs.Tests.{pick};
-ghost use Rattle.protocol.specs.Folding.{leastKnown};
+ghost use Rattle.protocol.specs.Folding.{leastKnown, note};
 
 // The smaller of what is known so far and the length noted of office j, which is not looked at where j is the own office.
 fn known_with(least: u64, own: usize, j: usize, length: u64) -> u64
@@ -40,4 +40,17 @@ pub fn known(own: usize, settled: u64, noted: [u64; 8], n: usize, dropped: u64) 
         return 0;
     }
     least - dropped
+}
+
+// The longest settled length noted for each office, after a message of this one with this settled length. Public only for the crate above, which
+// proves that there is such an office.
+pub fn noted(lengths: [u64; 8], sender: usize, length: u64) -> [u64; 8]
+    requires { ⌜ sender < 8 ⌝ }
+    ensures { λ r. ⌜ r ≡ note sender length lengths ⌝ }
+{
+    let mut next = lengths;
+    if lengths[sender] < length {
+        next[sender] = length;
+    }
+    next
 }

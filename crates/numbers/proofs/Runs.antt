@@ -1,10 +1,10 @@
 -- Runs of items of one width: what is written is read back, and what is read is what was written. One law for weights, values and
 -- log records. Assumes nothing.
-use Prim.Native.Nat.{ℕ, zero, suc, _+_, _*_}
+use Prim.Native.Nat.{ℕ, zero, suc, _+_, _-_, _*_, _≤_}
 use mathlib.Core.Bool.{Bool, true}
 use mathlib.Core.List.{List, [], _∷_, _++_, append-assoc}
 use mathlib.Core.Path.{_≡_, refl, sym, ap, _∙_}
-use native.Mathlib.Nat.{mul-zero}
+use native.Mathlib.Nat.{mul-zero, sub-zero}
 use native.Mathlib.Omega.{arith}
 use lib.ListN.{length, drop, length-append}
 use lib.Seq.{drop-at, drop-drop, getD-drop}
@@ -30,6 +30,15 @@ runAt-length w g (suc k) s = ap suc (runAt-length w g k (drop w s))
 
 pub drop-more : (w k : ℕ) (s : List ℕ) → drop (w * suc k) s ≡ drop (w * k) (drop w s)
 drop-more w k s = let e : w * suc k ≡ w + w * k = omega arith in rw (drop-drop, e)
+
+-- the items after the first i
+pub run-rest : (w : ℕ) (g : List ℕ → ℕ) (k i : ℕ) (s : List ℕ) → i ≤ k → drop i (runAt w g k s) ≡ runAt w g (k - i) (drop (w * i) s)
+unfolding runAt
+run-rest w g k zero s h = rw (sub-zero, mul-zero)
+run-rest w g zero (suc i) s h = absurd (omega arith)
+run-rest w g (suc k) (suc i) s h =
+    let q : suc k - suc i ≡ k - i = omega arith in
+    rw (q, drop-more) (run-rest w g k i (drop w s) (omega arith))
 
 module _ (w : ℕ) (f : ℕ → List ℕ) (g : List ℕ → ℕ) (p : List ℕ → Bool) (ok : ℕ → Bool) (I : Item w f g p ok) where
   pub run-length : (vs : List ℕ) → length (run f vs) ≡ w * length vs

@@ -19,13 +19,13 @@ use Rattle.soundness.specs.Soundness.{longEnough}
 use Rattle.frame.specs.State.{heldBy, freshRecord, zeroRecord}
 use Rattle.frame.specs.Soundness.{soundB}
 use Rattle.frame.specs.Founding.{foundOf}
-use Rattle.frame.specs.Frames.{editIs, storedEdit, keptEdit, shownIn}
+use Rattle.both_frames.specs.Frames.{editIs, storedEdit, keptEdit, shownIn}
 use Rattle.frame.specs.declared.Record.{Record}
-use Rattle.frame.specs.declared.frames.Edit.{Edit}
-use Rattle.frame.specs.declared.frames.Edit.the-variants.{Code, NotYet}
-use Rattle.frame.specs.declared.frames.Framed.{Framed}
+use Rattle.both_frames.specs.declared.Edit.{Edit}
+use Rattle.both_frames.specs.declared.Edit.the-variants.{Code, NotYet}
+use Rattle.both_frames.specs.declared.Framed.{Framed}
 use Rattle.frame.proofs.Sound.{sound}
-use Rattle.frame.proofs.Shown.{shown-done, frame-shown, lines-frames, stored-shown}
+use Rattle.both_frames.proofs.Shown.{shown-done, frame-shown, lines-frames, stored-shown}
 use Rattle.promises.specs.Edits.{settledEdit, tentativeEdit, lineEdit, storedAt, ShowsEdits}
 
 -- ── what is shown, and the last edit ──

@@ -7,7 +7,7 @@ use mathlib.Core.Path.{_≡_}
 use mathlib.Core.List.{List}
 use Prim.Native.Nat.{ℕ, _+_, _<_, _≤_}
 use lib.ListN.{getD}
-use Rattle.frame.specs.Frames.{settledFrameOf, tentativeFrameOf, allLinesOf}
+use Rattle.both_frames.specs.Frames.{settledFrameOf, tentativeFrameOf, allLinesOf}
 use Rattle.frame.specs.Folding.{foldOf, foldWords}
 use Rattle.frame.specs.declared.Record.{Record}
 

@@ -3,7 +3,6 @@ use Prim.Native.Nat.{ℕ, _*_, _-_, _≤_, suc, zero, _+_, _<_}
 use mathlib.Core.Bool.{true}
 use mathlib.Core.List.{List, [], _++_, _∷_, append-nil}
 use mathlib.Core.Path.{_∙_, _≡_, ap, refl, sym}
-use native.Mathlib.Nat.{mul-zero, sub-zero}
 use native.Mathlib.Omega.{arith}
 use lib.ListN.{drop, drop-of-length-le, length, length-drop, set, take}
 use lib.Seq.{sets, take-all, length-take-le, sets-eq}
@@ -11,7 +10,7 @@ use Rattle.protocol.specs.Beginning.{begins}
 use Rattle.numbers.specs.Numbers.{runAt}
 use Rattle.spelling.specs.Reading.{recordAt}
 use Rattle.protocol.proofs.Beginning.{begins-true, ⊑-rest}
-use Rattle.numbers.proofs.Runs.{drop-more}
+use Rattle.numbers.proofs.Runs.{run-rest}
 use Rattle.numbers.proofs.Steps.{fill-step}
 
 sets-cons : (x : ℕ) (xs : List ℕ) (i : ℕ) (vs : List ℕ) → sets (x ∷ xs) (suc i) vs ≡ x ∷ sets xs i vs
@@ -30,15 +29,6 @@ part-back a xs ys vs h e =
     let t : take (length xs - a) (drop a xs) ≡ drop a xs = take-all (length xs - a) (drop a xs) (omega (arith, length-drop a xs)) in
     let d : drop (length xs - a) (drop a xs) ≡ [] = drop-of-length-le (drop a xs) {i = length xs - a} (omega (arith, length-drop a xs)) in
     rw (e, t, d, append-nil) (sets-part a xs vs h)
-
--- the items after the first i
-pub run-rest : (w : ℕ) (g : List ℕ → ℕ) (k i : ℕ) (s : List ℕ) → i ≤ k → drop i (runAt w g k s) ≡ runAt w g (k - i) (drop (w * i) s)
-unfolding runAt
-run-rest w g k zero s h = rw (sub-zero, mul-zero)
-run-rest w g zero (suc i) s h = absurd (omega arith)
-run-rest w g (suc k) (suc i) s h =
-    let q : suc k - suc i ≡ k - i = omega arith in
-    rw (q, drop-more) (run-rest w g k i (drop w s) (omega arith))
 
 -- the missing entries, stored into the part of the log behind the first that are held
 pub extend-stores : (held k : ℕ) (log ys rest : List ℕ) → held ≤ k → held ≤ length log

@@ -13,13 +13,13 @@ use Rattle.frame.specs.declared.Record.{Record}
 use Rattle.frame.specs.declared.issuing.Issued.{Issued}
 use Rattle.frame.specs.declared.sending.Sent.{Sent}
 use Rattle.frame.specs.declared.electing.Elected.{Elected}
-use Rattle.frame.specs.declared.frames.Framed.{Framed}
+use Rattle.both_frames.specs.declared.Framed.{Framed}
 use Rattle.frame.specs.Issuing.{issueOf}
 use Rattle.frame.specs.Sending.{sendOf, sendBytes}
 use Rattle.frame.specs.declared.taking.Taken.{Taken}
 use Rattle.frame.specs.Taking.{takeOf, takeWords}
 use Rattle.frame.specs.Electing.{electOf}
-use Rattle.frame.specs.Frames.{settledFrameOf, tentativeFrameOf}
+use Rattle.both_frames.specs.Frames.{settledFrameOf, tentativeFrameOf}
 use Rattle.rehearsal_turns.specs.declared.Turn.{Turn}
 use Rattle.rehearsal_turns.specs.Pieces.{slotOf, messageIn}
 use Rattle.rehearsal_turns.specs.Answers.{saysOne, saysTwo, saysFrames}

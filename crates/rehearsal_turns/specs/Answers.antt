@@ -4,8 +4,8 @@ use Prim.Native.Nat.{ℕ}
 use Rattle.rehearsal_answers.specs.declared.Answer.{Answer}
 use Rattle.rehearsal_answers.specs.declared.Item.{Item}
 use Rattle.rehearsal_answers.specs.declared.Item.the-variants.{Number, Dash, Nothing}
-use Rattle.frame.specs.declared.frames.Edit.{Edit}
-use Rattle.frame.specs.declared.frames.Edit.the-variants.{Code, NotYet}
+use Rattle.both_frames.specs.declared.Edit.{Edit}
+use Rattle.both_frames.specs.declared.Edit.the-variants.{Code, NotYet}
 
 -- a letter with one number or two
 abbrev pub saysOne : ℕ → ℕ → Answer

@@ -12,7 +12,7 @@ use Rattle.frame.specs.Issuing.{issueOf}
 use Rattle.frame.specs.Sending.{sendOf, sendBytes}
 use Rattle.frame.specs.Taking.{takeOf, takeWords}
 use Rattle.frame.specs.Electing.{electOf, electWords}
-use Rattle.frame.specs.Frames.{settledFrameOf, tentativeFrameOf}
+use Rattle.both_frames.specs.Frames.{settledFrameOf, tentativeFrameOf}
 use Rattle.rehearsal_turns.specs.declared.Turn.{Turn}
 use Rattle.rehearsal_turns.specs.Pieces.{withPiece, slotOf, messageIn}
 use Rattle.rehearsal_turns.specs.Answers.{saysOne, saysTwo, saysFrames, question}

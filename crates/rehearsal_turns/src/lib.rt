@@ -6,7 +6,7 @@ ghost use lib.ListN.{length};
 ghost use Rattle.rehearsal_turns.specs.Answers.{saysOne, saysTwo, itemOf, saysFrames, question};
 ghost use Rattle.rehearsal_turns.specs.Turns.{stay, issueTurn, sentLengths, sendTurn, sendSlots, takeTurn, takeTurnWords, electTurn, viewTurn, turnAt, turnWords, turnSlots};
 use frame::Record;
-use frame::frames::Edit;
+use both_frames::Edit;
 use lists::within;
 use rehearsal_answers::Answer;
 use rehearsal_answers::Item;
@@ -184,8 +184,8 @@ fn elect_turn(record: Record, lengths: [usize; 4], log: &mut [u32]) -> Turn
 fn view_turn(record: Record, lengths: [usize; 4], log: &[u32], line: u32) -> Turn
     ensures { λ r. ⌜ r ≡ viewTurn «record» lengths (now (log .entry)) line ⌝ }
 {
-    let settled = record.settled_frame(log, line);
-    let tentative = record.tentative_frame(log, line);
+    let settled = both_frames::settled_frame(record, log, line);
+    let tentative = both_frames::tentative_frame(record, log, line);
     let now = settled.edit;
     let soon = tentative.edit;
     let answer = says_frames(b'v', settled.number, now, soon);

@@ -22,10 +22,10 @@ use Rattle.tabulation.proofs.Sheet.{sheet-is}
 use Rattle.tabulation.proofs.Lines.{sheet-few}
 use Rattle.tabulation.proofs.Cells.{held-rows}
 use Rattle.frame.specs.Soundness.{soundB}
-use Rattle.frame.specs.Frames.{allLinesOf, storedEdit}
+use Rattle.both_frames.specs.Frames.{allLinesOf, storedEdit}
 use Rattle.frame.specs.declared.Record.{Record}
-use Rattle.frame.specs.declared.frames.Lines.{Lines}
-use Rattle.frame.proofs.Shown.{lines-frames}
+use Rattle.both_frames.specs.declared.Lines.{Lines}
+use Rattle.both_frames.proofs.Shown.{lines-frames}
 use Rattle.sheet.specs.Sheet.{sheetNumber, sheetRows, settledCodes, noSheet, sheetOf, sheetWith}
 use Rattle.sheet.specs.Claims.{Claims}
 use Rattle.sheet.specs.declared.Sheet.{Sheet}

@@ -26,10 +26,10 @@ use Rattle.tabulation.proofs.Under.{pooled-total}
 use Rattle.tabulation.proofs.Sheet.{sheet-is}
 use Rattle.tabulation.proofs.Lines.{by-line}
 use Rattle.frame.specs.Soundness.{soundB}
-use Rattle.frame.specs.Frames.{allLinesOf}
+use Rattle.both_frames.specs.Frames.{allLinesOf}
 use Rattle.frame.specs.declared.Record.{Record}
-use Rattle.frame.specs.declared.frames.Lines.{Lines}
-use Rattle.frame.proofs.Shown.{lines-unsound}
+use Rattle.both_frames.specs.declared.Lines.{Lines}
+use Rattle.both_frames.proofs.Shown.{lines-unsound}
 use Rattle.sheet.specs.Sheet.{sheetNumber, sheetRows, settledCodes, noSheet, sheetOf}
 use Rattle.sheet.specs.declared.Sheet.{Sheet}
 

@@ -8,9 +8,9 @@ use Rattle.numbers.specs.Numbers.{Bytes}
 use Rattle.households.specs.Households.{householdsIn}
 use Rattle.tabulation.specs.Rows.{totalOf}
 use Rattle.tabulation.specs.Sheet.{IsSheet}
-use Rattle.frame.specs.Frames.{settledFrameOf, storedEdit}
+use Rattle.both_frames.specs.Frames.{settledFrameOf, storedEdit}
 use Rattle.frame.specs.declared.Record.{Record}
-use Rattle.frame.specs.declared.frames.Framed.{Framed}
+use Rattle.both_frames.specs.declared.Framed.{Framed}
 use Rattle.sheet.specs.Sheet.{settledCodes, sheetRows, sheetOf}
 
 pub record Claims (r : Record) (words s : List ℕ) : Type 0 where

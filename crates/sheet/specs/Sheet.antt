@@ -10,7 +10,7 @@ use Rattle.tabulation.specs.Cells.{cellsOf}
 use Rattle.tabulation.specs.Sheet.{sheetBy}
 use Rattle.tabulation.specs.declared.Row.{Row}
 use Rattle.frame.specs.Soundness.{soundB}
-use Rattle.frame.specs.Frames.{allLinesOf}
+use Rattle.both_frames.specs.Frames.{allLinesOf}
 use Rattle.frame.specs.declared.Record.{Record}
 use Rattle.sheet.specs.declared.Sheet.{Sheet}
 

@@ -30,7 +30,7 @@ fn refused(number: u32) -> Sheet
 pub fn household_sheet(office: Record, log: &[u32], bytes: &[u8]) -> Sheet
     ensures { λ r. ⌜ r ≡ sheetOf office (now (log .entry)) (now (bytes .entry)) ⌝ }
 {
-    let lines = office.all_lines(log);
+    let lines = both_frames::all_lines(office, log);
     if lines.number != 0 {
         return refused(1);
     }

@@ -5,7 +5,7 @@ use crate::book::SAID;
 use crate::digest;
 use crate::record;
 use frame::Record;
-use frame::frames::Edit;
+use both_frames::Edit;
 use lists::within;
 use tabulation::Row;
 use tallies::Winner;
@@ -67,8 +67,8 @@ fn stored(edit: Edit) -> u64 {
 
 // `V line`
 fn frames(book: &Book, log: &[u32]) {
-    let settled = record::of(book).settled_frame(log, word(book[SAID]));
-    let tentative = record::of(book).tentative_frame(log, word(book[SAID]));
+    let settled = both_frames::settled_frame(record::of(book), log, word(book[SAID]));
+    let tentative = both_frames::tentative_frame(record::of(book), log, word(book[SAID]));
     let now = settled.edit;
     let soon = tentative.edit;
     print(settled.number as u64);
@@ -79,7 +79,7 @@ fn frames(book: &Book, log: &[u32]) {
 
 // `A`
 fn all_lines(book: &Book, log: &[u32]) {
-    let lines = record::of(book).all_lines(log);
+    let lines = both_frames::all_lines(record::of(book), log);
     let codes = lines.codes;
     print(lines.number as u64);
     print(part_digest(&codes));

@@ -44,7 +44,7 @@ returns-4 : tie.Need-returns-4
 returns-4 c = let t = c .before in answer-none _ _ _ _ _ _ _ _ _ 9 (c .refused4 .ensures) (early .2) (own-message _ _ _ _ _ _ _ _ (alike (t .before .before)) (t .if4 .taken))
 
 returns-5 : tie.Need-returns-5
-returns-5 c = let e = c .before in by-logs _ _ _ _ _ _ _ _ (alike (weighed e)) (e .if4 .left) _ (c .check-logs .ensures)
+returns-5 c = let e = c .before in by-logs _ _ _ _ _ _ _ _ (alike (weighed e)) (e .if4 .left) _ (c .check .ensures)
 
 pub check-spec : {M : Type 1} → statement M
 check-spec =

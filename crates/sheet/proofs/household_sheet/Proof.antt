@@ -8,7 +8,7 @@ use borrow.Author.Tests.{not-true, not-false}
 use native.Mathlib.Omega.{arith}
 use lib.ListN.{length}
 use Rattle.households.specs.declared.Pools.{Pools}
-use Rattle.frame.specs.declared.frames.Lines.{Lines}
+use Rattle.both_frames.specs.declared.Lines.{Lines}
 use Rattle.frame.specs.Soundness.{soundB}
 use Rattle.numbers.specs.Numbers.{Bytes}
 use Rattle.households.specs.Households.{areHouseholds, householdsIn}

@@ -1,0 +1,2 @@
+-- The definitions that the contracts of `both_frames` cite.
+pub mod Frames
