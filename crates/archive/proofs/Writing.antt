@@ -15,7 +15,7 @@ use Rattle.lists.specs.Tests.{pick}
 use Rattle.lists.proofs.Tests.{all-mono}
 use Rattle.protocol.specs.Counts.{countOf}
 use Rattle.ballots.specs.Ballots.{ballotFine, ballotShape}
-use Rattle.ballots.proofs.Eight.{shape-of}
+use Rattle.eight_ballots.proofs.Eight.{shape-of}
 use Rattle.writer.specs.Written.{writtenBytes, writtenLength}
 use Rattle.writer.proofs.Whole.{answer-fits, answer-short}
 use Rattle.vectors.specs.Vectors.{Countable, EachAtMost, mostKept}

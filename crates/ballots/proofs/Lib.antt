@@ -1,4 +1,2 @@
 -- Laws that belong to no one function.
-pub mod Eight
-pub mod Fours
 pub mod Laws

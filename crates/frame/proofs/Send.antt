@@ -16,7 +16,7 @@ use lib.Seq.{take-append-seam}
 use Rattle.lists.specs.Tests.{pick}
 use Rattle.lists.proofs.Tests.{all-mono}
 use Rattle.ballots.specs.Ballots.{ballotFine, ballotShape}
-use Rattle.ballots.proofs.Eight.{shape-of}
+use Rattle.eight_ballots.proofs.Eight.{shape-of}
 use Rattle.protocol.specs.Folding.{packet}
 use Rattle.protocol.proofs.FoldedLimits.{folded-test}
 use Rattle.spelling.specs.Content.{asPacket, validContent}

@@ -1,6 +1,6 @@
 // Reading a message: what it says, or a refusal; and its settled entries where they stand, written to a log.
 use ballots::Ballot;
-use ballots::fine;
+use eight_ballots::fine;
 use numbers::be16_at;
 use numbers::be64_at;
 use numbers::wide;

@@ -19,7 +19,7 @@ use Rattle.protocol.specs.Limits.{headFine, logFine, tailsFine, officeFine, len
 use Rattle.protocol.proofs.Limits.{head, head-true, fine}
 use Rattle.ballots.specs.Ballots.{ballotShape, ballotsFine, tailOf, officeIn}
 use Rattle.ballots.specs.declared.Ballot.{Ballot}
-use Rattle.ballots.proofs.Eight.{places-fine}
+use Rattle.eight_ballots.proofs.Eight.{places-fine}
 use Rattle.summary.specs.Summary.{summaryAfter}
 use Rattle.summary.specs.declared.Summary.{Summary}
 use Rattle.summary.proofs.Laws.{same-summary-true, same-summary-refl}

@@ -21,7 +21,7 @@ use Rattle.protocol.proofs.Limits.{head-true}
 use Rattle.protocol.proofs.FoldedLimits.{FoldedFine, folded-facts, folded-of}
 use Rattle.ballots.specs.Ballots.{ballotShape, ballotOf, officeIn, wordsWith}
 use Rattle.ballots.specs.declared.Ballot.{Ballot}
-use Rattle.ballots.proofs.Eight.{shape-of}
+use Rattle.eight_ballots.proofs.Eight.{shape-of}
 use Rattle.ballots.proofs.Laws as B
 use Rattle.summary.specs.Summary.{summaryAfter}
 use Rattle.summary.specs.declared.Summary.{Summary}

@@ -85,7 +85,7 @@ pub fn sound(
     if !summary.same(follows) {
         return false;
     }
-    if !ballots::fine(ballots, n, held) {
+    if !eight_ballots::fine(ballots, n, held) {
         return false;
     }
     lengths::within(settled, ballots)

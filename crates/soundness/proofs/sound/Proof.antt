@@ -13,7 +13,7 @@ use Rattle.lists.proofs.Tests.{both-0, both-1, both-true}
 use Rattle.protocol.specs.Limits.{headFine}
 use Rattle.protocol.proofs.Limits.{head, head-true}
 use Rattle.ballots.specs.Ballots.{ballotShape, ballotsFine}
-use Rattle.ballots.proofs.Eight.{places-fine}
+use Rattle.eight_ballots.proofs.Eight.{places-fine}
 use Rattle.summary.specs.Summary.{sameSummary}
 use Rattle.kept.proofs.Facts.{kept-true}
 use Rattle.soundness.specs.Noted.{notedFine}

@@ -1,0 +1,2 @@
+-- The definitions that the contracts of `eight_ballots` cite.
+pub mod Fours
