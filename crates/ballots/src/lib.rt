@@ -12,7 +12,7 @@ pub struct Ballot {
 impl Ballot {
     pub const CELLS: usize = 32;
 
-    // The longest path of a ballot: a settled length with a tail length.
+    // The longest path of a ballot: the length of an undropped log with a tail's.
     pub const PATH: usize = 1024;
 
     // No entries.

@@ -157,7 +157,7 @@ fn four_unused(a: Ballot, b: Ballot, c: Ballot, d: Ballot, masks: &[u32]) -> boo
     (p == 0) & (q == 0) & (r == 0) & (s == 0)
 }
 
-// Whether a ballot of this length may stand at this place: with the settled log it makes no path past 1024, and from place n on it is none.
+// Whether a ballot of this length may stand at this place: with the undropped log it makes no path past 1024, and from place n on it is none.
 fn fits(len: usize, place: usize, n: usize, settled: usize) -> bool
     ensures { λ r. ⌜ r ≡ fitsAt n settled place len ⌝ }
 {
@@ -170,7 +170,7 @@ fn fits(len: usize, place: usize, n: usize, settled: usize) -> bool
     settled <= Ballot::PATH - len
 }
 
-// Whether eight ballots are within the limits beside a settled log of this length: at once where there are none, else their lengths first,
+// Whether eight ballots are within the limits beside an undropped log of this length: at once where there are none, else their lengths first,
 // then their cells, by the faster test where no cell is a move of weight, and each office's part. It serves a record and a message alike. Public only for the
 // crates above, which prove what it requires.
 pub fn fine(all: [Ballot; 8], n: usize, settled: usize) -> bool
