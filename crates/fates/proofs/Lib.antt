@@ -1,0 +1,2 @@
+-- The laws of what became of an office's own entries.
+pub mod Parts

@@ -1,0 +1,48 @@
+-- What became of an office's own entries: o is the state of office k before a call, o' after it. Assumes nothing.
+use mathlib.Core.Path.{_≡_}
+use mathlib.Core.List.{List, [], _∷_, _++_}
+use mathlib.Core.Bool.{cond}
+use Prim.Native.Nat.{ℕ}
+use lib.Dec.{eqb}
+use lib.ListN.{length, drop}
+use Rattle.protocol.specs.Entry.{officeOf}
+use Rattle.protocol.specs.Beginning.{_⊑_}
+use Rattle.protocol.specs.Office.{Office, tail, path}
+
+-- the common beginning of two lists
+unfoldable pub common : List ℕ → List ℕ → List ℕ
+common [] b = []
+common (x ∷ a) [] = []
+common (x ∷ a) (y ∷ b) = cond (eqb x y) (x ∷ common a b) []
+
+-- ── the own tail before the call, in three parts ──
+-- its beginning that the settled log has now, at the same places
+abbrev pub settledOf : ℕ → Office → Office → List ℕ
+settledOf k o o' = common (tail o k) (drop (length (o .log)) (o' .log))
+
+-- its beginning that the own path has now: what settled and what is pending
+abbrev pub keptOf : ℕ → Office → Office → List ℕ
+keptOf k o o' = common (tail o k) (drop (length (o .log)) (path o' k))
+
+-- "pending still": in the own path, past the settled log
+abbrev pub pendingOf : ℕ → Office → Office → List ℕ
+pendingOf k o o' = drop (length (settledOf k o o')) (keptOf k o o')
+
+-- "lost": the rest
+abbrev pub lostOf : ℕ → Office → Office → List ℕ
+lostOf k o o' = drop (length (keptOf k o o')) (tail o k)
+
+-- "the own office's entries": a tail may hold entries of other offices that were adopted
+unfoldable pub entriesOf : ℕ → List ℕ → List ℕ
+entriesOf k [] = []
+entriesOf k (e ∷ l) = cond (eqb (officeOf e) k) (e ∷ entriesOf k l) (entriesOf k l)
+
+-- e is one of the entries l
+pub record Stands (l : List ℕ) (e : ℕ) : Type 0 where
+  pub front : List ℕ
+  pub rest : List ℕ
+  pub whole : l ≡ front ++ (e ∷ rest)
+
+-- the entry e that stood in the own path behind p stands there no more
+abbrev pub Loses : ℕ → Office → Office → List ℕ → ℕ → Type 0
+Loses k o o' p e = ((p ++ (e ∷ [])) ⊑ path o k) × ((p ++ (e ∷ [])) ⊑ path o' k → ⊥)

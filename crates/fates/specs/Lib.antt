@@ -1,0 +1,2 @@
+-- The definitions that the contracts of `fates` cite, and those of the three parts of an office's own tail.
+pub mod Fates
