@@ -39,11 +39,11 @@ fn with_vote(rows: Rows, votes: [u32; 8], weights: [u16; 8], vote: u32) -> Rows
     if has_row(rows, vote) {
         return rows;
     }
-    let weight = tallies::weight_for(votes, weights, vote);
+    let at = rows.count;
     let mut next = rows;
-    next.entries[rows.count] = vote;
-    next.tallies[rows.count] = weight;
-    next.count = rows.count + 1;
+    next.entries[at] = vote;
+    next.tallies[at] = tallies::weight_for(votes, weights, vote);
+    next.count = at + 1;
     next
 }
 
