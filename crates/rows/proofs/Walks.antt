@@ -2,6 +2,7 @@
 --     in-next, in-stop, in-done          whether an entry has a row
 --     vote-none, vote-again, vote-new    what one vote does to the rows
 --     SoFar, rows-none, rows-few, rows-next, rows-done      the rows of the first i votes, and what is left of the others
+--     mark-at, marks-length              the marks, one for each office
 --     marks-next, marks-done             which offices are silent, written into eight cells
 -- Assumes nothing.
 use mathlib.Core.Path.{_≡_, refl, sym, ap, ap₂, subst, _∙_}
@@ -15,16 +16,15 @@ use lib.Dec.{eqb}
 use lib.ListN.{length, getD, take, drop, set, replicate, length-map, length-append, length-replicate, drop-of-length-le}
 use lib.Seq.{length-take-le, getD-take, take-all, set-at, take-at}
 use borrow.Author.Tests.{eqb-true, eqb-false, eq-eqb, ne-eqb}
-use Rattle.lists.specs.Tests.{pick}
 use Rattle.lists.proofs.Tests.{if-cases, pick-true, pick-false}
 use Rattle.lists.proofs.Walk.{rest-step}
 use Rattle.lists.proofs.Fill.{filled, front-step}
 use Rattle.protocol.specs.Vote.{Votes, later, isNone, tally, and-also, supported}
 use Rattle.tallies.specs.Tallies.{noVote, voteIn, votesIn, weightFor}
-use Rattle.tallies.proofs.Walks.{votesFrom, voteAt, at-vote, none-word, weight-entry, supported-step}
+use Rattle.tallies.proofs.Walks.{votesFrom, at-vote, none-word, weight-entry, supported-step}
 use Rattle.bounds.specs.Bounds.{inEight}
 use Rattle.bounds.proofs.Walks.{zeros-left}
-use Rattle.rows.specs.Rows.{without, distinct, rowEntries, rowsFor, rowsOf, marks, isIn, withVote}
+use Rattle.rows.specs.Rows.{without, distinct, rowEntries, rowsFor, rowsOf, marks, isIn, withRow, withVote}
 use Rattle.rows.specs.declared.Rows.{Rows}
 
 -- ── whether e is one of the first k entries ──
@@ -59,13 +59,14 @@ module _ (r : Rows) (x t : ℕ) where
   module _ (h : x ≡ noVote → ⊥) (b : Bool) (q : b ≡ isIn x (take (r .count) (r .entries))) where
     pub vote-again : b ≡ true → r ≡ withVote t (voteIn x) r
     unfolding withVote
-    vote-again p = sym (ap (λ (y : Option ℕ). withVote t y r) (is-vote h) ∙ pick-true (isIn x (take (r .count) (r .entries))) r _ (sym q ∙ p))
+    vote-again p =
+        sym (ap (λ (y : Option ℕ). withVote t y r) (is-vote h) ∙ pick-true (isIn x (take (r .count) (r .entries))) r _ (sym q ∙ p))
 
     pub vote-new : b ≡ false → (w : ℕ) → w ≡ t
-        → _≡_ {A = Rows} (record { count = r .count + 1; entries = set (r .entries) (r .count) x; tallies = set (r .tallies) (r .count) w }) (withVote t (voteIn x) r)
+        → withRow w x r ≡ withVote t (voteIn x) r
     unfolding withVote
     vote-new p w e =
-        ap (λ (y : ℕ). record { count = r .count + 1; entries = set (r .entries) (r .count) x; tallies = set (r .tallies) (r .count) y }) e ∙
+        ap (λ (y : ℕ). withRow y x r) e ∙
         sym (ap (λ (y : Option ℕ). withVote t y r) (is-vote h) ∙ pick-false (isIn x (take (r .count) (r .entries))) r _ (sym q ∙ p))
 
 -- ── the entries that stand not among some others ──
@@ -109,7 +110,8 @@ lacking-more ds x (y ∷ l) = go (eqb x y) refl (lacking-more ds x l)
     or-true false = refl
 
     go : (t : Bool) → eqb x y ≡ t → lacking ds (without x l) ≡ lacking (ds ++ (x ∷ [])) l
-        → lacking ds (cond t (without x l) (y ∷ without x l)) ≡ cond (isIn y (ds ++ (x ∷ []))) (lacking (ds ++ (x ∷ [])) l) (y ∷ lacking (ds ++ (x ∷ [])) l)
+        → lacking ds (cond t (without x l) (y ∷ without x l))
+        ≡ cond (isIn y (ds ++ (x ∷ []))) (lacking (ds ++ (x ∷ [])) l) (y ∷ lacking (ds ++ (x ∷ [])) l)
     go true q ih = rw (in-behind y x ds, q, or-true (isIn y ds)) ih
     go false q ih = rw (in-behind y x ds, q, or-false (isIn y ds)) (ap (λ (r : List ℕ). cond (isIn y ds) r (y ∷ r)) ih)
 
@@ -153,7 +155,9 @@ module _ (ws xs : List ℕ) where
 
     left : i < length xs → i < length ws → Left (voteIn (getD xs i 0))
     left hx hw =
-        S .all ∙ ap (λ (l : List ℕ). S .ds ++ lacking (S .ds) (distinct l)) (supported-step xs ws i hx hw ∙ ap (λ (y : ℕ). and-also (voteIn y) rest) (sym (at-vote xs i hx)))
+        let read : supported (drop i ws) (votesFrom i xs) ≡ and-also (voteIn (getD xs i 0)) rest =
+        supported-step xs ws i hx hw ∙ ap (λ (y : ℕ). and-also (voteIn y) rest) (sym (at-vote xs i hx)) in
+        S .all ∙ ap (λ (l : List ℕ). S .ds ++ lacking (S .ds) (distinct l)) read
 
     pub rows-few : r .count ≤ i
     rows-few = let f = S .few in omega (arith, ap (λ (x : Rows). x .count) (S .laid))
@@ -171,14 +175,14 @@ module _ (ws xs : List ℕ) where
       all = all ∙ ap (λ (l : List ℕ). S .ds ++ l) (simp h (lacking-has (S .ds) x (distinct rest) h));
     }
 
-    new : (x : ℕ) → isIn x (S .ds) ≡ false → Left (some x) → i < 8 → (next : Rows)
-        → next ≡ record { count = r .count + 1; entries = set (r .entries) (r .count) x; tallies = set (r .tallies) (r .count) (tally ws (votesIn xs) x) } → SoFar ws xs next (i + 1)
+    new : (x : ℕ) → isIn x (S .ds) ≡ false → Left (some x) → i < 8 → (next : Rows) → next ≡ withRow (tally ws (votesIn xs) x) x r → SoFar ws xs next (i + 1)
     unfolding lacking distinct
     new x h all few next q = record {
       ds = S .ds ++ (x ∷ []);
       few = let f = S .few in omega (arith, length-append (S .ds) (x ∷ []));
-      laid = q ∙ ap (λ (y : Rows). record { count = y .count + 1; entries = set (y .entries) (y .count) x; tallies = set (y .tallies) (y .count) (t x) }) (S .laid) ∙ more;
-      all = all ∙ ap (λ (l : List ℕ). S .ds ++ l) (simp h (ap (λ (l : List ℕ). x ∷ l) (lacking-more (S .ds) x (distinct rest)))) ∙ sym (append-assoc (S .ds) (x ∷ []) (lacking (S .ds ++ (x ∷ [])) (distinct rest)));
+      laid = q ∙ ap (withRow (t x) x) (S .laid) ∙ more;
+      all = all ∙ ap (λ (l : List ℕ). S .ds ++ l) (simp h (ap (λ (l : List ℕ). x ∷ l) (lacking-more (S .ds) x (distinct rest)))) ∙
+          sym (append-assoc (S .ds) (x ∷ []) (lacking (S .ds ++ (x ∷ [])) (distinct rest)));
     }
       where
         t : ℕ → ℕ
@@ -190,25 +194,26 @@ module _ (ws xs : List ℕ) where
         counted : length (S .ds) + 1 ≡ length (S .ds ++ (x ∷ []))
         counted = sym (length-append (S .ds) (x ∷ []))
 
-        more : _≡_ {A = Rows}
-            (record { count = length (S .ds) + 1; entries = set (inEight (S .ds)) (length (S .ds)) x; tallies = set (inEight (map t (S .ds))) (length (S .ds)) (t x) })
-            (rowsFor ws (votesIn xs) (S .ds ++ (x ∷ [])))
+        more : withRow (t x) x (rowsFor ws (votesIn xs) (S .ds)) ≡ rowsFor ws (votesIn xs) (S .ds ++ (x ∷ []))
         more = λ j. record {
           count = counted j;
           entries = eight-more (S .ds) x (length (S .ds)) refl short j;
           tallies = (eight-more (map t (S .ds)) (t x) (length (S .ds)) (length-map (S .ds) t) short ∙ ap inEight (sym (map-behind t (S .ds) x))) j;
         }
 
-    pub rows-next : length xs ≡ 8 → length ws ≡ 8 → i < 8 → (next : Rows) → next ≡ withVote (weightFor ws (votesIn xs) (getD xs i 0)) (voteIn (getD xs i 0)) r → SoFar ws xs next (i + 1)
+    pub rows-next : length xs ≡ 8 → length ws ≡ 8 → i < 8 → (next : Rows)
+        → next ≡ withVote (weightFor ws (votesIn xs) (getD xs i 0)) (voteIn (getD xs i 0)) r → SoFar ws xs next (i + 1)
     unfolding withVote
     rows-next hx hw few next q = go (getD xs i 0) (eqb (getD xs i 0) noVote) refl (left (omega arith) (omega arith)) q
       where
-        entry : (x : ℕ) (b : Bool) → isIn x (S .ds) ≡ b → (x ≡ noVote → ⊥) → Left (some x) → next ≡ withVote (weightFor ws (votesIn xs) x) (some x) r → SoFar ws xs next (i + 1)
+        entry : (x : ℕ) (b : Bool) → isIn x (S .ds) ≡ b → (x ≡ noVote → ⊥) → Left (some x)
+            → next ≡ withVote (weightFor ws (votesIn xs) x) (some x) r → SoFar ws xs next (i + 1)
         entry x true d n all q = again x d all next (q ∙ pick-true _ _ _ (ap (isIn x) rows-have ∙ d))
         entry x false d n all q = new x d all few next (q ∙ pick-false _ _ _ (ap (isIn x) rows-have ∙ d) ∙
-            ap (λ (y : ℕ). record { count = r .count + 1; entries = set (r .entries) (r .count) x; tallies = set (r .tallies) (r .count) y }) (weight-entry ws (votesIn xs) x n))
+            ap (λ (y : ℕ). withRow y x r) (weight-entry ws (votesIn xs) x n))
 
-        go : (x : ℕ) (b : Bool) → eqb x noVote ≡ b → Left (cond b none (some x)) → next ≡ withVote (weightFor ws (votesIn xs) x) (cond b none (some x)) r → SoFar ws xs next (i + 1)
+        go : (x : ℕ) (b : Bool) → eqb x noVote ≡ b → Left (cond b none (some x))
+            → next ≡ withVote (weightFor ws (votesIn xs) x) (cond b none (some x)) r → SoFar ws xs next (i + 1)
         go x true d all q = record { ds = S .ds; few = let f = S .few in omega arith; laid = q ∙ S .laid; all = all }
         go x false d all q = entry x (isIn x (S .ds)) refl (eqb-false x noVote d) all q
 
@@ -219,21 +224,23 @@ module _ (ws xs : List ℕ) where
         (sym (S .all ∙ ap (λ (l : List ℕ). S .ds ++ lacking (S .ds) (distinct (supported l (votesFrom i xs)))) (drop-of-length-le ws h) ∙ append-nil (S .ds)))
 
 -- ── which offices are silent ──
-marks-length : (n : ℕ) (v : Votes) → length (marks n v) ≡ n
+pub marks-length : (n : ℕ) (v : Votes) → length (marks n v) ≡ n
 unfolding marks
 marks-length zero v = refl
 marks-length (suc n) v = ap suc (marks-length n (later v))
 
-marks-at : (n : ℕ) (v : Votes) (k : ℕ) → k < n → getD (marks n v) k 0 ≡ cond (isNone (v k)) 1 0
+pub mark-at : (n : ℕ) (v : Votes) (k : ℕ) → k < n → getD (marks n v) k 0 ≡ cond (isNone (v k)) 1 0
 unfolding marks
-marks-at zero v k h = absurd (not-suc-le-zero h)
-marks-at (suc n) v zero h = refl
-marks-at (suc n) v (suc k) h = marks-at n (later v) k (le-of-suc-le-suc h)
+mark-at zero v k h = absurd (not-suc-le-zero h)
+mark-at (suc n) v zero h = refl
+mark-at (suc n) v (suc k) h = mark-at n (later v) k (le-of-suc-le-suc h)
 
-module _ (n : ℕ) (few : n ≤ 8) (xs : List ℕ) (eight : length xs ≡ 8) (cs : List ℕ) (i : ℕ) (inv : cs ≡ filled (marks n (votesIn xs)) (replicate 8 0) i) where
-  pub marks-next : i < n → (t : Bool) → t ≡ eqb (getD xs i 0) noVote → (x : ℕ) → x ≡ cond t 1 0 → set cs i x ≡ filled (marks n (votesIn xs)) (replicate 8 0) (i + 1)
+module _ (n : ℕ) (few : n ≤ 8) (xs : List ℕ) (eight : length xs ≡ 8) (cs : List ℕ) (i : ℕ)
+    (inv : cs ≡ filled (marks n (votesIn xs)) (replicate 8 0) i) where
+  pub marks-next : i < n → (t : Bool) → t ≡ eqb (getD xs i 0) noVote → (x : ℕ) → x ≡ cond t 1 0
+      → set cs i x ≡ filled (marks n (votesIn xs)) (replicate 8 0) (i + 1)
   marks-next h t q x p =
-      ap₂ (λ (l : List ℕ) (y : ℕ). set l i y) inv (p ∙ ap (λ (b : Bool). cond b 1 0) silent ∙ sym (marks-at n (votesIn xs) i h)) ∙
+      ap₂ (λ (l : List ℕ) (y : ℕ). set l i y) inv (p ∙ ap (λ (b : Bool). cond b 1 0) silent ∙ sym (mark-at n (votesIn xs) i h)) ∙
       front-step 0 (marks n (votesIn xs)) (replicate 8 0) i (omega (arith, marks-length n (votesIn xs))) (omega (arith, length-replicate {A = ℕ} 8 0))
     where
       silent : t ≡ isNone (votesIn xs i)
@@ -242,4 +249,5 @@ module _ (n : ℕ) (few : n ≤ 8) (xs : List ℕ) (eight : length xs ≡ 8) (cs
   pub marks-done : i ≡ n → cs ≡ inEight (marks n (votesIn xs))
   marks-done h =
       let l = marks-length n (votesIn xs) in
-      inv ∙ ap₂ (λ (a b : List ℕ). a ++ b) (take-all i (marks n (votesIn xs)) (omega (arith, l))) (zeros-left i 8 ∙ ap (λ (k : ℕ). replicate (8 - k) 0) (h ∙ sym l))
+      inv ∙ ap₂ (λ (a b : List ℕ). a ++ b) (take-all i (marks n (votesIn xs)) (omega (arith, l)))
+      (zeros-left i 8 ∙ ap (λ (k : ℕ). replicate (8 - k) 0) (h ∙ sym l))

@@ -43,9 +43,11 @@ unfoldable pub isIn : ℕ → List ℕ → Bool
 isIn x [] = false
 isIn x (y ∷ ys) = eqb y x || isIn x ys
 
--- the rows, and one more for what is voted for, with its weight t, if that is an entry that has none
+-- the rows and one more, for e with its weight t
+abbrev pub withRow : ℕ → ℕ → Rows → Rows
+withRow t e r = record { count = r .count + 1; entries = set (r .entries) (r .count) e; tallies = set (r .tallies) (r .count) t }
+
+-- with one for what is voted for, if that is an entry that has none
 unfoldable pub withVote : ℕ → Option ℕ → Rows → Rows
 withVote t none r = r
-withVote t (some e) r =
-    pick (isIn e (take (r .count) (r .entries))) r
-    (record { count = r .count + 1; entries = set (r .entries) (r .count) e; tallies = set (r .tallies) (r .count) t })
+withVote t (some e) r = pick (isIn e (take (r .count) (r .entries))) r (withRow t e r)

@@ -23,16 +23,32 @@ loop-holds : tie.Need-loop-holds Inv-loop μ-loop
 loop-holds c = (omega arith, refl)
 
 returns : tie.Need-returns Inv-loop μ-loop
-returns c = let l = c .before .before .loop in let s = c .before .before .before .before in let a = s .args in let f = few s in in-stop (a .entry) (a .rows .count) (a .rows .entries) (f .1) (f .0) _ (l .i) (l .inv .1) (omega arith) (c .if1 .taken)
+returns c =
+    let l = c .before .before .loop in
+    let s = c .before .before .before .before in
+    let a = s .args in
+    let f = few s in
+    in-stop (a .entry) (a .rows .count) (a .rows .entries) (f .1) (f .0) _ (l .i) (l .inv .1) (omega arith) (c .if1 .taken)
 
 loop-again : tie.Need-loop-again Inv-loop μ-loop
-loop-again c = let l = c .before .before .loop in let s = c .before .before .before .before in let a = s .args in let f = few s in (omega arith, in-next (a .entry) (a .rows .count) (a .rows .entries) (f .1) (f .0) _ (l .i) (l .inv .1) (omega arith) (c .if1 .left))
+loop-again c =
+    let l = c .before .before .loop in
+    let s = c .before .before .before .before in
+    let a = s .args in
+    let f = few s in
+    (omega arith, in-next (a .entry) (a .rows .count) (a .rows .entries) (f .1) (f .0) _ (l .i) (l .inv .1) (omega arith) (c .if1 .left))
 
 returns-2 : tie.Need-returns-2 Inv-loop μ-loop
-returns-2 c = let l = c .before .loop in let s = c .before .before .before in let a = s .args in let f = few s in in-done (a .entry) (a .rows .count) (a .rows .entries) (f .1) (f .0) _ (l .i) (l .inv .1) (omega arith)
+returns-2 c =
+    let l = c .before .loop in
+    let s = c .before .before .before in
+    let a = s .args in
+    let f = few s in
+    in-done (a .entry) (a .rows .count) (a .rows .entries) (f .1) (f .0) _ (l .i) (l .inv .1) (omega arith)
 
 pub has-row-spec : {M : Type 1} → statement M
 has-row-spec =
     tie.close
-    (tie.spec Inv-loop μ-loop loop-holds (λ c. let f = few (c .before .before .before) in omega arith) (λ c. let f = few (c .before .before .before) in omega arith)
+    (tie.spec Inv-loop μ-loop loop-holds (λ c. let f = few (c .before .before .before) in omega arith)
+    (λ c. let f = few (c .before .before .before) in omega arith)
     returns (λ c. search needs) (λ c. search needs) loop-again returns-2)

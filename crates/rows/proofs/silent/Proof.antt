@@ -25,13 +25,23 @@ loop-holds : tie.Need-loop-holds Inv-loop μ-loop
 loop-holds c = (omega arith, refl)
 
 loop-again : tie.Need-loop-again Inv-loop μ-loop
-loop-again c = let l = c .before .before .loop in let s = c .before .before .before in let f = few s in (omega arith, marks-next (s .args .n) (f .0) (s .args .t1) (f .1) (l .cells) (l .i) (l .inv .1) (omega arith) _ refl _ (c .mark .ensures))
+loop-again c =
+    let l = c .before .before .loop in
+    let s = c .before .before .before in
+    let f = few s in
+    (omega arith, marks-next (s .args .n) (f .0) (s .args .t1) (f .1) (l .cells) (l .i) (l .inv .1) (omega arith) _ refl _ (c .mark .ensures))
 
 returns : tie.Need-returns Inv-loop μ-loop
-returns c = let l = c .before .loop in let s = c .before .before in let f = few s in marks-done (s .args .n) (f .0) (s .args .t1) (f .1) (l .cells) (l .i) (l .inv .1) (omega arith)
+returns c =
+    let l = c .before .loop in
+    let s = c .before .before in
+    let f = few s in
+    marks-done (s .args .n) (f .0) (s .args .t1) (f .1) (l .cells) (l .i) (l .inv .1) (omega arith)
 
 pub silent-spec : {M : Type 1} → statement M
 silent-spec =
     tie.close
-    (tie.spec Inv-loop μ-loop loop-holds (λ c. let f = few (c .before .before) in omega arith) (λ c. let f = few (c .before .before) in omega arith) (λ c κs. search needs)
-    (λ c. let f = few (c .before .before .before) in omega arith) (λ c. let f = few (c .before .before .before) in omega arith) (λ c. search needs) (λ c. search needs) loop-again returns)
+    (tie.spec Inv-loop μ-loop loop-holds (λ c. let f = few (c .before .before) in omega arith)
+    (λ c. let f = few (c .before .before) in omega arith) (λ c κs. search needs)
+    (λ c. let f = few (c .before .before .before) in omega arith) (λ c. let f = few (c .before .before .before) in omega arith)
+    (λ c. search needs) (λ c. search needs) loop-again returns)

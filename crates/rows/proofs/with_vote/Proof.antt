@@ -8,7 +8,9 @@ returns : tie.Need-returns
 returns c = let a = c .before .args in vote-none (a .rows) (a .vote) _ (c .if1 .taken)
 
 returns-2 : tie.Need-returns-2
-returns-2 c = let a = c .before .before .before .args in vote-again (a .rows) (a .vote) _ (c .before .before .if1 .left) _ (c .before .has-row .ensures) (c .if2 .taken)
+returns-2 c =
+    let a = c .before .before .before .args in
+    vote-again (a .rows) (a .vote) _ (c .before .before .if1 .left) _ (c .before .has-row .ensures) (c .if2 .taken)
 
 returns-3 : tie.Need-returns-3
 returns-3 c =
@@ -19,4 +21,5 @@ returns-3 c =
 pub with-vote-spec : {M : Type 1} → statement M
 with-vote-spec =
     tie.close
-    (tie.spec returns (λ c κs. search needs) returns-2 (λ c. search needs) (λ c. search needs) (λ c κs. search needs) (λ c. search needs) (λ c. search needs) (λ c. search needs) returns-3)
+    (tie.spec returns (λ c κs. search needs) returns-2 (λ c. search needs) (λ c. search needs)
+    (λ c κs. search needs) (λ c. search needs) (λ c. search needs) (λ c. search needs) returns-3)
