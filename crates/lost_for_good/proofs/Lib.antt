@@ -1,0 +1,4 @@
+-- Lost edits: proved.
+pub mod Moves
+pub mod LostForGood
+pub mod AtMost
