@@ -183,11 +183,10 @@ module _ (n : ℕ) (ws : List ℕ) (start : World) (f : Founded n ws start) (cs 
       found : (a : ℕ) → getD (map (eqb v) q) a false ≡ true → (i : ℕ) × (getD (marks start cs v) i false ≡ true) × At a i
       found a h =
           let r = place-of v q a h in
-          let j = one-order n ws start f cs .issued a (r .0) in
-          (
+          let j = one-order n ws start f cs .issued a (r .0) in (
             length (j .earlier),
             subst (λ (l : List Call). getD (marks start l v) (length (j .earlier)) false ≡ true) (j .listed)
-            (marked start (j .earlier) (callFor (getD q a 0)) (j .later) v ∙ subst (λ (x : ℕ). issuesIt (after start (j .earlier)) x (callFor (getD q a 0)) ≡ true) (r .1) (issues-it (L.take a q) (getD q a 0) j)),
+                (marked start (j .earlier) (callFor (getD q a 0)) (j .later) v ∙ subst (λ (x : ℕ). issuesIt (after start (j .earlier)) x (callFor (getD q a 0)) ≡ true) (r .1) (issues-it (L.take a q) (getD q a 0) j)),
             (r .0, (j, refl)),
           )
 

@@ -2,3 +2,4 @@
 pub mod Moves
 pub mod LostForGood
 pub mod AtMost
+pub mod Examples

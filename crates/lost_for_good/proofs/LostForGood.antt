@@ -97,12 +97,11 @@ module _ (n : ℕ) (ws : List ℕ) (start : World) (f : Founded n ws start) (cs 
       let w : World = after start (i .earlier) in
       let o : Office = officeAt w k in
       let now = issue-view n ws start f (i .earlier) k (lineOf e) (codeOf e) (i .there) (i .done) in
-      let is : viewAt w k ++ (value k (lineOf e) (codeOf e) ∷ []) ≡ view ++ (e ∷ []) = subst₂ (λ (l : List ℕ) (v : ℕ). viewAt w k ++ (value k (lineOf e) (codeOf e) ∷ []) ≡ l ++ (v ∷ [])) (i .exactly) (parts-value e) refl in
-      (
+      let is : viewAt w k ++ (value k (lineOf e) (codeOf e) ∷ []) ≡ view ++ (e ∷ []) = subst₂ (λ (l : List ℕ) (v : ℕ). viewAt w k ++ (value k (lineOf e) (codeOf e) ∷ []) ≡ l ++ (v ∷ [])) (i .exactly) (parts-value e) refl in (
         rw (now .1, is) (⊑-refl (view ++ (e ∷ []))),
         λ s. ⊏-irrefl view (⊏-⊑-trans view (view ++ (e ∷ [])) view (⊏-cons view e [])
-        (⊑-trans (view ++ (e ∷ [])) (logAt w k) view (subst (λ (l : List ℕ). (view ++ (e ∷ [])) ⊑ l) (now .0) s)
-        (subst₂ _⊑_ (log-is w k) (in-path (i .earlier) k ∙ i .exactly) (⊑-append (o .log) (tail o k))))),
+            (⊑-trans (view ++ (e ∷ [])) (logAt w k) view (subst (λ (l : List ℕ). (view ++ (e ∷ [])) ⊑ l) (now .0) s)
+            (subst₂ _⊑_ (log-is w k) (in-path (i .earlier) k ∙ i .exactly) (⊑-append (o .log) (tail o k))))),
       )
 
 pub lost-for-good : (n : ℕ) (weights : List ℕ) (start : World) → Founded n weights start → (cs : List Call) → LostForGood start cs

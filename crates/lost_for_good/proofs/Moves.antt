@@ -106,10 +106,9 @@ module _ (n : ℕ) (ws : List ℕ) (start : World) (f : Founded n ws start) wher
       let m = sound cs .each k d here in
       let is : officeAt w k ≡ says d = ap (λ (x : Option Replica). onSome x fresh says) here in
       let moved : after start (cs ++ (issue k line code ∷ [])) ≡ put w k (issued d line code) =
-      after-one start cs (issue k line code) ∙ ap (λ (x : Option Replica). onSome x w (λ r. put w k (issued r line code))) here in
-      (
+      after-one start cs (issue k line code) ∙ ap (λ (x : Option Replica). onSome x w (λ r. put w k (issued r line code))) here in (
         ap (λ (x : World). officeAt x k) moved ∙ ap (λ (x : Option Replica). onSome x fresh says) (set-at (w .replicas) k (issued d line code) (there (w .replicas) k d here))
-        ∙ kept n ws start f cs .issue-says k line code d here done ∙ ap (withIssue k (value k line code)) (sym is),
+            ∙ kept n ws start f cs .issue-says k line code d here done ∙ ap (withIssue k (value k line code)) (sym is),
         omega (arith, own-below n ws k d m, few-offices n ws k d m, ap (λ (o : Office). length (o .tails)) is, replica-fine n ws k d m .held .eight),
       )
 
@@ -122,10 +121,9 @@ module _ (n : ℕ) (ws : List ℕ) (start : World) (f : Founded n ws start) wher
       let w' : World = after start (cs ++ (issue k line code ∷ [])) in
       let e : ℕ = value k line code in
       let o : Office = officeAt w k in
-      let now = issue-office cs k line code known done in
-      (
+      let now = issue-office cs k line code known done in (
         sym (log-is w' k) ∙ ap (λ (x : Office). x .log) (now .0) ∙ log-is w k,
         sym (path-is n ws w' (sound (cs ++ (issue k line code ∷ []))) k) ∙ ap (λ (x : Office). path x k) (now .0)
-        ∙ ap (λ (t : List ℕ). o .log ++ t) (getD-set-same (o .tails) k (tail o k ++ (e ∷ [])) [] (now .1)) ∙ sym (append-assoc (o .log) (tail o k) (e ∷ []))
-        ∙ ap (λ (l : List ℕ). l ++ (e ∷ [])) (path-is n ws w (sound cs) k),
+            ∙ ap (λ (t : List ℕ). o .log ++ t) (getD-set-same (o .tails) k (tail o k ++ (e ∷ [])) [] (now .1)) ∙ sym (append-assoc (o .log) (tail o k) (e ∷ []))
+            ∙ ap (λ (l : List ℕ). l ++ (e ∷ [])) (path-is n ws w (sound cs) k),
       )
