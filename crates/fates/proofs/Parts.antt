@@ -1,5 +1,5 @@
 -- What became of an office's own entries, at one office and for any call: the log grows, and a path that still extends it stays.
---     three-parts, told-parts         the tail is what settled, what is pending and what is lost, in this order, and nothing else
+--     office-parts, told-parts        the tail is what settled, what is pending and what is lost, in this order, and nothing else
 --     settled-is, kept-is            which entries these are, by their places
 --     kept-by-log, all-or-none       what did not settle is pending, all of it, or lost, all of it; the old state and the new log say which
 --     lost-loses, loses-told         an entry is told as lost exactly if it is the office's own and was lost at its place
@@ -11,9 +11,7 @@ use mathlib.Core.Bool.{Bool, true, false, cond}
 use mathlib.Core.Logic.{_⊎_, inl, inr, _↔_}
 use Prim.Native.Nat.{ℕ, zero, suc}
 use native.Mathlib.Omega.{arith}
-use lib.Dec.{eqb}
 use lib.ListN.{length, drop, length-append}
-use borrow.Author.Tests.{eqb-true, eq-eqb}
 use Rattle.protocol.specs.Entry.{officeOf}
 use Rattle.protocol.specs.Beginning.{_⊑_, _⊏_, extends}
 use Rattle.protocol.specs.Office.{Office, tail, path}
@@ -21,38 +19,11 @@ use Rattle.fates.specs.Fates.{common, settledOf, keptOf, pendingOf, lost
 use Rattle.lists.proofs.Tests.{if-cases}
 use Rattle.protocol.proofs.Beginning.{⊑-refl, ⊑-trans, ⊏-⊑-trans, ⊑-antisym, ⊑-comparable, ⊑-append, ⊑-rest, ⊑-length, snoc-⊑, extends-true, extends-false}
 use Rattle.protocol.proofs.Office.{OfficeMoves}
+use Rattle.fates.proofs.Common.{common-left, common-right, common-most, common-is, common-grows, common-behind}
+use Rattle.fates.proofs.Telling.{three-parts}
+use Rattle.fates.proofs.Own.{entries-append, stands-entries, entries-stand}
 
--- ── the common beginning ──
-common-left : (a b : List ℕ) → common a b ⊑ a
-unfolding common
-common-left [] b = tt
-common-left (x ∷ a) [] = tt
-common-left (x ∷ a) (y ∷ b) = if-cases (λ r. r ⊑ (x ∷ a)) (eqb x y) (x ∷ common a b) [] (λ _. (refl, common-left a b)) (λ _. tt)
-
-common-right : (a b : List ℕ) → common a b ⊑ b
-unfolding common
-common-right [] b = tt
-common-right (x ∷ a) [] = tt
-common-right (x ∷ a) (y ∷ b) = if-cases (λ r. r ⊑ (y ∷ b)) (eqb x y) (x ∷ common a b) [] (λ e. (eqb-true x y e, common-right a b)) (λ _. tt)
-
-common-most : (q a b : List ℕ) → q ⊑ a → q ⊑ b → q ⊑ common a b
-unfolding common
-common-most [] a b p r = tt
-common-most (z ∷ q) [] b p r = p
-common-most (z ∷ q) (x ∷ a) [] p r = r
-common-most (z ∷ q) (x ∷ a) (y ∷ b) p r = rw (eq-eqb x y (sym (p .0) ∙ r .0)) (p .0, common-most q a b (p .1) (r .1))
-
--- it is the longest
-pub common-is : (q a b : List ℕ) → (q ⊑ common a b) ↔ ((q ⊑ a) × (q ⊑ b))
-common-is q a b = (λ h. (⊑-trans q (common a b) a h (common-left a b), ⊑-trans q (common a b) b h (common-right a b)), λ h. common-most q a b (h .0) (h .1))
-
--- behind a common log
-common-behind : (l t x : List ℕ) → l ⊑ x → l ++ common t (drop (length l) x) ≡ common (l ++ t) x
-unfolding common
-common-behind [] t x h = refl
-common-behind (z ∷ l) t [] h = absurd h
-common-behind (z ∷ l) t (y ∷ x) h = rw (eq-eqb z y (h .0)) (ap (λ (r : List ℕ). z ∷ r) (common-behind l t x (h .1)))
-
+-- ── beginnings ──
 drop-⊑ : (j : ℕ) (a b : List ℕ) → a ⊑ b → drop j a ⊑ drop j b
 drop-⊑ zero a b h = h
 drop-⊑ (suc j) [] b h = tt
@@ -73,68 +44,24 @@ behind (x ∷ l) a b h = behind l a b (h .1)
 ⊏-snoc (x ∷ y ∷ a) [] e h = absurd (h .1)
 ⊏-snoc (x ∷ a) (y ∷ p) e h = (h .0, ⊏-snoc a p e (h .1))
 
--- ── an office's own entries ──
-entries-append : (k : ℕ) (a b : List ℕ) → entriesOf k (a ++ b) ≡ entriesOf k a ++ entriesOf k b
-unfolding entriesOf
-entries-append k [] b = refl
-entries-append k (e ∷ a) b = go (eqb (officeOf e) k) (entries-append k a b)
-  where
-    go : (t : Bool) → entriesOf k (a ++ b) ≡ entriesOf k a ++ entriesOf k b → cond t (e ∷ entriesOf k (a ++ b)) (entriesOf k (a ++ b)) ≡ cond t (e ∷ entriesOf k a) (entriesOf k a) ++ entriesOf k b
-    go true h = ap (λ (l : List ℕ). e ∷ l) h
-    go false h = h
-
-stands-entries : (k : ℕ) (l : List ℕ) (e : ℕ) → officeOf e ≡ k → Stands l e → Stands (entriesOf k l) e
-unfolding entriesOf
-stands-entries k l e h s = record {
-  front = entriesOf k (s .front);
-  rest = entriesOf k (s .rest);
-  whole = ap (entriesOf k) (s .whole) ∙ entries-append k (s .front) (e ∷ s .rest) ∙ ap (λ (t : Bool). entriesOf k (s .front) ++ cond t (e ∷ entriesOf k (s .rest)) (entriesOf k (s .rest))) (eq-eqb (officeOf e) k h);
-}
-
-entries-stand : (k : ℕ) (l : List ℕ) (e : ℕ) → Stands (entriesOf k l) e → (officeOf e ≡ k) × Stands l e
-unfolding entriesOf
-entries-stand k [] e s = none (s .front) (s .whole)
-  where
-    none : (a : List ℕ) → [] ≡ a ++ (e ∷ s .rest) → (officeOf e ≡ k) × Stands [] e
-    none [] q = let z : _≡_ {A = ℕ} 0 1 = cc in absurd (omega arith)
-    none (x ∷ a) q = let z : _≡_ {A = ℕ} 0 1 = cc in absurd (omega arith)
-entries-stand k (x ∷ l) e s = go (eqb (officeOf x) k) refl (s .front) (s .whole) (entries-stand k l e)
-  where
-    later : (officeOf e ≡ k) × Stands l e → (officeOf e ≡ k) × Stands (x ∷ l) e
-    later h = (h .0, record { front = x ∷ h .1 .front; rest = h .1 .rest; whole = ap (λ (r : List ℕ). x ∷ r) (h .1 .whole) })
-
-    go : (t : Bool) → eqb (officeOf x) k ≡ t → (a : List ℕ) → cond t (x ∷ entriesOf k l) (entriesOf k l) ≡ a ++ (e ∷ s .rest) → (Stands (entriesOf k l) e → (officeOf e ≡ k) × Stands l e) → (officeOf e ≡ k) × Stands (x ∷ l) e
-    go true d [] q ih = let same : x ≡ e = cc in (ap officeOf (sym same) ∙ eqb-true (officeOf x) k d, record { front = []; rest = l; whole = ap (λ (z : ℕ). z ∷ l) same })
-    go true d (y ∷ a) q ih = later (ih (record { front = a; rest = s .rest; whole = cc }))
-    go false d a q ih = later (ih (record { front = a; rest = s .rest; whole = q }))
-
 -- ── one call at office k ──
 module _ (k : ℕ) (o o' : Office) where
-  settled-kept : settledOf k o o' ⊑ keptOf k o o'
-  settled-kept =
-      let l : List ℕ = drop (length (o .log)) (o' .log) in
-      let p : List ℕ = drop (length (o .log)) (path o' k) in
-      common-most (common (tail o k) l) (tail o k) p (common-left (tail o k) l)
-      (⊑-trans (common (tail o k) l) l p (common-right (tail o k) l) (drop-⊑ (length (o .log)) (o' .log) (path o' k) (⊑-append (o' .log) (tail o' k))))
+  low : drop (length (o .log)) (o' .log) ⊑ drop (length (o .log)) (path o' k)
+  low = drop-⊑ (length (o .log)) (o' .log) (path o' k) (⊑-append (o' .log) (tail o' k))
 
   kept-tail : keptOf k o o' ⊑ tail o k
   kept-tail = common-left (tail o k) (drop (length (o .log)) (path o' k))
 
-  kept-lost : keptOf k o o' ++ lostOf k o o' ≡ tail o k
-  kept-lost = ⊑-rest (keptOf k o o') (tail o k) kept-tail
-
   path-parts : (o .log ++ keptOf k o o') ++ lostOf k o o' ≡ path o k
-  path-parts = append-assoc (o .log) (keptOf k o o') (lostOf k o o') ∙ ap (λ (t : List ℕ). o .log ++ t) kept-lost
+  path-parts = append-assoc (o .log) (keptOf k o o') (lostOf k o o') ∙ ap (λ (t : List ℕ). o .log ++ t) (⊑-rest (keptOf k o o') (tail o k) kept-tail)
 
-  pub three-parts : tail o k ≡ settledOf k o o' ++ (pendingOf k o o' ++ lostOf k o o')
-  three-parts =
-      sym (sym (append-assoc (settledOf k o o') (pendingOf k o o') (lostOf k o o'))
-      ∙ ap (λ (l : List ℕ). l ++ lostOf k o o') (⊑-rest (settledOf k o o') (keptOf k o o') settled-kept) ∙ kept-lost)
+  pub office-parts : tail o k ≡ settledOf k o o' ++ (pendingOf k o o' ++ lostOf k o o')
+  office-parts = three-parts (tail o k) (drop (length (o .log)) (o' .log)) (drop (length (o .log)) (path o' k)) low
 
   -- "each entry that was pending is exactly one of the three"
   pub told-parts : entriesOf k (tail o k) ≡ entriesOf k (settledOf k o o') ++ (entriesOf k (pendingOf k o o') ++ entriesOf k (lostOf k o o'))
   told-parts =
-      ap (entriesOf k) three-parts ∙ entries-append k (settledOf k o o') (pendingOf k o o' ++ lostOf k o o')
+      ap (entriesOf k) office-parts ∙ entries-append k (settledOf k o o') (pendingOf k o o' ++ lostOf k o o')
       ∙ ap (λ (l : List ℕ). entriesOf k (settledOf k o o') ++ l) (entries-append k (pendingOf k o o') (lostOf k o o'))
 
   module _ (grown : o .log ⊑ o' .log) where
@@ -210,7 +137,7 @@ module _ (k : ℕ) (o o' : Office) where
     pub kept-by-log : keptOf k o o' ≡ cond (extends (path o k) (o' .log)) (tail o k) (settledOf k o o')
     kept-by-log = if-cases (λ r. c ≡ r) (extends (path o k) (o' .log)) (tail o k) s
         (λ h. ⊑-antisym c (tail o k) kept-tail (all h))
-        (λ h. ⊑-antisym c s (none h) settled-kept)
+        (λ h. ⊑-antisym c s (none h) (common-grows (tail o k) (drop (length (o .log)) (o' .log)) (drop (length (o .log)) (path o' k)) low))
       where
         s : List ℕ
         s = settledOf k o o'

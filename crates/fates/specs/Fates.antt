@@ -1,4 +1,4 @@
--- What became of an office's own entries: o is the state of office k before a call, o' after it. Assumes nothing.
+-- What became of an office's own entries: its tail before a call in three parts, by what the office has after it. Assumes nothing.
 use mathlib.Core.Path.{_≡_}
 use mathlib.Core.List.{List, [], _∷_, _++_}
 use mathlib.Core.Bool.{cond}
@@ -15,23 +15,41 @@ common [] b = []
 common (x ∷ a) [] = []
 common (x ∷ a) (y ∷ b) = cond (eqb x y) (x ∷ common a b) []
 
--- ── the own tail before the call, in three parts ──
--- its beginning that the settled log has now, at the same places
-abbrev pub settledOf : ℕ → Office → Office → List ℕ
-settledOf k o o' = common (tail o k) (drop (length (o .log)) (o' .log))
+-- ── t is the own tail before the call; l is the settled log after it and p the own path after it, both from the place on where t began ──
+-- "settled": its beginning that the settled log has now, at the same places
+abbrev pub settledPart : List ℕ → List ℕ → List ℕ
+settledPart t l = common t l
 
--- its beginning that the own path has now: what settled and what is pending
-abbrev pub keptOf : ℕ → Office → Office → List ℕ
-keptOf k o o' = common (tail o k) (drop (length (o .log)) (path o' k))
+-- what settled and what is pending: its beginning that the own path has now
+abbrev pub keptPart : List ℕ → List ℕ → List ℕ
+keptPart t p = common t p
 
 -- "pending still": in the own path, past the settled log
-abbrev pub pendingOf : ℕ → Office → Office → List ℕ
-pendingOf k o o' = drop (length (settledOf k o o')) (keptOf k o o')
+abbrev pub pendingPart : List ℕ → List ℕ → List ℕ → List ℕ
+pendingPart t l p = drop (length (settledPart t l)) (keptPart t p)
 
 -- "lost": the rest
-abbrev pub lostOf : ℕ → Office → Office → List ℕ
-lostOf k o o' = drop (length (keptOf k o o')) (tail o k)
+abbrev pub lostPart : List ℕ → List ℕ → List ℕ
+lostPart t p = drop (length (keptPart t p)) t
 
+-- ── the same of the state o of office k before a call, and o' after it ──
+abbrev pub settledOf : ℕ → Office → Office → List ℕ
+settledOf k o o' = settledPart (tail o k) (drop (length (o .log)) (o' .log))
+
+abbrev pub keptOf : ℕ → Office → Office → List ℕ
+keptOf k o o' = keptPart (tail o k) (drop (length (o .log)) (path o' k))
+
+abbrev pub pendingOf : ℕ → Office → Office → List ℕ
+pendingOf k o o' = pendingPart (tail o k) (drop (length (o .log)) (o' .log)) (drop (length (o .log)) (path o' k))
+
+abbrev pub lostOf : ℕ → Office → Office → List ℕ
+lostOf k o o' = lostPart (tail o k) (drop (length (o .log)) (path o' k))
+
+-- the entry e that stood in the own path behind p stands there no more
+abbrev pub Loses : ℕ → Office → Office → List ℕ → ℕ → Type 0
+Loses k o o' p e = ((p ++ (e ∷ [])) ⊑ path o k) × ((p ++ (e ∷ [])) ⊑ path o' k → ⊥)
+
+-- ── entries ──
 -- "the own office's entries": a tail may hold entries of other offices that were adopted
 unfoldable pub entriesOf : ℕ → List ℕ → List ℕ
 entriesOf k [] = []
@@ -42,7 +60,3 @@ pub record Stands (l : List ℕ) (e : ℕ) : Type 0 where
   pub front : List ℕ
   pub rest : List ℕ
   pub whole : l ≡ front ++ (e ∷ rest)
-
--- the entry e that stood in the own path behind p stands there no more
-abbrev pub Loses : ℕ → Office → Office → List ℕ → ℕ → Type 0
-Loses k o o' p e = ((p ++ (e ∷ [])) ⊑ path o k) × ((p ++ (e ∷ [])) ⊑ path o' k → ⊥)

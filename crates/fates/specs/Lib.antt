@@ -1,2 +1,3 @@
--- The definitions that the contracts of `fates` cite, and those of the three parts of an office's own tail.
+-- The three parts of an office's own tail after a call, and what is told of them.
 pub mod Fates
+pub mod Told
