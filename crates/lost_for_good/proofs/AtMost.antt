@@ -1,7 +1,7 @@
 -- "At most once for each issue". Each place of the order has an issue of its entry in the list, with what stands before it in view; a call is the issue of
 -- one entry at one place, so different places have different calls; and different places that have a value are then at most as many as the calls that
 -- issue it (`at-most-as-many`). Assumes nothing.
-use mathlib.Core.Path.{_≡_, refl, sym, ap, subst, subst₂, _∙_}
+use mathlib.Core.Path.{_≡_, refl, sym, ap, ap₂, subst, _∙_}
 use mathlib.Core.List.{List, [], _∷_, _++_, map, append-assoc}
 use mathlib.Core.Bool.{Bool, true, false, false≢true}
 use mathlib.Core.Logic.{_⊎_, inl, inr}
@@ -49,7 +49,8 @@ at-most-as-many R one (false ∷ l) m has =
 at-most-as-many R one (true ∷ l) m has =
     let first = has 0 refl in
     let i : ℕ = first .0 in
-    let rest : trues l ≤ trues (set m i false) = at-most-as-many (λ (a j : ℕ). R (suc a) j) (λ a b j x y. omega (arith, one (suc a) (suc b) j x y)) l (set m i false) (λ a h.
+    let rest : trues l ≤ trues (set m i false) =
+    at-most-as-many (λ (a j : ℕ). R (suc a) j) (λ a b j x y. omega (arith, one (suc a) (suc b) j x y)) l (set m i false) (λ a h.
     let x = has (suc a) h in
     (x .0, getD-set-other m i (x .0) false false (λ e. omega (arith, one 0 (suc a) i (first .2) (subst (R (suc a)) e (x .2)))) ∙ x .1, x .2)) in
     omega (arith, one-fewer m i (first .1))
@@ -126,23 +127,27 @@ same-entry e f h =
 module _ (n : ℕ) (ws : List ℕ) (start : World) (f : Founded n ws start) (cs : List Call) where
   one-place : (p q : List ℕ) (e g : ℕ) (i : IssuedIn start cs p e) (j : IssuedIn start cs q g) → i .earlier ≡ j .earlier → (p ≡ q) × (e ≡ g)
   one-place p q e g i j h =
-      let listed : j .earlier ++ (callFor e ∷ i .later) ≡ j .earlier ++ (callFor g ∷ j .later) = subst (λ (a : List Call). a ++ (callFor e ∷ i .later) ≡ cs) h (i .listed) ∙ sym (j .listed) in
+      let listed : j .earlier ++ (callFor e ∷ i .later) ≡ j .earlier ++ (callFor g ∷ j .later) =
+      ap (λ (a : List Call). a ++ (callFor e ∷ i .later)) (sym h) ∙ i .listed ∙ sym (j .listed) in
       let same : e ≡ g = same-entry e g (same-call (j .earlier) (i .later) (j .later) (callFor e) (callFor g) listed) in
-      (sym (i .exactly) ∙ subst₂ (λ (a : List Call) (x : ℕ). viewAt (after start (i .earlier)) (officeOf e) ≡ viewAt (after start a) (officeOf x)) h same refl ∙ j .exactly, same)
+      (sym (i .exactly) ∙ ap₂ (λ (a : List Call) (x : ℕ). viewAt (after start a) (officeOf x)) h same ∙ j .exactly, same)
 
   -- behind its issue the office never has what the entry was issued with in view again
-  never-again : (p : List ℕ) (e : ℕ) (i : IssuedIn start cs p e) (x : List Call) → Follows (i .earlier) (callFor e) x → viewAt (after start x) (officeOf e) ≡ p → ⊥
+  never-again : (p : List ℕ) (e : ℕ) (i : IssuedIn start cs p e) (x : List Call) → Follows (i .earlier) (callFor e) x
+      → viewAt (after start x) (officeOf e) ≡ p → ⊥
   never-again p e i x b same =
       let k : ℕ = officeOf e in
+      let v : ℕ = value k (lineOf e) (codeOf e) in
       let a : List Call = i .earlier ++ (callFor e ∷ []) in
       let o : Office = officeAt (after start a) k in
       let o' : Office = officeAt (after start x) k in
-      let now : path o k ≡ p ++ (value k (lineOf e) (codeOf e) ∷ []) =
+      let now : path o k ≡ p ++ (v ∷ []) =
       path-is n ws (after start a) (sound n ws start f a) k ∙ issue-view n ws start f (i .earlier) k (lineOf e) (codeOf e) (i .there) (i .done) .1
-      ∙ ap (λ (l : List ℕ). l ++ (value k (lineOf e) (codeOf e) ∷ [])) (i .exactly) in
+      ∙ ap (λ (l : List ℕ). l ++ (v ∷ [])) (i .exactly) in
       let then : path o' k ≡ p = path-is n ws (after start x) (sound n ws start f x) k ∙ same in
-      let moves : OfficeMoves k o o' = subst (λ (l : List Call). OfficeMoves k o (officeAt (after start l) k)) (append-assoc (i .earlier) (callFor e ∷ []) (b .between) ∙ b .whole) (list-moves n ws start f a (b .between) k) in
-      let up : p ⊏ path o k = rw now (⊏-cons p (value k (lineOf e) (codeOf e)) []) in
+      let reach : a ++ b .between ≡ x = append-assoc (i .earlier) (callFor e ∷ []) (b .between) ∙ b .whole in
+      let moves : OfficeMoves k o o' = subst (λ (l : List Call). OfficeMoves k o (officeAt (after start l) k)) reach (list-moves n ws start f a (b .between) k) in
+      let up : p ⊏ path o k = rw now (⊏-cons p v []) in
       let low : o' .log ⊑ p = subst (λ (l : List ℕ). o' .log ⊑ l) then (⊑-append (o' .log) (tail o' k)) in
       let down : path o k ⊑ p = subst (λ (l : List ℕ). path o k ⊑ l) then (moves .1 (⊑-⊏-trans (o' .log) p (path o k) low up)) in
       ⊏-irrefl p (⊏-⊑-trans p (path o k) p up down)
@@ -160,35 +165,43 @@ module _ (n : ℕ) (ws : List ℕ) (start : World) (f : Founded n ws start) (cs 
   unfolding issuesIt
   issues-it p e i =
       let w : World = after start (i .earlier) in
+      let known : officeOf e < length (w .replicas) = omega (arith, i .there, f .offices, sound n ws start f (i .earlier) .offices) in
       both-true _ _ (eq-eqb (value (officeOf e) (lineOf e) (codeOf e)) e (parts-value e))
-      (both-true _ _ (lt-ltb (officeOf e) (length (w .replicas)) (omega (arith, i .there, f .offices, sound n ws start f (i .earlier) .offices))) (eq-eqb (number w (callFor e)) 0 (i .done)))
+      (both-true _ _ (lt-ltb (officeOf e) (length (w .replicas)) known) (eq-eqb (number w (callFor e)) 0 (i .done)))
 
-  at-most : (v : ℕ) → times v (order start cs) ≤ issuesOf start cs v
-  at-most v = rw (times-trues v q, issues-trues start cs v) (at-most-as-many At once (map (eqb v) q) (marks start cs v) found)
-    where
-      q : List ℕ
-      q = order start cs
+  -- the order, and the issue of its place a
+  abbrev whole : List ℕ
+  whole = order start cs
 
-      -- call i of the list is the issue of place a of the order
-      At : ℕ → ℕ → Type 0
-      At a i = (a < length (order start cs)) × ((j : IssuedIn start cs (L.take a (order start cs)) (getD (order start cs) a 0)) × (length (j .earlier) ≡ i))
+  abbrev Placed : ℕ → Type 0
+  Placed a = IssuedIn start cs (L.take a whole) (getD whole a 0)
 
-      once : (a b i : ℕ) → At a i → At b i → a ≡ b
-      once a b i x y =
-          let j = x .1 .0 in
-          let m = y .1 .0 in
-          let same = as-far (j .earlier) (callFor (getD q a 0) ∷ j .later) (m .earlier) (callFor (getD q b 0) ∷ m .later) (j .listed ∙ sym (m .listed)) (x .1 .1 ∙ sym (y .1 .1)) in
-          omega (arith, x .0, y .0, simp length-take at (ap length (one-place (L.take a q) (L.take b q) (getD q a 0) (getD q b 0) j m same .0)))
+  -- call i of the list is that issue
+  abbrev At : ℕ → ℕ → Type 0
+  At a i = (a < length whole) × ((j : Placed a) × (length (j .earlier) ≡ i))
 
-      found : (a : ℕ) → getD (map (eqb v) q) a false ≡ true → (i : ℕ) × (getD (marks start cs v) i false ≡ true) × At a i
-      found a h =
-          let r = place-of v q a h in
-          let j = one-order n ws start f cs .issued a (r .0) in (
-            length (j .earlier),
-            subst (λ (l : List Call). getD (marks start l v) (length (j .earlier)) false ≡ true) (j .listed)
-                (marked start (j .earlier) (callFor (getD q a 0)) (j .later) v ∙ subst (λ (x : ℕ). issuesIt (after start (j .earlier)) x (callFor (getD q a 0)) ≡ true) (r .1) (issues-it (L.take a q) (getD q a 0) j)),
-            (r .0, (j, refl)),
-          )
+  one-at : (a b i : ℕ) → At a i → At b i → a ≡ b
+  one-at a b i x y =
+      let j : Placed a = x .1 .0 in
+      let m : Placed b = y .1 .0 in
+      let same : j .earlier ≡ m .earlier =
+      as-far (j .earlier) (callFor (getD whole a 0) ∷ j .later) (m .earlier) (callFor (getD whole b 0) ∷ m .later) (j .listed ∙ sym (m .listed)) (x .1 .1 ∙ sym (y .1 .1)) in
+      let places : L.take a whole ≡ L.take b whole = one-place (L.take a whole) (L.take b whole) (getD whole a 0) (getD whole b 0) j m same .0 in
+      omega (arith, x .0, y .0, simp length-take at (ap length places))
+
+  found : (v a : ℕ) → getD (map (eqb v) whole) a false ≡ true → (i : ℕ) × (getD (marks start cs v) i false ≡ true) × At a i
+  found v a h =
+      let r = place-of v whole a h in
+      let j : Placed a = one-order n ws start f cs .issued a (r .0) in
+      let c : Call = callFor (getD whole a 0) in
+      let its : issuesIt (after start (j .earlier)) v c ≡ true =
+      subst (λ (x : ℕ). issuesIt (after start (j .earlier)) x c ≡ true) (r .1) (issues-it (L.take a whole) (getD whole a 0) j) in
+      let here : getD (marks start cs v) (length (j .earlier)) false ≡ true =
+      subst (λ (l : List Call). getD (marks start l v) (length (j .earlier)) false ≡ true) (j .listed) (marked start (j .earlier) c (j .later) v ∙ its) in
+      (length (j .earlier), here, (r .0, (j, refl)))
+
+  at-most : (v : ℕ) → times v whole ≤ issuesOf start cs v
+  at-most v = rw (times-trues v whole, issues-trues start cs v) (at-most-as-many At one-at (map (eqb v) whole) (marks start cs v) (found v))
 
 pub at-most-once : (n : ℕ) (weights : List ℕ) (start : World) → Founded n weights start → (cs : List Call) → AtMostOnce start cs
 at-most-once n ws start f cs = record { one-place = one-place n ws start f cs; one-issue = one-issue n ws start f cs; at-most = at-most n ws start f cs }

@@ -120,8 +120,10 @@ b-lost = record {
   c = take 1 0;
   later = later;
   listed = refl;
-  had = rw (computed .had) (refl, tt);
-  gone = λ h. let r : (b ∷ []) ⊑ (a ∷ []) = subst (λ (l : List ℕ). (b ∷ []) ⊑ l) (computed .gone) h in omega (arith, r .0);
+  lost = (
+    rw (computed .had) (refl, tt),
+    λ h. let r : (b ∷ []) ⊑ (a ∷ []) = subst (λ (l : List ℕ). (b ∷ []) ⊑ l) (computed .gone) h in omega (arith, r .0),
+  );
 }
 
 -- ── what it refutes ──
@@ -141,9 +143,10 @@ PendingForGood = (n : ℕ) (weights : List ℕ) (start : World) → Founded n we
 pub pending-may-settle : PendingForGood → ⊥
 pending-may-settle law =
     let then : World = after threeOffices (before ++ (take 1 0 ∷ issue 1 5 130 ∷ [])) in
+    let rest : List Call = sends 1 ∷ take 2 0 ∷ elect 2 ∷ sends 2 ∷ take 1 0 ∷ again in
     let out : Settled then 1 (a ∷ []) b → ⊥ = λ h. subst (λ (l : List ℕ). (a ∷ b ∷ []) ⊑ l) (computed .log-then) h .1 in
     let pends : Pending then 1 (a ∷ []) b = (rw (computed .pends) (refl, (refl, tt)), out) in
-    law 3 usualWeights threeOffices three-founded calls (before ++ (take 1 0 ∷ issue 1 5 130 ∷ [])) (sends 1 ∷ take 2 0 ∷ elect 2 ∷ sends 2 ∷ take 1 0 ∷ again) refl 1 (a ∷ []) b pends 2
+    law 3 usualWeights threeOffices three-founded calls (before ++ (take 1 0 ∷ issue 1 5 130 ∷ [])) rest refl 1 (a ∷ []) b pends 2
     (rw (computed .log-last) (refl, (refl, tt)))
 
 -- a value stands in the order once at most, however often it was issued
@@ -152,16 +155,30 @@ SettledOnce = (n : ℕ) (weights : List ℕ) (start : World) → Founded n weigh
 
 pub settled-twice : SettledOnce → ⊥
 unfolding times pick
-settled-twice law = let h : times b (a ∷ b ∷ b ∷ []) ≤ 1 = subst (λ (q : List ℕ). times b q ≤ 1) (computed .ordered) (law 3 usualWeights threeOffices three-founded calls b) in omega (arith, h)
+settled-twice law =
+    let h : times b (a ∷ b ∷ b ∷ []) ≤ 1 = subst (λ (q : List ℕ). times b q ≤ 1) (computed .ordered) (law 3 usualWeights threeOffices three-founded calls b) in
+    omega (arith, h)
 
 -- behind one beginning one office issues
 abbrev OneOffice : Type 0
-OneOffice = (n : ℕ) (weights : List ℕ) (start : World) → Founded n weights start → (cs : List Call) (p : List ℕ) (e f : ℕ) (i : IssuedIn start cs p e) (j : IssuedIn start cs p f)
-    → i .earlier ≡ j .earlier
+OneOffice = (n : ℕ) (weights : List ℕ) (start : World) → Founded n weights start → (cs : List Call) (p : List ℕ) (e f : ℕ)
+    (i : IssuedIn start cs p e) (j : IssuedIn start cs p f) → i .earlier ≡ j .earlier
+
+b-issued : IssuedIn threeOffices calls [] b
+b-issued = record { earlier = []; later = drop 1 calls; listed = refl; there = omega arith; done = computed .b-first; exactly = computed .nothing-1 }
+
+a-issued : IssuedIn threeOffices calls [] a
+a-issued = record {
+  earlier = issue 1 5 130 ∷ [];
+  later = drop 2 calls;
+  listed = refl;
+  there = omega arith;
+  done = computed .a-second;
+  exactly = computed .nothing-0;
+}
 
 pub each-office-issues : OneOffice → ⊥
+unfolding b-issued a-issued
 each-office-issues law =
-    let x : IssuedIn threeOffices calls [] b = record { earlier = []; later = drop 1 calls; listed = refl; there = omega arith; done = computed .b-first; exactly = computed .nothing-1 } in
-    let y : IssuedIn threeOffices calls [] a = record { earlier = issue 1 5 130 ∷ []; later = drop 2 calls; listed = refl; there = omega arith; done = computed .a-second; exactly = computed .nothing-0 } in
-    let z : _≡_ {A = ℕ} 0 1 = ap length (law 3 usualWeights threeOffices three-founded calls [] b a x y) in
+    let z : _≡_ {A = ℕ} 0 1 = ap length (law 3 usualWeights threeOffices three-founded calls [] b a b-issued a-issued) in
     omega (arith, z)

@@ -1,6 +1,6 @@
 -- Lost entries in the world of demand 3. A call loses an entry only where it settles another at that place or before it (fates/proofs/Parts,
 -- `lost-nowhere`), and there is one order. Assumes nothing.
-use mathlib.Core.Path.{_≡_, refl, sym, ap, subst, subst₂, _∙_}
+use mathlib.Core.Path.{_≡_, refl, sym, ap, ap₂, subst, subst₂, _∙_}
 use mathlib.Core.List.{List, [], _∷_, _++_, append-nil, append-assoc}
 use mathlib.Core.Bool.{Bool, true, false, true≢false}
 use mathlib.Core.Logic.{_⊎_, inl, inr}
@@ -38,28 +38,32 @@ module _ (n : ℕ) (ws : List ℕ) (start : World) (f : Founded n ws start) (cs 
     next = lost .earlier ++ (lost .c ∷ [])
 
     loses : Loses k (officeAt (after start (lost .earlier)) k) (officeAt (after start next) k) p e
-    loses = (rw (in-path (lost .earlier) k) (lost .had), rw (in-path next k) (lost .gone))
+    loses = (rw (in-path (lost .earlier) k) (lost .lost .0), rw (in-path next k) (lost .lost .1))
 
     -- nothing that begins with the office's log after the call has it there
     nowhere : (r : List ℕ) → officeAt (after start next) k .log ⊑ r → (p ++ (e ∷ [])) ⊑ r → ⊥
     nowhere =
-        Parts.lost-nowhere k (officeAt (after start (lost .earlier)) k) (officeAt (after start next) k) (one-moves n ws start f (lost .earlier) (lost .c) k) p e loses
+        let o : Office = officeAt (after start (lost .earlier)) k in
+        Parts.lost-nowhere k o (officeAt (after start next) k) (one-moves n ws start f (lost .earlier) (lost .c) k) p e loses
 
     not-ordered : (p ++ (e ∷ [])) ⊑ order start cs → ⊥
     not-ordered =
-        nowhere (order start cs)
-        (rw (log-is (after start next) k) (one-order n ws start f cs .logs next (lost .later) (append-assoc (lost .earlier) (lost .c ∷ []) (lost .later) ∙ lost .listed) k))
+        let split : next ++ lost .later ≡ cs = append-assoc (lost .earlier) (lost .c ∷ []) (lost .later) ∙ lost .listed in
+        nowhere (order start cs) (rw (log-is (after start next) k) (one-order n ws start f cs .logs next (lost .later) split k))
 
-    never-back : (between : List Call) (d : Replica) → replicaAt (after start (lost .earlier ++ (lost .c ∷ between))) k ≡ some d → (j : ℕ) → (p ++ (e ∷ [])) ⊑ path (says d) j → ⊥
+    never-back : (between : List Call) (d : Replica) → replicaAt (after start (lost .earlier ++ (lost .c ∷ between))) k ≡ some d
+        → (j : ℕ) → (p ++ (e ∷ [])) ⊑ path (says d) j → ⊥
     never-back between d here j =
         let o : Office = officeAt (after start next) k in
         let same : officeAt (after start (next ++ between)) k ≡ says d =
-        ap (λ (l : List Call). officeAt (after start l) k) (append-assoc (lost .earlier) (lost .c ∷ []) between) ∙ office-is (after start (lost .earlier ++ (lost .c ∷ between))) k d here in
-        nowhere (path (says d) j)
-        (⊑-trans (o .log) (says d .log) (path (says d) j) (subst (λ (x : Office). o .log ⊑ x .log) same (list-moves n ws start f next between k .0)) (⊑-append (says d .log) (tail (says d) j)))
+        ap (λ (l : List Call). officeAt (after start l) k) (append-assoc (lost .earlier) (lost .c ∷ []) between)
+        ∙ office-is (after start (lost .earlier ++ (lost .c ∷ between))) k d here in
+        let grown : o .log ⊑ says d .log = subst (λ (x : Office). o .log ⊑ x .log) same (list-moves n ws start f next between k .0) in
+        nowhere (path (says d) j) (⊑-trans (o .log) (says d .log) (path (says d) j) grown (⊑-append (says d .log) (tail (says d) j)))
 
   -- an entry of the own path is there still, or a call of those that follow loses it
-  kept-or-lost : (a b : List Call) → a ++ b ≡ cs → (k : ℕ) (p : List ℕ) (e : ℕ) → InPath (after start a) k p e → InPath (after start cs) k p e ⊎ LostIn start cs k p e
+  kept-or-lost : (a b : List Call) → a ++ b ≡ cs → (k : ℕ) (p : List ℕ) (e : ℕ) → InPath (after start a) k p e
+      → InPath (after start cs) k p e ⊎ LostIn start cs k p e
   kept-or-lost a [] h k p e had = inl (rw (← h, append-nil) had)
   kept-or-lost a (c ∷ b) h k p e had = go (begins q next) refl (kept-or-lost (a ++ (c ∷ [])) b (append-assoc a (c ∷ []) b ∙ h) k p e)
     where
@@ -74,7 +78,7 @@ module _ (n : ℕ) (ws : List ℕ) (start : World) (f : Founded n ws start) (cs 
 
       go : (t : Bool) → begins q next ≡ t → (q ⊑ next → Goal) → Goal
       go true d later = later (begins-true q next d)
-      go false d later = inr (record { earlier = a; c = c; later = b; listed = h; had = had; gone = λ x. true≢false (sym (begins-of q next x) ∙ d) })
+      go false d later = inr (record { earlier = a; c = c; later = b; listed = h; lost = (had, λ x. true≢false (sym (begins-of q next x) ∙ d)) })
 
   one-of-three : (a b : List Call) → a ++ b ≡ cs → (k : ℕ) (p : List ℕ) (e : ℕ) → InPath (after start a) k p e
       → Settled (after start cs) k p e ⊎ (Pending (after start cs) k p e ⊎ LostIn start cs k p e)
@@ -86,22 +90,26 @@ module _ (n : ℕ) (ws : List ℕ) (start : World) (f : Founded n ws start) (cs 
       log : List ℕ
       log = logAt (after start cs) k
 
-      go : (t : Bool) → begins q log ≡ t → InPath (after start cs) k p e ⊎ LostIn start cs k p e → Settled (after start cs) k p e ⊎ (Pending (after start cs) k p e ⊎ LostIn start cs k p e)
+      go : (t : Bool) → begins q log ≡ t → InPath (after start cs) k p e ⊎ LostIn start cs k p e
+          → Settled (after start cs) k p e ⊎ (Pending (after start cs) k p e ⊎ LostIn start cs k p e)
       go true d x = inl (begins-true q log d)
       go false d (inl x) = inr (inl (x, λ s. true≢false (sym (begins-of q log s) ∙ d)))
       go false d (inr x) = inr (inr x)
 
-  pends : (view : List ℕ) (e : ℕ) (i : IssuedIn start cs view e) → Pending (after start (i .earlier ++ (issue (officeOf e) (lineOf e) (codeOf e) ∷ []))) (officeOf e) view e
+  pends : (view : List ℕ) (e : ℕ) (i : IssuedIn start cs view e)
+      → Pending (after start (i .earlier ++ (issue (officeOf e) (lineOf e) (codeOf e) ∷ []))) (officeOf e) view e
   pends view e i =
       let k : ℕ = officeOf e in
       let w : World = after start (i .earlier) in
       let o : Office = officeAt w k in
+      let q : List ℕ = view ++ (e ∷ []) in
       let now = issue-view n ws start f (i .earlier) k (lineOf e) (codeOf e) (i .there) (i .done) in
-      let is : viewAt w k ++ (value k (lineOf e) (codeOf e) ∷ []) ≡ view ++ (e ∷ []) = subst₂ (λ (l : List ℕ) (v : ℕ). viewAt w k ++ (value k (lineOf e) (codeOf e) ∷ []) ≡ l ++ (v ∷ [])) (i .exactly) (parts-value e) refl in (
-        rw (now .1, is) (⊑-refl (view ++ (e ∷ []))),
-        λ s. ⊏-irrefl view (⊏-⊑-trans view (view ++ (e ∷ [])) view (⊏-cons view e [])
-            (⊑-trans (view ++ (e ∷ [])) (logAt w k) view (subst (λ (l : List ℕ). (view ++ (e ∷ [])) ⊑ l) (now .0) s)
-            (subst₂ _⊑_ (log-is w k) (in-path (i .earlier) k ∙ i .exactly) (⊑-append (o .log) (tail o k))))),
+      let is : viewAt w k ++ (value k (lineOf e) (codeOf e) ∷ []) ≡ q = ap₂ (λ (l : List ℕ) (v : ℕ). l ++ (v ∷ [])) (i .exactly) (parts-value e) in
+      let low : logAt w k ⊑ view = subst₂ _⊑_ (log-is w k) (in-path (i .earlier) k ∙ i .exactly) (⊑-append (o .log) (tail o k)) in
+      (
+        rw (now .1, is) (⊑-refl q),
+        λ s. ⊏-irrefl view
+        (⊏-⊑-trans view q view (⊏-cons view e []) (⊑-trans q (logAt w k) view (subst (λ (l : List ℕ). q ⊑ l) (now .0) s) low)),
       )
 
 pub lost-for-good : (n : ℕ) (weights : List ℕ) (start : World) → Founded n weights start → (cs : List Call) → LostForGood start cs
@@ -118,5 +126,6 @@ not-lost n ws start f cs = record { pends = pends n ws start f cs; one-of-three 
 
 pub all-or-none : (n : ℕ) (weights : List ℕ) (start : World) → Founded n weights start → (cs : List Call) → AllOrNone start cs
 all-or-none n ws start f cs earlier later c listed k d d' here behind =
+    let w' : World = after start (earlier ++ (c ∷ [])) in
     Parts.all-or-none k (says d) (says d')
-    (subst₂ (OfficeMoves k) (office-is (after start earlier) k d here) (office-is (after start (earlier ++ (c ∷ []))) k d' behind) (one-moves n ws start f earlier c k))
+    (subst₂ (OfficeMoves k) (office-is (after start earlier) k d here) (office-is w' k d' behind) (one-moves n ws start f earlier c k))

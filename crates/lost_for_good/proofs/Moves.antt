@@ -53,7 +53,9 @@ office-at : (w : World) (k : ℕ) → P.at (view w) k ≡ officeAt w k
 office-at w k = go (replicaAt w k) refl
   where
     go : (x : Option Replica) → replicaAt w k ≡ x → P.at (view w) k ≡ onSome x fresh says
-    go none e = S.view-at (shape w) k ∙ ap F.wholeDesk (List·getD-eq-default (map deskOf (w .replicas)) (F.newDesk []) (rw length-map (not-there (w .replicas) k e)))
+    go none e =
+        S.view-at (shape w) k
+        ∙ ap F.wholeDesk (List·getD-eq-default (map deskOf (w .replicas)) (F.newDesk []) (rw length-map (not-there (w .replicas) k e)))
     go (some d) e = view-at w k d e
 
 pub log-is : (w : World) (k : ℕ) → officeAt w k .log ≡ logAt w k
@@ -82,7 +84,8 @@ module _ (n : ℕ) (ws : List ℕ) (start : World) (f : Founded n ws start) wher
       let b = both-after n ws start f cs in
       let seen : view w' ≡ P.step (bySettled ws) (view w) (F.callOf (shape w) (callOf w c)) =
       ap view (after-one start cs c) ∙ ap F.view (follows n ws w (b .here) c) ∙ moves ws n (f .any) (shape w) (b .there) (callOf w c) in
-      subst₂ (OfficeMoves k) (office-at w k) (ap (λ (x : P.World). P.at x k) (sym seen) ∙ office-at w' k) (step-moves (bySettled ws) (view w) (F.callOf (shape w) (callOf w c)) k)
+      subst₂ (OfficeMoves k) (office-at w k) (ap (λ (x : P.World). P.at x k) (sym seen) ∙ office-at w' k)
+      (step-moves (bySettled ws) (view w) (F.callOf (shape w) (callOf w c)) k)
 
   pub list-moves : (a b : List Call) (k : ℕ) → OfficeMoves k (officeAt (after start a) k) (officeAt (after start (a ++ b)) k)
   list-moves a [] k = rw append-nil (moves-refl (officeAt (after start a) k .log) (path (officeAt (after start a) k) k))
@@ -107,7 +110,8 @@ module _ (n : ℕ) (ws : List ℕ) (start : World) (f : Founded n ws start) wher
       let is : officeAt w k ≡ says d = ap (λ (x : Option Replica). onSome x fresh says) here in
       let moved : after start (cs ++ (issue k line code ∷ [])) ≡ put w k (issued d line code) =
       after-one start cs (issue k line code) ∙ ap (λ (x : Option Replica). onSome x w (λ r. put w k (issued r line code))) here in (
-        ap (λ (x : World). officeAt x k) moved ∙ ap (λ (x : Option Replica). onSome x fresh says) (set-at (w .replicas) k (issued d line code) (there (w .replicas) k d here))
+        ap (λ (x : World). officeAt x k) moved
+        ∙ ap (λ (x : Option Replica). onSome x fresh says) (set-at (w .replicas) k (issued d line code) (there (w .replicas) k d here))
             ∙ kept n ws start f cs .issue-says k line code d here done ∙ ap (withIssue k (value k line code)) (sym is),
         omega (arith, own-below n ws k d m, few-offices n ws k d m, ap (λ (o : Office). length (o .tails)) is, replica-fine n ws k d m .held .eight),
       )

@@ -32,14 +32,17 @@ Settled w k p e = (p ++ (e ∷ [])) ⊑ logAt w k
 abbrev pub Pending : World → ℕ → List ℕ → ℕ → Type 0
 Pending w k p e = InPath w k p e × (Settled w k p e → ⊥)
 
--- a call of the list loses it: it stood in office k's own path before the call, and stands there no more
+-- the call c behind the earlier ones loses it: it stood in office k's own path before the call, and stands there no more
+abbrev pub LostBy : World → List Call → Call → ℕ → List ℕ → ℕ → Type 0
+LostBy start earlier c k p e = InPath (after start earlier) k p e × (InPath (after start (earlier ++ (c ∷ []))) k p e → ⊥)
+
+-- a call of the list loses it
 pub record LostIn (start : World) (cs : List Call) (k : ℕ) (p : List ℕ) (e : ℕ) : Type 0 where
   pub earlier : List Call
   pub c : Call
   pub later : List Call
   pub listed : earlier ++ (c ∷ later) ≡ cs
-  pub had : InPath (after start earlier) k p e
-  pub gone : InPath (after start (earlier ++ (c ∷ []))) k p e → ⊥
+  pub lost : LostBy start earlier c k p e
 
 -- "a lost entry is lost for good: no office will ever settle it at that place behind that beginning"
 pub record LostForGood (start : World) (cs : List Call) : Type 0 where
@@ -63,8 +66,8 @@ pub record NotLost (start : World) (cs : List Call) : Type 0 where
 -- "No call leaves some entries pending and loses others": of the own tail that office k had before a call of the list, with the record and log d before
 -- it and d' after it, nothing is pending or nothing is lost
 abbrev pub AllOrNone : World → List Call → Type 0
-AllOrNone start cs = (earlier later : List Call) (c : Call) → earlier ++ (c ∷ later) ≡ cs → (k : ℕ) (d d' : Replica) → replicaAt (after start earlier) k ≡ some d
-    → replicaAt (after start (earlier ++ (c ∷ []))) k ≡ some d' → (pendingOf k (says d) (says d') ≡ []) ⊎ (lostOf k (says d) (says d') ≡ [])
+AllOrNone start cs = (earlier later : List Call) (c : Call) → earlier ++ (c ∷ later) ≡ cs → (k : ℕ) (d d' : Replica)
+    → replicaAt (after start earlier) k ≡ some d → replicaAt (after start (earlier ++ (c ∷ []))) k ≡ some d' → (pendingOf k (says d) (says d') ≡ []) ⊎ (lostOf k (says d) (says d') ≡ [])
 
 -- ── to issue it again ──
 -- how often the value stands in a list
