@@ -1,6 +1,6 @@
 -- The common beginning of two lists of entries.
 --     common-left, common-right, common-is     it is the longest beginning of both
---     common-behind, common-take               behind a list that both begin with; as the first elements of the one
+--     common-behind, common-take, common-same  behind a list that both begin with; as the first elements of the one; of a list with itself
 --     common-next, common-stop, common-done    a walk that tells its length: two elements are alike, two are not, one list is at its end
 --     common-short, common-more, kept-more     of a list in two parts: the first has not all of it, or has
 -- Assumes nothing.
@@ -62,6 +62,11 @@ begin-take (x ∷ a) (y ∷ b) h = rw (h .0) (ap (λ (r : List ℕ). y ∷ r) (b
 pub common-take : (t l : List ℕ) → common t l ≡ take (length (common t l)) t
 common-take t l = begin-take (common t l) t (common-left t l)
 
+pub common-same : (a : List ℕ) → common a a ≡ a
+unfolding common
+common-same [] = refl
+common-same (x ∷ a) = rw (eq-eqb x x refl) (ap (λ (r : List ℕ). x ∷ r) (common-same a))
+
 -- ── a walk ──
 module _ (a b : List ℕ) (i : ℕ) (here : i < length a) (there : i < length b) where
   pub common-next : getD a i 0 ≡ getD b i 0 → length (common (drop i a) (drop i b)) ≡ 1 + length (common (drop (i + 1) a) (drop (i + 1) b))
@@ -72,7 +77,7 @@ module _ (a b : List ℕ) (i : ℕ) (here : i < length a) (there : i < length b)
   unfolding common
   common-stop e = rw (rest-step 0 a i here, rest-step 0 b i there, ne-eqb (getD a i 0) (getD b i 0) e)
 
-common-none : (a : List ℕ) → common a [] ≡ []
+pub common-none : (a : List ℕ) → common a [] ≡ []
 unfolding common
 common-none [] = refl
 common-none (x ∷ a) = refl

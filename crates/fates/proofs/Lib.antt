@@ -3,3 +3,4 @@ pub mod Common
 pub mod Own
 pub mod Telling
 pub mod Parts
+pub mod Held

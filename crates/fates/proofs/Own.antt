@@ -1,5 +1,5 @@
 -- An office's own entries among others.
---     entries-append                   of two lists
+--     entries-append, entries-few      of two lists; there are no more of them than of the list
 --     stands-entries, entries-stand    they are those of the list that are the office's
 --     one-own, one-other, one-none, one-whole    of one entry
 --     own-next, own-done, count-next   a walk over them
@@ -12,6 +12,7 @@ use native.Mathlib.Omega.{arith}
 use lib.Dec.{eqb}
 use lib.ListN.{length, getD, drop, length-append, drop-of-length-le}
 use borrow.Author.Tests.{eqb-true, eq-eqb, ne-eqb}
+use Rattle.lists.proofs.Tests.{if-cases}
 use Rattle.lists.proofs.Walk.{rest-step}
 use Rattle.protocol.specs.Entry.{officeOf}
 use Rattle.fates.specs.Fates.{entriesOf, Stands}
@@ -49,6 +50,11 @@ entries-stand k (x ∷ l) e s = go (eqb (officeOf x) k) refl (s .front) (s .whol
     go true d [] q ih = let same : x ≡ e = cc in (ap officeOf (sym same) ∙ eqb-true (officeOf x) k d, record { front = []; rest = l; whole = ap (λ (z : ℕ). z ∷ l) same })
     go true d (y ∷ a) q ih = later (ih (record { front = a; rest = s .rest; whole = cc }))
     go false d a q ih = later (ih (record { front = a; rest = s .rest; whole = q }))
+
+pub entries-few : (k : ℕ) (l : List ℕ) → length (entriesOf k l) ≤ length l
+unfolding entriesOf
+entries-few k [] = omega arith
+entries-few k (e ∷ l) = if-cases (λ r. length r ≤ length (e ∷ l)) (eqb (officeOf e) k) (e ∷ entriesOf k l) (entriesOf k l) (λ _. omega (arith, entries-few k l)) (λ _. omega (arith, entries-few k l))
 
 -- ── one entry ──
 pub one-own : (k e : ℕ) → officeOf e ≡ k → entriesOf k (e ∷ []) ≡ e ∷ []

@@ -1,8 +1,9 @@
 -- What became of an office's own entries, at one office and for any call: the log grows, and a path that still extends it stays.
---     office-parts, told-parts        the tail is what settled, what is pending and what is lost, in this order, and nothing else
+--     told-parts                     the own entries of the tail are those settled, those pending and those lost, in this order
 --     settled-is, kept-is            which entries these are, by their places
 --     kept-by-log, all-or-none       what did not settle is pending, all of it, or lost, all of it; the old state and the new log say which
 --     lost-loses, loses-told         an entry is told as lost exactly if it is the office's own and was lost at its place
+--     unchanged                      an office that is as it was has all pending
 --     lost-nowhere                   a lost entry stands in no path that begins with the new log
 -- Assumes nothing.
 use mathlib.Core.Path.{_≡_, refl, sym, ap, subst, _∙_}
@@ -12,6 +13,7 @@ use mathlib.Core.Logic.{_⊎_, inl, inr, _↔_}
 use Prim.Native.Nat.{ℕ, zero, suc}
 use native.Mathlib.Omega.{arith}
 use lib.ListN.{length, drop, length-append}
+use lib.Seq.{drop-length, drop-append-seam}
 use Rattle.protocol.specs.Entry.{officeOf}
 use Rattle.protocol.specs.Beginning.{_⊑_, _⊏_, extends}
 use Rattle.protocol.specs.Office.{Office, tail, path}
@@ -19,20 +21,20 @@ use Rattle.fates.specs.Fates.{common, settledOf, keptOf, pendingOf, lost
 use Rattle.lists.proofs.Tests.{if-cases}
 use Rattle.protocol.proofs.Beginning.{⊑-refl, ⊑-trans, ⊏-⊑-trans, ⊑-antisym, ⊑-comparable, ⊑-append, ⊑-rest, ⊑-length, snoc-⊑, extends-true, extends-false}
 use Rattle.protocol.proofs.Office.{OfficeMoves}
-use Rattle.fates.proofs.Common.{common-left, common-right, common-most, common-is, common-grows, common-behind}
-use Rattle.fates.proofs.Telling.{three-parts}
-use Rattle.fates.proofs.Own.{entries-append, stands-entries, entries-stand}
+use Rattle.fates.proofs.Common.{common-left, common-right, common-most, common-is, common-grows, common-behind, common-none, common-same}
+use Rattle.fates.proofs.Telling.{own-parts}
+use Rattle.fates.proofs.Own.{stands-entries, entries-stand}
 
 -- ── beginnings ──
-drop-⊑ : (j : ℕ) (a b : List ℕ) → a ⊑ b → drop j a ⊑ drop j b
+pub drop-⊑ : (j : ℕ) (a b : List ℕ) → a ⊑ b → drop j a ⊑ drop j b
 drop-⊑ zero a b h = h
 drop-⊑ (suc j) [] b h = tt
 drop-⊑ (suc j) (x ∷ a) [] h = absurd h
 drop-⊑ (suc j) (x ∷ a) (y ∷ b) h = drop-⊑ j a b (h .1)
 
-drop-all : (a : List ℕ) → drop (length a) a ≡ []
-drop-all [] = refl
-drop-all (x ∷ a) = drop-all a
+pub front-⊑ : (l a b : List ℕ) → a ⊑ b → (l ++ a) ⊑ (l ++ b)
+front-⊑ [] a b h = h
+front-⊑ (x ∷ l) a b h = (refl, front-⊑ l a b h)
 
 behind : (l a b : List ℕ) → (l ++ a) ⊑ (l ++ b) → a ⊑ b
 behind [] a b h = h
@@ -55,14 +57,9 @@ module _ (k : ℕ) (o o' : Office) where
   path-parts : (o .log ++ keptOf k o o') ++ lostOf k o o' ≡ path o k
   path-parts = append-assoc (o .log) (keptOf k o o') (lostOf k o o') ∙ ap (λ (t : List ℕ). o .log ++ t) (⊑-rest (keptOf k o o') (tail o k) kept-tail)
 
-  pub office-parts : tail o k ≡ settledOf k o o' ++ (pendingOf k o o' ++ lostOf k o o')
-  office-parts = three-parts (tail o k) (drop (length (o .log)) (o' .log)) (drop (length (o .log)) (path o' k)) low
-
   -- "each entry that was pending is exactly one of the three"
   pub told-parts : entriesOf k (tail o k) ≡ entriesOf k (settledOf k o o') ++ (entriesOf k (pendingOf k o o') ++ entriesOf k (lostOf k o o'))
-  told-parts =
-      ap (entriesOf k) office-parts ∙ entries-append k (settledOf k o o') (pendingOf k o o' ++ lostOf k o o')
-      ∙ ap (λ (l : List ℕ). entriesOf k (settledOf k o o') ++ l) (entries-append k (pendingOf k o o') (lostOf k o o'))
+  told-parts = own-parts (tail o k) (drop (length (o .log)) (o' .log)) (drop (length (o .log)) (path o' k)) low k
 
   module _ (grown : o .log ⊑ o' .log) where
     grown-path : o .log ⊑ path o' k
@@ -163,5 +160,12 @@ module _ (k : ℕ) (o o' : Office) where
     all-or-none = go (extends (path o k) (o' .log)) kept-by-log
       where
         go : (t : Bool) → keptOf k o o' ≡ cond t (tail o k) (settledOf k o o') → (pendingOf k o o' ≡ []) ⊎ (lostOf k o o' ≡ [])
-        go true q = inr (rw q (drop-all (tail o k)))
-        go false q = inl (rw q (drop-all (settledOf k o o')))
+        go true q = inr (rw q (drop-length (tail o k)))
+        go false q = inl (rw q (drop-length (settledOf k o o')))
+
+-- an office that is as it was: all is pending
+pub unchanged : (k : ℕ) (o : Office) → (settledOf k o o ≡ []) × (lostOf k o o ≡ [])
+unchanged k o =
+    let t : List ℕ = tail o k in
+    (ap (common t) (drop-length (o .log)) ∙ common-none t,
+    ap (λ (p : List ℕ). drop (length (common t p)) t) (drop-append-seam (o .log) t) ∙ ap (λ (c : List ℕ). drop (length c) t) (common-same t) ∙ drop-length t)

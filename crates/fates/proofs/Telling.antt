@@ -1,5 +1,5 @@
 -- Each way out of `tell`, by the two lengths that it walks for.
---     three-parts, rest-parts             the tail is the three parts; what did not settle is what is pending, and behind it what is lost
+--     three-parts, own-parts, rest-parts     the tail is the three parts; what did not settle is what is pending, and behind it what is lost
 --     tell-short, tell-room, tell-done    refused with 6, or done
 -- Assumes nothing.
 use mathlib.Core.Path.{_≡_, refl, sym, ap, _∙_}
@@ -28,6 +28,12 @@ module _ (t l p : List ℕ) (low : l ⊑ p) where
       sym (sym (append-assoc (settledPart t l) (pendingPart t l p) (lostPart t p))
       ∙ ap (λ (x : List ℕ). x ++ lostPart t p) (⊑-rest (settledPart t l) (keptPart t p) (common-grows t l p low))
       ∙ ⊑-rest (keptPart t p) t (common-left t p))
+
+  -- "each entry that was pending is exactly one of the three"
+  pub own-parts : (own : ℕ) → entriesOf own t ≡ entriesOf own (settledPart t l) ++ (entriesOf own (pendingPart t l p) ++ entriesOf own (lostPart t p))
+  own-parts own =
+      ap (entriesOf own) three-parts ∙ entries-append own (settledPart t l) (pendingPart t l p ++ lostPart t p)
+      ∙ ap (λ (x : List ℕ). entriesOf own (settledPart t l) ++ x) (entries-append own (pendingPart t l p) (lostPart t p))
 
   pub rest-parts : (own : ℕ) → restOf own t l ≡ entriesOf own (pendingPart t l p) ++ entriesOf own (lostPart t p)
   rest-parts own = ap (entriesOf own) behind ∙ entries-append own (pendingPart t l p) (lostPart t p)
