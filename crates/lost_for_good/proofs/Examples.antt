@@ -8,7 +8,7 @@
 -- Each refutes the law that says otherwise. Assumes nothing.
 use mathlib.Core.Path.{_≡_, refl, ap, subst}
 use mathlib.Core.List.{List, [], _∷_, _++_}
-use mathlib.Core.Bool.{true, false}
+use mathlib.Core.Bool.{false}
 use Prim.Native.Nat.{ℕ, _≤_}
 use native.Mathlib.Omega.{arith}
 use lib.ListN.{length, drop, replicate}
@@ -47,7 +47,7 @@ use Rattle.frame.specs.Taking.{sameOffices, takeNumber, takeOf, takeWords, take
 use Rattle.agreement.specs.World.{World, Call, issue, send, take, elect, number, step, after}
 use Rattle.agreement.specs.Demand.{Founded, logAt, viewAt, order, IssuedIn}
 use Rattle.agreement.proofs.ThreeOffices.{usualWeights, threeOffices, three-founded}
-use Rattle.lost_for_good.specs.LostForGood.{InPath, Settled, Pending, LostIn, times, issuesIt, issuesOf}
+use Rattle.lost_for_good.specs.LostForGood.{Settled, Pending, LostIn, times, issuesIt, issuesOf}
 
 -- ── a list of calls ──
 -- a send with room for its message

@@ -2,4 +2,5 @@
 pub mod Moves
 pub mod LostForGood
 pub mod AtMost
+pub mod Told
 pub mod Examples

@@ -7,7 +7,7 @@ use mathlib.Core.Logic.{_⊎_, inl, inr}
 use mathlib.Core.Option.{Option, some}
 use Prim.Native.Nat.{ℕ}
 use native.Mathlib.Omega.{arith}
-use Rattle.protocol.specs.Beginning.{_⊑_, _⊏_, begins}
+use Rattle.protocol.specs.Beginning.{_⊑_, begins}
 use Rattle.protocol.specs.Entry.{value, officeOf, lineOf, codeOf}
 use Rattle.protocol.specs.Office.{Office, fresh, path, tail}
 use Rattle.protocol.proofs.Beginning.{⊑-refl, ⊑-trans, ⊏-⊑-trans, ⊏-irrefl, ⊏-cons, ⊑-append, begins-true, begins-of}
@@ -105,11 +105,10 @@ module _ (n : ℕ) (ws : List ℕ) (start : World) (f : Founded n ws start) (cs 
       let q : List ℕ = view ++ (e ∷ []) in
       let now = issue-view n ws start f (i .earlier) k (lineOf e) (codeOf e) (i .there) (i .done) in
       let is : viewAt w k ++ (value k (lineOf e) (codeOf e) ∷ []) ≡ q = ap₂ (λ (l : List ℕ) (v : ℕ). l ++ (v ∷ [])) (i .exactly) (parts-value e) in
-      let low : logAt w k ⊑ view = subst₂ _⊑_ (log-is w k) (in-path (i .earlier) k ∙ i .exactly) (⊑-append (o .log) (tail o k)) in
-      (
+      let low : logAt w k ⊑ view = subst₂ _⊑_ (log-is w k) (in-path (i .earlier) k ∙ i .exactly) (⊑-append (o .log) (tail o k)) in (
         rw (now .1, is) (⊑-refl q),
         λ s. ⊏-irrefl view
-        (⊏-⊑-trans view q view (⊏-cons view e []) (⊑-trans q (logAt w k) view (subst (λ (l : List ℕ). q ⊑ l) (now .0) s) low)),
+            (⊏-⊑-trans view q view (⊏-cons view e []) (⊑-trans q (logAt w k) view (subst (λ (l : List ℕ). q ⊑ l) (now .0) s) low)),
       )
 
 pub lost-for-good : (n : ℕ) (weights : List ℕ) (start : World) → Founded n weights start → (cs : List Call) → LostForGood start cs

@@ -7,7 +7,7 @@ use mathlib.Core.List.{List, [], _∷_, _++_, map, append-nil, append-assoc}
 use mathlib.Core.Option.{Option, none, some}
 use Prim.Native.Nat.{ℕ, zero, suc, _<_}
 use native.Mathlib.Omega.{arith}
-use lib.ListN.{length, getD, set, getElem?, List·getD-eq-default, length-map}
+use lib.ListN.{length, set, getElem?, List·getD-eq-default, length-map}
 use lib.Seq.{getD-set-same}
 use Rattle.protocol.specs.Entry.{value}
 use Rattle.protocol.specs.Issue.{withIssue}
@@ -39,7 +39,7 @@ unfolding after
 after-one w a c = after-append w a (c ∷ [])
 
 -- an element that was set
-set-at : {A : Type 0} (l : List A) (i : ℕ) (x : A) → i < length l → getElem? (set l i x) i ≡ some x
+pub set-at : {A : Type 0} (l : List A) (i : ℕ) (x : A) → i < length l → getElem? (set l i x) i ≡ some x
 set-at [] i x h = absurd (omega arith)
 set-at (y ∷ l) zero x h = refl
 set-at (y ∷ l) (suc i) x h = set-at l i x (omega arith)
@@ -111,7 +111,7 @@ module _ (n : ℕ) (ws : List ℕ) (start : World) (f : Founded n ws start) wher
       let moved : after start (cs ++ (issue k line code ∷ [])) ≡ put w k (issued d line code) =
       after-one start cs (issue k line code) ∙ ap (λ (x : Option Replica). onSome x w (λ r. put w k (issued r line code))) here in (
         ap (λ (x : World). officeAt x k) moved
-        ∙ ap (λ (x : Option Replica). onSome x fresh says) (set-at (w .replicas) k (issued d line code) (there (w .replicas) k d here))
+            ∙ ap (λ (x : Option Replica). onSome x fresh says) (set-at (w .replicas) k (issued d line code) (there (w .replicas) k d here))
             ∙ kept n ws start f cs .issue-says k line code d here done ∙ ap (withIssue k (value k line code)) (sym is),
         omega (arith, own-below n ws k d m, few-offices n ws k d m, ap (λ (o : Office). length (o .tails)) is, replica-fine n ws k d m .held .eight),
       )

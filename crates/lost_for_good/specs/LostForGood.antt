@@ -3,12 +3,13 @@
 --     lost-for-good    (n : ℕ) (weights : List ℕ) (start : World) → Founded n weights start → (cs : List Call) → LostForGood start cs
 --     not-lost         .. → NotLost start cs             all-or-none    .. → AllOrNone start cs             proofs/LostForGood.antt
 --     at-most-once     .. → AtMostOnce start cs                                                             proofs/AtMost.antt
+--     told-lost        .. → ToldLost start cs                                                               proofs/Told.antt
 -- What would be false, by lists of calls that are computed: proofs/Examples.antt. A settled log and a path begin with what their office had dropped
 -- by then, and an entry is known by its place: e behind p, the entries before it. Assumes nothing.
 use mathlib.Core.Path.{_≡_}
 use mathlib.Core.List.{List, [], _∷_, _++_}
 use mathlib.Core.Bool.{Bool, false}
-use mathlib.Core.Logic.{_⊎_}
+use mathlib.Core.Logic.{_⊎_, _↔_}
 use mathlib.Core.Option.{some}
 use Prim.Native.Nat.{ℕ, _+_, _≤_}
 use lib.Dec.{eqb, ltb}
@@ -17,7 +18,8 @@ use Rattle.lists.specs.Tests.{both, pick}
 use Rattle.protocol.specs.Entry.{value, officeOf, lineOf, codeOf}
 use Rattle.protocol.specs.Beginning.{_⊑_}
 use Rattle.protocol.specs.Office.{path}
-use Rattle.fates.specs.Fates.{pendingOf, lostOf}
+use Rattle.fates.specs.Fates.{pendingOf, lostOf, Stands}
+use Rattle.outcome.specs.Outcome.{lostEntries, reportOf}
 use Rattle.agreement.specs.World.{Replica, World, Call, issue, send, take, elect, fold, replicaAt, number, step, after}
 use Rattle.agreement.specs.Demand.{says, logAt, viewAt, order, IssuedIn}
 
@@ -68,6 +70,28 @@ pub record NotLost (start : World) (cs : List Call) : Type 0 where
 abbrev pub AllOrNone : World → List Call → Type 0
 AllOrNone start cs = (earlier later : List Call) (c : Call) → earlier ++ (c ∷ later) ≡ cs → (k : ℕ) (d d' : Replica)
     → replicaAt (after start earlier) k ≡ some d → replicaAt (after start (earlier ++ (c ∷ []))) k ≡ some d' → (pendingOf k (says d) (says d') ≡ []) ⊎ (lostOf k (says d) (says d') ≡ [])
+
+-- ── what is told ──
+-- a take, elect or fold of the list at office k, whose record and log were d before it and are d' after it
+pub record CalledAt (start : World) (cs : List Call) (k : ℕ) (d d' : Replica) : Type 0 where
+  pub earlier : List Call
+  pub c : Call
+  pub later : List Call
+  pub listed : earlier ++ (c ∷ later) ≡ cs
+  pub is : ((m : ℕ) × (c ≡ take k m)) ⊎ ((c ≡ elect k) ⊎ (c ≡ fold k))
+  pub was : replicaAt (after start earlier) k ≡ some d
+  pub left : replicaAt (after start (earlier ++ (c ∷ []))) k ≡ some d'
+
+-- what `report` of the crate `outcome` tells of it, by the two records and the log after the call
+pub record ToldLost (start : World) (cs : List Call) : Type 0 where
+  -- it is never refused with 1
+  pub accepted : (k : ℕ) (d d' : Replica) → CalledAt start cs k d d' → (rest : List ℕ) → reportOf (d .held) (d' .held) (d' .words) rest .number ≡ 1 → ⊥
+  -- an entry is told as lost exactly if it is the office's own and the call lost it, at some place
+  pub exactly : (k : ℕ) (d d' : Replica) (x : CalledAt start cs k d d') (e : ℕ)
+      → Stands (lostEntries (d .held) (d' .held) (d' .words)) e ↔ ((officeOf e ≡ k) × ((p : List ℕ) × LostBy start (x .earlier) (x .c) k p e))
+  -- and there it is lost for good
+  pub told-for-good : (k : ℕ) (d d' : Replica) (x : CalledAt start cs k d d') (e : ℕ) → Stands (lostEntries (d .held) (d' .held) (d' .words)) e
+      → (p : List ℕ) × LostBy start (x .earlier) (x .c) k p e × ((earlier later : List Call) → earlier ++ later ≡ cs → (j : ℕ) → Settled (after start earlier) j p e → ⊥)
 
 -- ── to issue it again ──
 -- how often the value stands in a list
