@@ -2,7 +2,7 @@
 -- Office 1 issues b. Office 0 issues a, which office 2 takes and settles; office 1 takes that log, and so b is lost. It issues b again, which office 2
 -- takes and settles, and once more.
 --     settled-elsewhere     a lost entry's value is settled at another place, where it was issued again
---     pending-may-settle    a pending entry may be settled, and may be lost
+--     pending-may-settle    what is pending may still be settled there
 --     settled-twice         a value that was issued again stands in the order again
 --     each-office-issues    two offices issue behind one beginning
 -- Each refutes the law that says otherwise. Assumes nothing.

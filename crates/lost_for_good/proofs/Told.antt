@@ -61,19 +61,22 @@ module _ (n : ℕ) (ws : List ℕ) (start : World) (f : Founded n ws start) (cs 
   moved : (c : Call) → x .c ≡ c → w' ≡ step w c
   moved c e = after-one start (x .earlier) (x .c) ∙ ap (step w) e
 
+  -- by what is there of the office and the message
+  abbrev byTake : Option Replica → Option Posted → World
+  byTake r s = onSome r w (λ a. onSome s w (λ b. put w k (W.taken a (b .bytes))))
+
   left : Left d d'
   unfolding step
   left = go (x .is)
     where
       by-take : (m : ℕ) → x .c ≡ take k m → (y : Option Posted) → messageAt w m ≡ y → Left d d'
       by-take m e none q =
-          let still : w' ≡ w = moved (take k m) e ∙ ap₂ (λ (r : Option Replica) (s : Option Posted). onSome r w (λ a. onSome s w (λ b. put w k (W.taken a (b .bytes))))) (x .was) q in
+          let still : w' ≡ w = moved (take k m) e ∙ ap₂ byTake (x .was) q in
           let same : some d ≡ some d' = sym (x .was) ∙ ap (λ (u : World). replicaAt u k) (sym still) ∙ x .left in
           let z : d ≡ d' = cc in
           subst (Left d) z (no-message d sound-before)
       by-take m e (some b) q =
-          let to : w' ≡ put w k (W.taken d (b .bytes)) =
-          moved (take k m) e ∙ ap₂ (λ (r : Option Replica) (s : Option Posted). onSome r w (λ a. onSome s w (λ b. put w k (W.taken a (b .bytes))))) (x .was) q in
+          let to : w' ≡ put w k (W.taken d (b .bytes)) = moved (take k m) e ∙ ap₂ byTake (x .was) q in
           subst (Left d) (is-put w w' k d d' (W.taken d (b .bytes)) (x .was) to (x .left)) (record { called = took (b .bytes) refl refl; former = refl })
 
       go : ((m : ℕ) × (x .c ≡ take k m)) ⊎ ((x .c ≡ elect k) ⊎ (x .c ≡ fold k)) → Left d d'
@@ -118,7 +121,8 @@ module _ (n : ℕ) (ws : List ℕ) (start : World) (f : Founded n ws start) (cs 
       )
 
   told-for-good : (e : ℕ) → Stands (lostEntries (d .held) (d' .held) (d' .words)) e
-      → (p : List ℕ) × LostBy start (x .earlier) (x .c) k p e × ((earlier later : List Call) → earlier ++ later ≡ cs → (j : ℕ) → Settled (after start earlier) j p e → ⊥)
+      → (p : List ℕ) × LostBy start (x .earlier) (x .c) k p e
+      × ((earlier later : List Call) → earlier ++ later ≡ cs → (j : ℕ) → Settled (after start earlier) j p e → ⊥)
   told-for-good e s =
       let y = exactly e .0 s .1 in
       let lost : LostIn start cs k (y .0) e = record { earlier = x .earlier; c = x .c; later = x .later; listed = x .listed; lost = y .1 } in

@@ -61,7 +61,8 @@ pub record NotLost (start : World) (cs : List Call) : Type 0 where
   -- right after its done issue an entry is pending
   pub pends : (view : List ℕ) (e : ℕ) (i : IssuedIn start cs view e)
       → Pending (after start (i .earlier ++ (issue (officeOf e) (lineOf e) (codeOf e) ∷ []))) (officeOf e) view e
-  -- "An entry that is not lost is in the settled log or in the own path": of an entry that stood in the own path at some moment, after the list
+  -- "An entry that is not lost is in the settled log or in the own path": an entry that stood in the own path at some moment is settled, pending or lost
+  -- after the list. It is one of the three alone: a settled log is a beginning of its office's paths, and a lost entry is in none of them (`never-back`)
   pub one-of-three : (earlier later : List Call) → earlier ++ later ≡ cs → (k : ℕ) (p : List ℕ) (e : ℕ) → InPath (after start earlier) k p e
       → Settled (after start cs) k p e ⊎ (Pending (after start cs) k p e ⊎ LostIn start cs k p e)
 
@@ -69,7 +70,8 @@ pub record NotLost (start : World) (cs : List Call) : Type 0 where
 -- it and d' after it, nothing is pending or nothing is lost
 abbrev pub AllOrNone : World → List Call → Type 0
 AllOrNone start cs = (earlier later : List Call) (c : Call) → earlier ++ (c ∷ later) ≡ cs → (k : ℕ) (d d' : Replica)
-    → replicaAt (after start earlier) k ≡ some d → replicaAt (after start (earlier ++ (c ∷ []))) k ≡ some d' → (pendingOf k (says d) (says d') ≡ []) ⊎ (lostOf k (says d) (says d') ≡ [])
+    → replicaAt (after start earlier) k ≡ some d → replicaAt (after start (earlier ++ (c ∷ []))) k ≡ some d'
+    → (pendingOf k (says d) (says d') ≡ []) ⊎ (lostOf k (says d) (says d') ≡ [])
 
 -- ── what is told ──
 -- a take, elect or fold of the list at office k, whose record and log were d before it and are d' after it
@@ -91,7 +93,8 @@ pub record ToldLost (start : World) (cs : List Call) : Type 0 where
       → Stands (lostEntries (d .held) (d' .held) (d' .words)) e ↔ ((officeOf e ≡ k) × ((p : List ℕ) × LostBy start (x .earlier) (x .c) k p e))
   -- and there it is lost for good
   pub told-for-good : (k : ℕ) (d d' : Replica) (x : CalledAt start cs k d d') (e : ℕ) → Stands (lostEntries (d .held) (d' .held) (d' .words)) e
-      → (p : List ℕ) × LostBy start (x .earlier) (x .c) k p e × ((earlier later : List Call) → earlier ++ later ≡ cs → (j : ℕ) → Settled (after start earlier) j p e → ⊥)
+      → (p : List ℕ) × LostBy start (x .earlier) (x .c) k p e
+      × ((earlier later : List Call) → earlier ++ later ≡ cs → (j : ℕ) → Settled (after start earlier) j p e → ⊥)
 
 -- ── to issue it again ──
 -- how often the value stands in a list
