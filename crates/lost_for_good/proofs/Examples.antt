@@ -1,17 +1,21 @@
--- What would be false of lost edits, by one list of calls that is computed on records, words and bytes: three offices with document 01's weights.
--- Office 1 issues b. Office 0 issues a, which office 2 takes and settles; office 1 takes that log, and so b is lost. It issues b again, which office 2
--- takes and settles, and once more.
+-- What would be false of lost edits, by two lists of calls that are computed on records, words and bytes: three offices with document 01's weights.
+-- In one office 1 issues b. Office 0 issues a, which office 2 takes and settles; office 1 takes that log, and so b is lost. It issues b again, which
+-- office 2 takes and settles, and once more. In the other office 1 issues b and, behind it, x; office 2 takes and settles b and issues c behind it,
+-- which office 0 takes and settles; office 1 takes that log.
 --     settled-elsewhere     a lost entry's value is settled at another place, where it was issued again
 --     pending-may-settle    what is pending may still be settled there
 --     settled-twice         a value that was issued again stands in the order again
 --     each-office-issues    two offices issue behind one beginning
+--     settles-and-loses     a call settles some entries of an own tail and loses others
 -- Each refutes the law that says otherwise. Assumes nothing.
-use mathlib.Core.Path.{_≡_, refl, ap, subst}
+use mathlib.Core.Path.{_≡_, refl, sym, ap, subst, _∙_}
 use mathlib.Core.List.{List, [], _∷_, _++_}
 use mathlib.Core.Bool.{false}
+use mathlib.Core.Logic.{_⊎_, inl, inr}
+use mathlib.Core.Option.{some}
 use Prim.Native.Nat.{ℕ, _≤_}
 use native.Mathlib.Omega.{arith}
-use lib.ListN.{length, drop, replicate}
+use lib.ListN.{length, getD, drop, replicate}
 use Rattle.protocol.specs.Beginning.{_⊑_, begins, extends}
 use Rattle.protocol.specs.Elect.{electing, settle, withElect}
 use Rattle.protocol.specs.Entry.{value, proper, isEntry}
@@ -44,9 +48,11 @@ use Rattle.frame.specs.Issuing.{issueNumber, issueOf}
 use Rattle.frame.specs.Sending.{sendBytes, sendNumber, sendOf}
 use Rattle.frame.specs.Soundness.{soundB}
 use Rattle.frame.specs.Taking.{sameOffices, takeNumber, takeOf, takeWords, takenOffice}
-use Rattle.agreement.specs.World.{World, Call, issue, send, take, elect, number, step, after}
-use Rattle.agreement.specs.Demand.{Founded, logAt, viewAt, order, IssuedIn}
-use Rattle.agreement.proofs.ThreeOffices.{usualWeights, threeOffices, three-founded}
+use Rattle.fates.specs.Fates.{common, settledOf, lostOf}
+use Rattle.agreement.specs.World.{Replica, World, Call, issue, send, take, elect, replicaAt, number, step, after}
+use Rattle.agreement.specs.Demand.{Founded, says, logAt, viewAt, order, IssuedIn}
+use Rattle.agreement.proofs.Founded.{foundReplica}
+use Rattle.agreement.proofs.ThreeOffices.{usualWeights, emptyLog, threeOffices, three-founded}
 use Rattle.lost_for_good.specs.LostForGood.{Settled, Pending, LostIn, times, issuesIt, issuesOf}
 
 -- ── a list of calls ──
@@ -76,6 +82,20 @@ later = again ++ (sends 2 ∷ take 1 0 ∷ again)
 abbrev calls : List Call
 calls = before ++ (take 1 0 ∷ later)
 
+-- until office 1 takes the log b c
+abbrev mixed : List Call
+mixed = issue 1 5 130 ∷ sends 1 ∷ issue 1 5 131 ∷ take 2 0 ∷ elect 2 ∷ issue 2 5 140 ∷ sends 2 ∷ take 0 0 ∷ elect 0 ∷ sends 0 ∷ []
+
+-- office 1 after these calls
+abbrev office1 : List Call → Replica
+office1 cs = getD (after threeOffices cs .replicas) 1 (foundReplica 3 usualWeights 1 emptyLog)
+
+abbrev mixed-before : Replica
+mixed-before = office1 mixed
+
+abbrev mixed-after : Replica
+mixed-after = office1 (mixed ++ (take 1 0 ∷ []))
+
 pub record Computed : Type 0 where
   pub b-first : number (after threeOffices []) (issue 1 5 130) ≡ 0
   pub a-second : number (after threeOffices (issue 1 5 130 ∷ [])) (issue 0 5 120) ≡ 0
@@ -88,9 +108,14 @@ pub record Computed : Type 0 where
   pub log-last : logAt (after threeOffices calls) 2 ≡ a ∷ b ∷ b ∷ []
   pub ordered : order threeOffices calls ≡ a ∷ b ∷ b ∷ []
   pub issues : issuesOf threeOffices calls b ≡ 3
+  pub mixed-was : replicaAt (after threeOffices mixed) 1 ≡ some mixed-before
+  pub mixed-is : replicaAt (after threeOffices (mixed ++ (take 1 0 ∷ []))) 1 ≡ some mixed-after
+  pub mixed-settled : settledOf 1 (says mixed-before) (says mixed-after) ≡ b ∷ []
+  pub mixed-lost : lostOf 1 (says mixed-before) (says mixed-after) ≡ value 1 5 131 ∷ []
 
 pub computed : Computed
-unfolding order longest issuesIt issuesOf number step after begins extends electing settle withElect isEntry proper countIn fair refusalAt withIssue catchUp rebase refuseTake
+unfolding common order longest issuesIt issuesOf number step after
+    begins extends electing settle withElect isEntry proper countIn fair refusalAt withIssue catchUp rebase refuseTake
     withTake leastKnown foldCount withFold withFoldedIssue refuseFoldedIssue withFoldedElect withFoldedTake refuseFoldedTake
     allB both pick same supported tally unheard winner wins headFine isEmpty isOffice isWeight logFine officeFine tailFine tailsFine total
     weightsFine lengthLimit lengthsFine foldedFine isMove canShift move weightsAfter codesAfter countsAfter quieterBy sameSummary ballotShape
@@ -111,6 +136,10 @@ computed = record {
   log-last = refl;
   ordered = refl;
   issues = refl;
+  mixed-was = refl;
+  mixed-is = refl;
+  mixed-settled = refl;
+  mixed-lost = refl;
 }
 
 -- b, issued first, is lost
@@ -182,3 +211,19 @@ unfolding b-issued a-issued
 each-office-issues law =
     let z : _≡_ {A = ℕ} 0 1 = ap length (law 3 usualWeights threeOffices three-founded calls [] b a b-issued a-issued) in
     omega (arith, z)
+
+-- no call settles some entries of an own tail and loses others
+abbrev SettlesOrLoses : Type 0
+SettlesOrLoses = (n : ℕ) (weights : List ℕ) (start : World) → Founded n weights start → (cs : List Call) (c : Call) (k : ℕ) (d d' : Replica)
+    → replicaAt (after start cs) k ≡ some d → replicaAt (after start (cs ++ (c ∷ []))) k ≡ some d'
+    → (settledOf k (says d) (says d') ≡ []) ⊎ (lostOf k (says d) (says d') ≡ [])
+
+pub settles-and-loses : SettlesOrLoses → ⊥
+settles-and-loses law = go (law 3 usualWeights threeOffices three-founded mixed (take 1 0) 1 mixed-before mixed-after (computed .mixed-was) (computed .mixed-is))
+  where
+    not-none : (l : List ℕ) (x : ℕ) → l ≡ x ∷ [] → l ≡ [] → ⊥
+    not-none l x e h = let z : _≡_ {A = ℕ} 1 0 = ap length (sym e ∙ h) in omega (arith, z)
+
+    go : (settledOf 1 (says mixed-before) (says mixed-after) ≡ []) ⊎ (lostOf 1 (says mixed-before) (says mixed-after) ≡ []) → ⊥
+    go (inl h) = not-none (settledOf 1 (says mixed-before) (says mixed-after)) b (computed .mixed-settled) h
+    go (inr h) = not-none (lostOf 1 (says mixed-before) (says mixed-after)) (value 1 5 131) (computed .mixed-lost) h
