@@ -19,7 +19,7 @@ use Rattle.protocol.specs.Office.{tail}
 use Rattle.protocol.specs.Limits.{tailsFine}
 use Rattle.ballots.specs.Ballots.{tailOf, ballotFine, ballotsFine, offEnd}
 use Rattle.ballots.proofs.Laws as B
-use Rattle.ballots.proofs.Eight.{places-fine}
+use Rattle.eight_ballots.proofs.Eight.{places-fine}
 use Rattle.fates.specs.Told.{toldOf, toldWords, toldRefused}
 use Rattle.fates.specs.declared.Told.{Told}
 use Rattle.frame.specs.State.{heldLength, heldBy, ownBallot}

@@ -20,7 +20,7 @@ use Rattle.protocol.specs.Beginning.{_⊑_}
 use Rattle.protocol.specs.Office.{Office, tail, path}
 use Rattle.protocol.specs.Folding.{shorn}
 use Rattle.protocol.proofs.Beginning.{⊑-append, ⊑-rest, ⊑-length}
-use Rattle.ballots.proofs.Eight.{places-fine}
+use Rattle.eight_ballots.proofs.Eight.{places-fine}
 use Rattle.fates.specs.Fates.{settledPart, keptPart, pendingPart, lostPart, settledOf, pendingOf, lostOf, entriesOf, Stands}
 use Rattle.fates.specs.Told.{restOf, hasRoom, toldDone, toldRefused, toldOf, toldWords}
 use Rattle.fates.proofs.Common.{common-right, common-grows}

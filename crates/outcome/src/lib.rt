@@ -47,7 +47,7 @@ fn follows(before: Record, after: Record) -> bool
         return false;
     }
     let ballots = before.ballots;
-    ballots::fine(ballots, before.n, held)
+    eight_ballots::fine(ballots, before.n, held)
 }
 
 // What became of the own entries that were pending in `before`, by the record `after` of the same office and its log. Those pending still, and
