@@ -11,7 +11,6 @@ use mathlib.Core.Bool.{Bool, true, false, _&&_}
 use mathlib.Core.List.{List, [], _∷_, map}
 use Prim.Native.Nat.{ℕ, zero, suc, _+_, _-_, _<_, _≤_}
 use native.Mathlib.Nat.{not-suc-le-zero, le-of-suc-le-suc, sub-zero}
-use native.Mathlib.Numerals.{add-one}
 use native.Mathlib.Omega.{arith}
 use lib.Dec.{eqb, leb, ltb}
 use lib.ListN.{length, getD, drop, drop-of-length-le, length-map}
@@ -23,7 +22,7 @@ use Rattle.lists.proofs.Walk.{and-both, rest-step, with-next, with-done}
 use Rattle.protocol.specs.Limits.{isEmpty, tailFine, tailsFine}
 use Rattle.protocol.proofs.Limits.{empty-nil}
 use Rattle.ballots.specs.Ballots.{ballotFine, ballotShape, ballotsFine, emptyBallot, isNoBallot, offEnd, tailOf}
-use Rattle.ballots.specs.Fours.{entryCells, fitsAt, ofFour, unusedZero, fairTail}
+use Rattle.ballots.specs.Fours.{entryCells, fitsAt, ofFour}
 use Rattle.ballots.specs.declared.Ballot.{Ballot}
 use Rattle.ballots.proofs.Fours.{restFine, fine-tests}
 use Rattle.ballots.proofs.Laws.{tail-fine, none-empty, empty-fine}

@@ -14,7 +14,7 @@ use Prim.Native.Nat.{ℕ, _+_, _-_, _<_, _≤_, max}
 use native.Mathlib.Omega.{arith}
 use lib.Bits.{bitAnd, bitOr, and-zero-r, or-zero-r}
 use lib.Dec.{eqb, leb, ltb}
-use lib.ListN.{length, getD, take, drop, replicate, getD-replicate, drop-of-length-le, take-append-drop}
+use lib.ListN.{length, getD, drop, replicate, getD-replicate, drop-of-length-le, take-append-drop}
 use lib.Seq.{getD-append-add, getD-take, length-take-le}
 use borrow.Author.Tests.{eqb-true, eq-eqb, le-leb, leb-true, lt-ltb, ltb-true, ltb-false}
 use Rattle.lists.specs.Tests.{allB, both, pick}
@@ -28,7 +28,7 @@ use Rattle.lists.proofs.Walk.{AllWith, and-both, with-done}
 use Rattle.ballots.specs.Ballots.{ballotFine, ballotShape, tailOf}
 use Rattle.ballots.specs.Fours.{allCells, codingCells, entryCells, maskWords, ofFour, unusedZero, fairTail}
 use Rattle.ballots.specs.declared.Ballot.{Ballot}
-use Rattle.ballots.proofs.Laws.{Fine, fine}
+use Rattle.ballots.proofs.Laws.{fine}
 
 -- four tests, as the code joins them
 pub four-tests : (t : Ballot → Bool) (a b c d : Ballot) (p q r s : Bool) → p ≡ t a → q ≡ t b → r ≡ t c → s ≡ t d → (((p && q) && r) && s) ≡ ofFour t a b c d

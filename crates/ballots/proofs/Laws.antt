@@ -8,21 +8,21 @@
 --     none-fine, empty-fine     no ballot is fine
 -- Assumes nothing.
 use mathlib.Core.Path.{_≡_, refl, sym, ap, ap₂, _∙_}
-use mathlib.Core.Bool.{Bool, true, false}
+use mathlib.Core.Bool.{true}
 use mathlib.Core.List.{List, [], _∷_, _++_, map, append-assoc}
-use Prim.Native.Nat.{ℕ, suc, _+_, _-_, _/_, _<_, _≤_}
+use Prim.Native.Nat.{ℕ, suc, _+_, _-_, _<_, _≤_}
 use native.Mathlib.Numerals.{add-one}
 use native.Mathlib.Omega.{arith}
-use lib.Dec.{eqb, ltb}
+use lib.Dec.{eqb}
 use lib.ListN.{length, getD, take, drop, set, replicate, length-append, length-drop, take-append-drop, length-replicate}
 use lib.Seq.{length-take-le, set-split, drop-drop, take-append-seam, drop-append-seam}
-use borrow.Author.Tests.{eqb-true, leb-true, ltb-true, lt-ltb, eq-eqb, le-leb, lt-leb}
-use Rattle.lists.specs.Tests.{allB, both, pick}
+use borrow.Author.Tests.{eqb-true, leb-true, lt-ltb, eq-eqb, le-leb}
+use Rattle.lists.specs.Tests.{allB, pick}
 use Rattle.protocol.specs.Entry.{isEntry}
 use Rattle.protocol.specs.Limits.{isEmpty, tailFine}
 use Rattle.protocol.specs.Fair.{fair}
 use Rattle.protocol.proofs.Fair.{fair-nil}
-use Rattle.lists.proofs.Tests.{both-0, both-1, both-true, both-false-1, all-append, all-at, all-mono, all-take, zeros, all-zeros, getD-map}
+use Rattle.lists.proofs.Tests.{both-0, both-1, both-true, zeros, all-zeros, getD-map}
 use Rattle.ballots.specs.Ballots.{ballotShape, ballotFine, emptyBallot, tailOf, ballotOf, noBallot, pushed, isNoBallot, offEnd}
 use Rattle.ballots.specs.declared.Ballot.{Ballot}
 

@@ -1,7 +1,6 @@
 -- What the walks for counts make.
 --     count-next, count-done       a walk that counts the entries of one office, one word more, and its end
 --     counts-fit, counts-next, counts-done     a walk over the offices that raises their counts, one office more, and its end
---     none-room                    no counts have room for a log
 --     counted-in, counted-far      one entry more, of an office that has a count, and of one that has none
 -- Assumes nothing.
 use mathlib.Core.Path.{_≡_, sym, ap, ap₂, _∙_}
@@ -12,11 +11,10 @@ use native.Mathlib.Omega.{arith}
 use lib.Dec.{eqb}
 use lib.ListN.{length, getD, drop, set, drop-of-length-le}
 use lib.Seq.{set-out}
-use Rattle.lists.proofs.Tests.{getD-replicate}
 use Rattle.lists.proofs.Walk.{rest-step}
 use Rattle.lists.proofs.Fill.{filled, fill-here, fill-step, fill-end}
 use Rattle.protocol.specs.Entry.{officeOf}
-use Rattle.protocol.specs.Counts.{countIn, noCounts, countOf, counted, countsAfter}
+use Rattle.protocol.specs.Counts.{countIn, countOf, counted, countsAfter}
 use Rattle.protocol.proofs.Counts.{counts-length, counts-at, count-of, count-most}
 use Rattle.counting.specs.Room.{Room}
 
@@ -53,6 +51,3 @@ module _ (counts : List ℕ) (e k : ℕ) (q : k ≡ officeOf e) where
 
   pub counted-far : length counts ≤ k → counts ≡ counted counts e
   counted-far h = sym (set-out counts k (countOf counts k + 1) h) ∙ counted-in
-
-pub none-room : (len : ℕ) → len < 4294967296 → Room (noCounts 8) len
-none-room len h = (h, λ k. omega (arith, getD-replicate {A = ℕ} 8 0 k))

@@ -4,7 +4,7 @@
 --     fields-here, fields-none, fields-all      the fields from a place on, one by one; none; all from there on
 --     numbers-step, numbers-end      the numbers of the fields
 -- Assumes nothing.
-use mathlib.Core.Path.{_≡_, refl, sym, ap, subst}
+use mathlib.Core.Path.{_≡_, refl, ap, subst}
 use mathlib.Core.Bool.{Bool, true, false}
 use mathlib.Core.List.{List, [], _∷_}
 use Prim.Native.Nat.{ℕ, suc, _+_, _-_, _<_, _≤_, zero-le}

@@ -18,7 +18,6 @@ use Rattle.protocol.specs.Limits.{isEmpty}
 use Rattle.protocol.specs.Moves.{weightsAfter}
 use Rattle.protocol.specs.Office.{first, votes}
 use Rattle.protocol.specs.Vote.{winner}
-use Rattle.protocol.proofs.Limits as Limits
 use Rattle.protocol.proofs.Moves.{weights-length, weights-zero}
 use Rattle.protocol.proofs.Quieter.{quieter-asymmetric}
 use Rattle.summary.specs.declared.Summary.{Summary}

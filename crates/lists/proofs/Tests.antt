@@ -92,10 +92,6 @@ and-true false t e = absurd (true≢false (sym e))
 pub and-of : (s t : Bool) → s ≡ true → t ≡ true → (s && t) ≡ true
 and-of s t p q = rw p q
 
-pub and-false : (s t : Bool) → (s && t) ≡ false → s ≡ true → t ≡ false
-and-false true t e d = e
-and-false false t e d = absurd (true≢false (sym d))
-
 pub or-true : (s t : Bool) → (s || t) ≡ true → (s ≡ true) ⊎ (t ≡ true)
 or-true true t e = inl refl
 or-true false t e = inr e

@@ -150,14 +150,6 @@ module _ (rule : Rule) (law : NamesVoted rule) where
       ∙ ap (λ (r : Option ℕ). next r o (λ e. electing rule (tailEntries (o .tails)) (settle e o))) q
       ∙ electing-enough (tailEntries (o .tails)) (settle e o) (omega (arith, settle-shorter o e q))
 
-  pub count-some : (o : Office) (e : ℕ) → rule (o .log) (votes o) ≡ some e → electCount rule o ≡ 1 + electCount rule (settle e o)
-  unfolding settle
-  count-some o e q =
-      let l : ℕ = length (withElect rule (settle e o) .log) in
-      let g = elect-log rule (settle e o) in
-      let whole : l ≡ length (o .log ++ (e ∷ [])) + length (g .0) = ap length (g .1) ∙ length-append (o .log ++ (e ∷ [])) (g .0) in
-      omega (arith, ap (λ (r : Office). length (r .log)) (elect-some o e q), whole, length-append (o .log) (e ∷ []))
-
 -- the frame's rule, from whatever is kept: after elect no entry wins, by the weights and the tie order of the log as it is then
 pub elect-no-winner : (weights counts : List ℕ) (o : Office) (e : ℕ)
     → let r : Office = withElect (ruleFrom weights counts) o in Wins (weightsAfter weights (r .log)) (quieter counts (r .log)) (votes r) e → ⊥

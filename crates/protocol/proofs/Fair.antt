@@ -4,7 +4,7 @@
 --     fair-nil, fair-drop, fair-behind, fair-append      what keeps it
 --     fair-short, below-short     how long a fair tail is
 -- Assumes nothing.
-use mathlib.Core.Path.{_≡_, refl, _∙_}
+use mathlib.Core.Path.{_≡_, refl}
 use mathlib.Core.Bool.{true}
 use mathlib.Core.List.{List, [], _∷_, _++_}
 use Prim.Native.Nat.{ℕ, zero, suc, _+_, _-_, _*_, _<_, _≤_}

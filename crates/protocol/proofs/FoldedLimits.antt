@@ -1,7 +1,7 @@
 -- The limits that a folded office keeps, as facts by name, and that every call keeps them: what is held keeps document 01's, "dropped entries
 -- included, length plus tail is at most 2^63", and "no noted length passes the record's own".
 --     folded-facts, folded-of                                                 the facts behind the test `foldedFine`, both ways
---     FoldedFine, PacketFine, packet-fine                                     the facts, of an office and of its message
+--     FoldedFine, PacketFine                                                  the facts, of an office and of its message
 --     fold-fine, folded-issue-fine, folded-elect-fine, folded-take-fine       each call keeps them
 -- Assumes nothing.
 use mathlib.Core.Path.{_≡_, refl, sym, ap, subst, _∙_}
@@ -22,7 +22,7 @@ use Rattle.protocol.specs.Limits.{tailFine, lengthLimit, lengthsFine, fo
 use Rattle.protocol.specs.Issue.{withIssue}
 use Rattle.protocol.specs.Take.{rebase, catchUp, adopting, offers, withTake}
 use Rattle.protocol.specs.Elect.{settle, electing, tailEntries, withElect}
-use Rattle.protocol.specs.Folding.{Folded, Packet, unfolded, settledLength, shorn, foldCount, withFold, withFoldedIssue, refuseFoldedIssue, withFoldedElect, packet, caughtUp, fromThere, withFoldedTake, refuseFoldedTake}
+use Rattle.protocol.specs.Folding.{Folded, Packet, unfolded, settledLength, shorn, foldCount, withFold, withFoldedIssue, refuseFoldedIssue, withFoldedElect, caughtUp, fromThere, withFoldedTake, refuseFoldedTake}
 use Rattle.lists.proofs.Tests.{both-0, both-1, both-true, if-cases, all-getD, all-of, all-drop, all-mono, getD-replicate}
 use Rattle.protocol.proofs.Beginning.{⊏-⊑, ⊑-length, extends-true}
 use Rattle.protocol.proofs.Vote.{NamesVoted}
@@ -80,9 +80,6 @@ pub record PacketFine (n : ℕ) (m : Packet) : Type 0 where
   pub known : m .sender < n
   pub held : Fine n (m .state)
   pub short : (j : ℕ) → m .dropped + length (path (m .state) j) ≤ lengthLimit
-
-pub packet-fine : (n k : ℕ) (f : Folded) → k < n → FoldedFine n k f → PacketFine n (packet k f)
-packet-fine n k f h x = record { known = h; held = x .held; short = x .short }
 
 pub unfolded-fine : (n k : ℕ) → FoldedFine n k unfolded
 unfolded-fine n k = record {

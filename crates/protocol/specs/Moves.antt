@@ -1,5 +1,5 @@
 -- Request (i): what moves of weight do when they are settled. Weights follow from a start and the entries of a log. Assumes nothing.
-use mathlib.Core.List.{List, [], _∷_, foldl}
+use mathlib.Core.List.{List, foldl}
 use mathlib.Core.Bool.{Bool, not}
 use Prim.Native.Nat.{ℕ, _+_, _-_}
 use lib.Dec.{eqb, leb, ltb}

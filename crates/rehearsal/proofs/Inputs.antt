@@ -6,7 +6,7 @@ use mathlib.Core.Path.{_≡_, ap}
 use mathlib.Core.List.{List}
 use Prim.Native.Nat.{ℕ}
 use Rattle.rehearsal_lines.specs.Held.{cut}
-use Rattle.rehearsal_lines.specs.Feeding.{Said, inputBy, linesOf, sayAll}
+use Rattle.rehearsal_lines.specs.Feeding.{inputBy, linesOf, sayAll}
 use Rattle.rehearsal_lines.proofs.Input.{input-lines}
 use Rattle.rehearsal_commands.specs.declared.Line.{Line}
 use Rattle.rehearsal_commands.proofs.Lines.{long-line}

@@ -1,13 +1,12 @@
 -- A whole input, however it comes, is answered line by line.
 --     input-lines      where a line of more than 129 bytes says what its first 129 say
 -- Assumes nothing.
-use mathlib.Core.Path.{_≡_, refl, sym, ap, _∙_}
+use mathlib.Core.Path.{_≡_, refl, ap}
 use mathlib.Core.Bool.{Bool, true, false}
-use mathlib.Core.List.{List, [], _∷_, _++_, append-nil, append-assoc}
+use mathlib.Core.List.{List, [], _∷_, _++_, append-assoc}
 use Prim.Native.Nat.{ℕ}
 use native.Mathlib.Omega.{arith}
 use lib.Dec.{eqb}
-use lib.ListN.{length}
 use Rattle.lists.specs.Tests.{pick}
 use Rattle.decimal.specs.Numbers.{inFirst}
 use Rattle.rehearsal_lines.specs.Held.{cut}

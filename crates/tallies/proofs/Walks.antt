@@ -13,7 +13,7 @@ use mathlib.Core.Option.{Option, none, some}
 use Prim.Native.Nat.{ℕ, zero, suc, _+_, _<_, _≤_}
 use native.Mathlib.Nat.{not-suc-le-zero}
 use native.Mathlib.Omega.{arith}
-use lib.Dec.{ltb, eqb}
+use lib.Dec.{eqb}
 use lib.ListN.{length, getD, drop, drop-of-length-le}
 use Rattle.protocol.specs.Vote.{Votes, isFor, isNone, tally, unheard, and-also, supported, beats, beatsAll, wins, firstWinner}
 use Rattle.lists.specs.Tests.{allB}

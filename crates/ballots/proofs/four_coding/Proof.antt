@@ -1,7 +1,7 @@
 -- Four walks in one, each of which joins every raised cell, as the walk over a slice of words does.
 use borrow.Author.Needs.{needs}
 use native.Mathlib.Omega.{arith}
-use mathlib.Core.Path.{_≡_, refl, _∙_}
+use mathlib.Core.Path.{_≡_, _∙_}
 use Prim.Native.Nat.{ℕ, _+_, _-_, _<_, _≤_}
 use mathlib.Core.List.{List}
 use lib.Bits.{bitOr}

@@ -3,9 +3,8 @@ use borrow.Author.Needs.{needs}
 use native.Mathlib.Omega.{arith}
 use mathlib.Core.Bool.{true}
 use mathlib.Core.Path.{_≡_, ap, _∙_}
-use Prim.Native.Nat.{ℕ, _-_, _≤_}
+use Prim.Native.Nat.{_-_, _≤_}
 use lib.ListN.{length}
-use Rattle.lists.specs.Tests.{allB, both}
 use Rattle.ballots.specs.Fours.{maskWords, unusedZero}
 use Rattle.ballots.proofs.Fours.{Unused, four-none, four-tests, mask-length, masked-next, unused-begins, unused-ends, unused-none}
 use Rattle.ballots.proofs.four_unused.Statement.{statement}

@@ -1,7 +1,6 @@
 -- A mask of all bits leaves a word of 32 bits as it is.
 use mathlib.Core.Path.{refl, ap, _∙_}
 use native.Mathlib.Omega.{arith}
-use borrow.Author.Needs.{needs}
 use lib.Bits.{bitAnd, and-mask}
 use Rattle.ballots.proofs.masked.Statement.{statement}
 use Rattle.ballots.proofs.masked.Tie as tie

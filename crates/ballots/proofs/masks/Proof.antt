@@ -1,8 +1,8 @@
 -- The first half is overwritten by zeros, one word after the other.
 use Prim.Native.Nat.{_-_, _≤_}
-use mathlib.Core.Path.{_≡_, refl, sym, ap, _∙_}
+use mathlib.Core.Path.{_≡_, refl, ap, _∙_}
 use native.Mathlib.Omega.{arith}
-use lib.ListN.{length, getD, replicate, set}
+use lib.ListN.{getD, replicate}
 use borrow.Author.Needs.{needs}
 use Rattle.lists.proofs.Fill.{filled, front-step, fill-rest}
 use Rattle.ballots.specs.Fours.{maskWords}

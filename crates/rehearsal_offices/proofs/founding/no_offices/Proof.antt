@@ -9,7 +9,6 @@ use Rattle.frame.specs.State.{zeroRecord}
 use Rattle.frame.specs.Founding.{foundOf}
 use Rattle.frame.specs.declared.Record.{Record}
 use Rattle.frame.specs.declared.founding.Founded.{Founded}
-use Rattle.rehearsal_offices.specs.declared.Offices.{Offices}
 use Rattle.rehearsal_offices.proofs.founding.no_offices.Statement.{statement}
 use Rattle.rehearsal_offices.proofs.founding.no_offices.Tie as tie
 
