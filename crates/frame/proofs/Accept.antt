@@ -10,13 +10,11 @@ use mathlib.Core.List.{List, [], _++_, map}
 use mathlib.Core.Option.{Option, none, some}
 use Prim.Native.Nat.{ℕ, _+_, _-_, _<_, _≤_}
 use native.Mathlib.Omega.{arith}
-use lib.Dec.{eqb}
 use lib.ListN.{length, take, drop, replicate}
 use lib.Seq.{take-append-seam, take-at}
-use borrow.Author.Tests.{eqb-true, ne-eqb}
 use Rattle.protocol.specs.Folding as F
 use Rattle.protocol.specs.Folding.{withFoldedTake, refuseFoldedTake}
-use Rattle.lists.proofs.Tests.{both-0, both-1, take-map, getD-replicate}
+use Rattle.lists.proofs.Tests.{both-1, take-map, getD-replicate}
 use Rattle.protocol.proofs.Folding.{take-found, take-values}
 use Rattle.protocol.proofs.FoldedLimits.{FoldedFine, PacketFine, folded-take-fine, unfolded-fine}
 use Rattle.ballots.specs.Ballots.{tailOf, ballotOf, wordsWith}
@@ -26,7 +24,7 @@ use Rattle.numbers.specs.Numbers.{Bytes}
 use Rattle.spelling.specs.Content.{Content, asPacket, eightTails, validContent}
 use Rattle.spelling.specs.Spelling.{spelling}
 use Rattle.spelling.specs.Reading.{reading}
-use Rattle.spelling.proofs.Valid.{valid-facts, valid-office}
+use Rattle.spelling.proofs.Valid.{valid-facts}
 use Rattle.spelling.proofs.Laws.{reading-spelling, spelling-reading}
 use Rattle.writer.specs.Written as written
 use Rattle.kept.specs.declared.Kept.{Kept}

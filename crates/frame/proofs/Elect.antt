@@ -25,7 +25,7 @@ use Rattle.kept.specs.declared.Kept.{Kept}
 use Rattle.elections.specs.Elections.{stateOf, electedIn}
 use Rattle.elections.specs.declared.State.{State}
 use Rattle.elections.proofs.Run as Run
-use Rattle.frame.specs.State.{heldLength, heldBy, foldedBy, stateIn, withHeld, withState, keptBy, holdingBehind, holding}
+use Rattle.frame.specs.State.{heldLength, heldBy, foldedBy, stateIn, withState, keptBy, holdingBehind, holding}
 use Rattle.frame.specs.Soundness.{soundB, Sound}
 use Rattle.frame.specs.Electing.{ruleOf, electedOf, electOf, electWords, winnerOf}
 use Rattle.frame.specs.declared.Record.{Record}

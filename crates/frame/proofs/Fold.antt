@@ -11,7 +11,6 @@ use native.Mathlib.Omega.{arith}
 use lib.ListN.{length, take, drop, length-drop, take-append-drop}
 use lib.Seq.{take-take}
 use Rattle.lists.specs.Tests.{pick}
-use Rattle.protocol.specs.Folding as F
 use Rattle.protocol.specs.Folding.{leastKnown, foldCount, withFold}
 use Rattle.protocol.proofs.Folding as Folding
 use Rattle.protocol.proofs.FoldedLimits.{fold-fine}

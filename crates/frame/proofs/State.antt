@@ -17,7 +17,7 @@ use lib.Seq.{length-take-le}
 use borrow.Author.Tests.{leb-true}
 use Rattle.lists.proofs.Tests.{both-0, all-at, all-take}
 use Rattle.protocol.specs.Entry.{isEntry}
-use Rattle.protocol.specs.Office.{Office, tail}
+use Rattle.protocol.specs.Office.{tail}
 use Rattle.protocol.specs.Folding as F
 use Rattle.protocol.specs.Limits.{Head, lengthLimit, lengthsFine}
 use Rattle.protocol.proofs.FoldedLimits.{FoldedFine}

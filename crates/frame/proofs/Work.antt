@@ -3,56 +3,38 @@
 --     length-fits, state-fits      no sum wraps
 --     take-made                    it is what the definition says
 -- Assumes nothing.
-use mathlib.Core.Path.{_≡_, refl, sym, ap, ap₂, subst, _∙_}
-use mathlib.Core.Bool.{Bool, true, false, not, cond}
-use mathlib.Core.List.{List, _++_, map}
-use mathlib.Core.Option.{Option, none, some}
-use Prim.Native.Nat.{ℕ, _+_, _-_, _*_, _<_, _≤_}
+use mathlib.Core.Path.{_≡_, sym, ap, subst, _∙_}
+use mathlib.Core.List.{List, map}
+use Prim.Native.Nat.{ℕ, _+_, _-_, _<_, _≤_}
 use native.Mathlib.Omega.{arith}
-use lib.Dec.{eqb}
-use lib.ListN.{length, take, drop, replicate, length-append, length-drop, length-replicate, length-take, take-append-drop, length-map}
-use lib.Seq.{take-at, length-take-le}
-use borrow.Author.Tests.{eqb-true, ne-eqb}
-use Rattle.lists.specs.Tests.{both, pick, allB, same}
+use lib.ListN.{length, take, length-append, length-drop, length-take, length-map}
 use Rattle.protocol.specs.Limits.{lengthLimit}
-use Rattle.protocol.specs.Office.{Office, Message, tail}
+use Rattle.protocol.specs.Office.{tail}
 use Rattle.protocol.specs.Beginning.{comparable}
-use Rattle.protocol.specs.Take.{refuseTake}
 use Rattle.protocol.specs.Folding as F
-use Rattle.protocol.specs.Folding.{note, withFoldedTake, refuseFoldedTake}
+use Rattle.protocol.specs.Folding.{note, withFoldedTake}
 use Rattle.protocol.proofs.Folding.{TakeFound, take-found}
-use Rattle.protocol.proofs.FoldedLimits.{FoldedFine, HeldFine, PacketFine, folded-facts, folded-take-fine}
-use Rattle.lists.proofs.Tests.{both-0, both-false-0, pick-false, zeros}
-use Rattle.ballots.specs.Ballots.{tailOf, ballotOf, wordsWith}
-use Rattle.lists.proofs.Same.{same-true, same-refl}
-use Rattle.lists.proofs.Walk.{take-from}
-use Rattle.ballots.proofs.Laws.{held-all, tails-of}
-use Rattle.numbers.specs.Numbers.{runAt}
+use Rattle.protocol.proofs.FoldedLimits.{FoldedFine, folded-take-fine}
+use Rattle.ballots.specs.Ballots.{ballotOf, wordsWith}
+use Rattle.ballots.proofs.Laws.{held-all}
 use Rattle.numbers.proofs.Runs.{runAt-length}
 use Rattle.spelling.specs.Content.{Content, asPacket}
 use Rattle.spelling.specs.Reading.{reading, recordAt}
-use Rattle.spelling.specs.Spelling.{headSize}
-use Rattle.spelling.proofs.Valid.{Valid, valid-facts, valid-office, settled-length}
-use Rattle.spelling.proofs.Laws.{reading-valid, reading-log, reading-room}
-use Rattle.reading.specs.Read.{readingOf, badReading, eightWeights, ballotsOf}
+use Rattle.spelling.proofs.Valid.{Valid, settled-length}
+use Rattle.spelling.proofs.Laws.{reading-room}
+use Rattle.reading.specs.Read.{readingOf}
 use Rattle.reading.specs.declared.Reading.{Reading}
-use Rattle.comparing.specs.FromEnd.{compares}
-use Rattle.intake.specs.Intake.{packetIn, takenIn, intakenOf, refusalOf, checkedBy, checkedOf, Ready}
-use Rattle.intake.specs.declared.Checked.{Checked}
+use Rattle.intake.specs.Intake.{packetIn, takenIn, intakenOf, Ready}
 use Rattle.intake.specs.declared.Intaken.{Intaken}
-use Rattle.intake.proofs.Numbers.{refusal-folded}
 use Rattle.intake.proofs.Dropping.{summary-taken, dropped-taken}
 use Rattle.elections.specs.declared.State.{State}
-use Rattle.reading.proofs.Answers.{read-some, read-none, rest-of-message}
 use Rattle.summary.specs.Summary.{summaryAfter}
 use Rattle.kept.specs.Kept.{keptAfter}
 use Rattle.kept.specs.declared.Kept.{Kept}
 use Rattle.frame.specs.State.{heldLength, stateIn, withHeld, withState, withNoted, heldBy, foldedBy, keptBy, holding}
-use Rattle.frame.specs.Soundness.{soundB, Sound}
-use Rattle.frame.specs.Taking.{sameOffices, onReading, sharedPlaces, takeNumber, takePlaces, takenOffice, takeOf, takeWords}
+use Rattle.frame.specs.Taking.{takeNumber, takePlaces, takenOffice, takeOf, takeWords}
 use Rattle.frame.specs.declared.Record.{Record}
 use Rattle.frame.specs.declared.taking.Taken.{Taken}
-use Rattle.frame.proofs.Sound.{sound, sound-true}
 use Rattle.frame.proofs.State as Held
 use Rattle.frame.proofs.Take.{Says, says, valid, restOf, packet-in, tails-in, done-comparable, Accepted, accepted, packet-fine, taken-office, take-done-is, take-answer}
 

@@ -1,8 +1,7 @@
 -- Soundness first; the entries that every office is known to have go, and the rest moves to the front.
 use native.Mathlib.Omega.{arith}
-use mathlib.Core.Path.{_≡_, refl, sym, ap, subst, _∙_}
+use mathlib.Core.Path.{_≡_, sym, ap, _∙_}
 use mathlib.Core.Bool.{true}
-use mathlib.Core.List.{List}
 use Prim.Native.Nat.{ℕ}
 use lib.ListN.{drop, take}
 use borrow.Author.Needs.{needs}

@@ -1,8 +1,5 @@
 -- All zero.
 use borrow.Author.Needs.{needs}
-use mathlib.Core.Path.{ap}
-use Rattle.frame.specs.declared.Record.{Record}
-use Rattle.frame.specs.declared.founding.Founded.{Founded}
 use Rattle.frame.proofs.founding.refused.Statement.{statement}
 use Rattle.frame.proofs.founding.refused.Tie as tie
 
