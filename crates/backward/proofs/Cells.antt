@@ -24,9 +24,10 @@ use Rattle.lists.proofs.Fold.{Folded, fold-next, fold-done}
 use Rattle.protocol.specs.Entry.{lineOf, codeOf}
 use Rattle.protocol.specs.Codes.{cell, ofCell}
 use Rattle.protocol.specs.Vote.{isNone}
+use Rattle.protocol.specs.Frames.{orElse, editBy}
 use Rattle.protocol.proofs.Codes.{cell-of}
 use Rattle.backward.specs.Runs.{Named, keptEdit}
-use Rattle.backward.specs.Walk.{Reading, orElse, orOther, editBy, noting, answered, behind, walk, walkBack}
+use Rattle.backward.specs.Walk.{Reading, orOther, noting, answered, behind, walk, walkBack}
 use Rattle.backward.specs.Cells.{isLacking, lacking, naming, namedCells, isFirst, noted, newEdits, orKept, placed, cellsAt, askedOf, walkedOf}
 use Rattle.backward.specs.declared.Asked.{Asked}
 use Rattle.backward.specs.declared.Walked.{Walked}

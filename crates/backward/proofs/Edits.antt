@@ -1,6 +1,4 @@
 -- The edit of a line, from the end of the entries.
---     edit-behind     what stood before counts where the entries have no edit
---     edit-cons       an entry in front counts where those behind it have no edit
 --     some-edits      there is an edit exactly where an entry is for the line
 --     edits-front     entries in front of a run that has an edit for each line change none
 -- Assumes nothing.
@@ -14,33 +12,9 @@ use Rattle.lists.specs.Tests.{pick, allB}
 use Rattle.lists.proofs.Tests.{both-0, both-1}
 use Rattle.protocol.specs.Entry.{lineOf, codeOf}
 use Rattle.protocol.specs.Vote.{isNone}
-use Rattle.protocol.specs.Frames.{editAfter, lastEdit}
-use Rattle.protocol.proofs.Frames.{edit-append}
+use Rattle.protocol.specs.Frames.{editAfter, lastEdit, orElse}
+use Rattle.protocol.proofs.Frames.{edit-append, edit-behind, edit-cons}
 use Rattle.backward.specs.Runs.{edits, editsAll}
-use Rattle.backward.specs.Walk.{orElse, editBy}
-
-or-assoc : (a b c : Option ℕ) → orElse (orElse a b) c ≡ orElse a (orElse b c)
-or-assoc none b c = refl
-or-assoc (some code) b c = refl
-
-or-pick : (t : Bool) (code : ℕ) (o : Option ℕ) → pick t (some code) o ≡ orElse (pick t (some code) none) o
-unfolding pick
-or-pick true code o = refl
-or-pick false code o = refl
-
-pub edit-behind : (line : ℕ) (before : Option ℕ) (l : List ℕ) → editAfter line before l ≡ orElse (lastEdit line l) before
-unfolding editAfter
-edit-behind line before [] = refl
-edit-behind line before (v ∷ l) =
-    let t : Bool = eqb (lineOf v) line in
-    edit-behind line (pick t (some (codeOf v)) before) l
-    ∙ ap (orElse (lastEdit line l)) (or-pick t (codeOf v) before)
-    ∙ sym (or-assoc (lastEdit line l) (editBy v line) before)
-    ∙ ap (λ (o : Option ℕ). orElse o before) (sym (edit-behind line (editBy v line) l))
-
-pub edit-cons : (line v : ℕ) (l : List ℕ) → lastEdit line (v ∷ l) ≡ orElse (lastEdit line l) (editBy v line)
-unfolding editAfter
-edit-cons line v l = edit-behind line (editBy v line) l
 
 some-pick : (t : Bool) (code : ℕ) (o : Option ℕ) → not (isNone (orElse o (pick t (some code) none))) ≡ (t || not (isNone o))
 unfolding pick

@@ -21,14 +21,14 @@ use borrow.Author.Tests.{leb-true}
 use Rattle.lists.specs.Tests.{pick, allB}
 use Rattle.lists.proofs.Tests.{all-mapped, getD-replicate, pick-cases}
 use Rattle.protocol.specs.Codes.{cell, ofCell, noCodes, codesAfter}
-use Rattle.protocol.specs.Frames.{editAfter, lastEdit}
+use Rattle.protocol.specs.Frames.{editAfter, lastEdit, orElse, editBy}
 use Rattle.protocol.proofs.Codes.{cell-back, codes-at}
-use Rattle.protocol.proofs.Frames.{edit-append}
+use Rattle.protocol.proofs.Frames.{edit-append, edit-behind, edit-cons}
 use Rattle.backward.specs.Runs.{ofFrame, keptEdit, editsOf, editsAll, runHas, shortestRun, Shortest}
-use Rattle.backward.specs.Walk.{Reading, orElse, orOther, editBy, noting, answered, behind, walk, walkBack}
+use Rattle.backward.specs.Walk.{Reading, orOther, noting, answered, behind, walk, walkBack}
 use Rattle.backward.specs.Cells.{placed, walkedOf}
 use Rattle.backward.proofs.Members.{all-mem, map-each}
-use Rattle.backward.proofs.Edits.{edit-behind, edit-cons, some-edits, edits-front}
+use Rattle.backward.proofs.Edits.{some-edits, edits-front}
 use Rattle.backward.proofs.Runs.{shortest-one, shortest-is}
 
 -- the edits that a part of the entries gives

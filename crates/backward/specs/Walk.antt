@@ -1,27 +1,17 @@
 -- "The log is walked once, backward from p": word by word, until each line named has its edit. Assumes nothing.
 use mathlib.Core.List.{List, [], _∷_, map}
-use mathlib.Core.Option.{Option, none, some}
+use mathlib.Core.Option.{Option, none}
 use mathlib.Core.Bool.{Bool, not}
 use Prim.Native.Nat.{ℕ, zero, suc, _+_}
-use lib.Dec.{eqb}
 use lib.ListN.{length, getD}
 use Rattle.lists.specs.Tests.{pick, allB}
-use Rattle.protocol.specs.Entry.{lineOf, codeOf}
 use Rattle.protocol.specs.Vote.{isNone}
+use Rattle.protocol.specs.Frames.{orElse, editBy}
 
 -- what was read: the edit of each line named, and how many words
 pub record Reading : Type 0 where
   pub frame : List (Option ℕ)
   pub words : ℕ
-
--- an edit, or else another one
-abbrev pub orElse : Option ℕ → Option ℕ → Option ℕ
-orElse none other = other
-orElse (some code) other = some code
-
--- the edit that the word v is for the line
-abbrev pub editBy : ℕ → ℕ → Option ℕ
-editBy v line = pick (eqb (lineOf v) line) (some (codeOf v)) none
 
 -- a line with no edit yet has what `other` says of it
 abbrev pub orOther : (ℕ → Option ℕ) → List ℕ → List (Option ℕ) → List (Option ℕ)

@@ -10,11 +10,9 @@ use Rattle.lists.specs.Tests.{pick}
 use Rattle.lists.proofs.Tests.{getD-replicate}
 use Rattle.protocol.specs.Limits.{headFine}
 use Rattle.protocol.specs.Vote.{isNone}
-use Rattle.protocol.specs.Frames.{editAfter, lastEdit}
+use Rattle.protocol.specs.Frames.{editAfter, lastEdit, orElse}
 use Rattle.protocol.specs.Office.{path}
-use Rattle.protocol.proofs.Frames.{edit-none, edit-some}
-use Rattle.backward.specs.Walk.{orElse}
-use Rattle.backward.proofs.Edits.{edit-behind}
+use Rattle.protocol.proofs.Frames.{edit-none, edit-some, edit-behind}
 use Rattle.soundness.specs.Soundness.{longEnough}
 use Rattle.frame.specs.State.{heldBy, freshRecord, zeroRecord}
 use Rattle.frame.specs.Soundness.{soundB}

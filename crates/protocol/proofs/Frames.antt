@@ -1,5 +1,7 @@
 -- What a frame shows.
 --     edit-append                 a log in two parts: the second goes on from the edit of the first
+--     edit-behind                 what stood before counts where the log has no edit
+--     edit-cons                   an entry in front counts where those behind it have no edit
 --     edit-none, edit-some        "no edit yet" exactly if no entry of the log is for the line; a code exactly if it is that of the last entry for it
 -- Assumes nothing.
 use mathlib.Core.Path.{_≡_, refl, sym, ap, subst, _∙_}
@@ -16,7 +18,7 @@ use borrow.Author.Tests.{eqb-true, eqb-false}
 use Rattle.lists.specs.Tests.{pick}
 use Rattle.lists.proofs.Tests.{pick-cases}
 use Rattle.protocol.specs.Entry.{lineOf, codeOf}
-use Rattle.protocol.specs.Frames.{editAfter, lastEdit, NoneFor, LastFor}
+use Rattle.protocol.specs.Frames.{editAfter, lastEdit, orElse, editBy, NoneFor, LastFor}
 
 pub edit-append : (line : ℕ) (before : Option ℕ) (p l : List ℕ) → editAfter line before (p ++ l) ≡ editAfter line (editAfter line before p) l
 unfolding editAfter
@@ -24,11 +26,6 @@ edit-append line before [] l = refl
 edit-append line before (v ∷ p) l = edit-append line _ p l
 
 -- ── an entry and those behind it ──
--- an edit, or else another one
-abbrev orElse : Option ℕ → Option ℕ → Option ℕ
-orElse none other = other
-orElse (some code) other = some code
-
 or-assoc : (a b c : Option ℕ) → orElse (orElse a b) c ≡ orElse a (orElse b c)
 or-assoc none b c = refl
 or-assoc (some code) b c = refl
@@ -38,21 +35,19 @@ unfolding pick
 or-pick true code o = refl
 or-pick false code o = refl
 
--- what stood before counts where the log has no edit
-edit-behind : (line : ℕ) (before : Option ℕ) (l : List ℕ) → editAfter line before l ≡ orElse (lastEdit line l) before
+pub edit-behind : (line : ℕ) (before : Option ℕ) (l : List ℕ) → editAfter line before l ≡ orElse (lastEdit line l) before
 unfolding editAfter
 edit-behind line before [] = refl
 edit-behind line before (v ∷ l) =
     let t : Bool = eqb (lineOf v) line in
-    let own : Option ℕ = pick t (some (codeOf v)) none in
     edit-behind line (pick t (some (codeOf v)) before) l
     ∙ ap (orElse (lastEdit line l)) (or-pick t (codeOf v) before)
-    ∙ sym (or-assoc (lastEdit line l) own before)
-    ∙ ap (λ (o : Option ℕ). orElse o before) (sym (edit-behind line own l))
+    ∙ sym (or-assoc (lastEdit line l) (editBy v line) before)
+    ∙ ap (λ (o : Option ℕ). orElse o before) (sym (edit-behind line (editBy v line) l))
 
-edit-cons : (line v : ℕ) (l : List ℕ) → lastEdit line (v ∷ l) ≡ orElse (lastEdit line l) (pick (eqb (lineOf v) line) (some (codeOf v)) none)
+pub edit-cons : (line v : ℕ) (l : List ℕ) → lastEdit line (v ∷ l) ≡ orElse (lastEdit line l) (editBy v line)
 unfolding editAfter
-edit-cons line v l = edit-behind line (pick (eqb (lineOf v) line) (some (codeOf v)) none) l
+edit-cons line v l = edit-behind line (editBy v line) l
 
 -- ── none, or the last ──
 -- what an edit says of the log

@@ -18,6 +18,15 @@ editAfter line before (v ∷ vs) = editAfter line (pick (eqb (lineOf v) line) (s
 abbrev pub lastEdit : ℕ → List ℕ → Option ℕ
 lastEdit line log = editAfter line none log
 
+-- an edit, or else another one
+abbrev pub orElse : Option ℕ → Option ℕ → Option ℕ
+orElse none other = other
+orElse (some code) other = some code
+
+-- the edit that the entry v is for the line
+abbrev pub editBy : ℕ → ℕ → Option ℕ
+editBy v line = pick (eqb (lineOf v) line) (some (codeOf v)) none
+
 -- What is claimed of it (proofs/Frames): it is none exactly if no entry of the log is for the line,
 abbrev pub NoneFor : ℕ → List ℕ → Type 0
 NoneFor line log = (place : ℕ) → place < length log → lineOf (getD log place 0) ≡ line → ⊥
