@@ -36,7 +36,7 @@ emptyBallot b = both (isNoBallot b) (both (eqb (length (b .cells)) 32) (allB (eq
 unfoldable pub ballotShape : Ballot → Bool
 ballotShape b = both (eqb (length (b .cells)) 32) (both (leb (b .len) 32) (allB (eqb 0) (drop (b .len) (b .cells))))
 
--- a ballot of a sound record of n offices with this settled length
+-- a ballot of a sound record of n offices with this settled length, (xiv) without the dropped entries
 unfoldable pub ballotFine : ℕ → ℕ → Ballot → Bool
 ballotFine n settled b = both (ballotShape b) (tailFine n settled (tailOf b))
 
@@ -44,7 +44,7 @@ ballotFine n settled b = both (ballotShape b) (tailFine n settled (tailOf b))
 unfoldable pub ballotsFine : ℕ → ℕ → List Ballot → Bool
 ballotsFine n settled bs = both (allB ballotShape bs) (tailsFine n settled (map tailOf bs))
 
--- the office's state in a log's words and eight ballots: "its first settled-length words are the settled log"
+-- the office's state in a log's words and eight ballots: "its first settled-length words are the settled log", (xiv) its undropped part
 abbrev pub officeIn : List ℕ → ℕ → List Ballot → Office
 officeIn words settled bs = record { log = take settled words; tails = map tailOf bs }
 

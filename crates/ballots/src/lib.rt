@@ -158,7 +158,7 @@ fn four_unused(a: Ballot, b: Ballot, c: Ballot, d: Ballot, masks: &[u32]) -> boo
 impl Ballot {
     pub const CELLS: usize = 32;
 
-    // The longest path of a ballot: a settled length with a tail length.
+    // The longest path of a ballot: the length of an undropped log with a tail's.
     pub const PATH: usize = 1024;
 
     // Whether the ballot is none: no entries, and every cell zero.
@@ -194,7 +194,7 @@ impl Ballot {
     }
 }
 
-// Whether a ballot of this length may stand at this place: with the settled log it makes no path past 1024, and from place n on it is none.
+// Whether a ballot of this length may stand at this place: with the undropped log it makes no path past 1024, and from place n on it is none.
 fn fits(len: usize, place: usize, n: usize, settled: usize) -> bool
     ensures { λ r. ⌜ r ≡ fitsAt n settled place len ⌝ }
 {
@@ -207,7 +207,7 @@ fn fits(len: usize, place: usize, n: usize, settled: usize) -> bool
     settled <= Ballot::PATH - len
 }
 
-// Whether eight ballots are within the limits beside a settled log of this length: at once where there are none, else their lengths first,
+// Whether eight ballots are within the limits beside an undropped log of this length: at once where there are none, else their lengths first,
 // then their cells, by the faster test where no cell is a move of weight, and each office's part. It serves a record and a message alike. Public only for the
 // crates above, which prove what it requires.
 pub fn fine(all: [Ballot; 8], n: usize, settled: usize) -> bool

@@ -1,5 +1,6 @@
 -- "Entry e wins when T(e) > U and, for each other supported entry f, T(e) > T(f) + U, or T(e) = T(f) + U and the value of e is below that of f."
--- The sentence as a claim about every vote table, for any tie order; since (iii) that is `quieterBy`. That `winner` computes it is proved (laws `winner-some`, `winner-none`). Assumes nothing.
+-- The sentence as a claim about every vote table, for any tie order; since (iii) that is `quieterBy`. That `winner` computes it is proved (laws
+-- `winner-some`, `winner-none`). Assumes nothing.
 use mathlib.Core.Path.{_≡_}
 use mathlib.Core.List.{List}
 use mathlib.Core.Option.{some}
