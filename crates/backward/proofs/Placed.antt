@@ -1,6 +1,6 @@
 -- The answer's 64 places.
 --     named-at                       a line named is one of the frame
---     placing-again, -ends           the first i places hold what the cells, or else the kept codes, say of the lines
+--     placing-again, placing-ends    the first i places hold what the cells, or else the kept codes, say of the lines
 --     getD-mapped, placed-at, placed-past    what stands at a place
 -- Assumes nothing.
 use mathlib.Core.Path.{_≡_, refl, sym, ap, ap₂, _∙_}

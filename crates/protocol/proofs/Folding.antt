@@ -4,9 +4,10 @@
 --     fold-desk, issue-desk, elect-desk, take-desk   the calls on whole logs
 --     take-found, folded-issue-found            what a call that is done found
 --     take-values, take-nine, take-ten, take-sixteen     take's numbers
+--     numbers-apart                             of 16, 17 and 10 no two hold together
 -- Assumes nothing.
 use mathlib.Core.Path.{_≡_, refl, sym, ap, ap₂, subst, _∙_}
-use mathlib.Core.List.{List, _++_, append-nil, append-assoc}
+use mathlib.Core.List.{List, [], _∷_, _++_, append-nil, append-assoc}
 use mathlib.Core.Bool.{Bool, true, false, _||_, not, cond}
 use mathlib.Core.Logic.{_⊎_, inl, inr}
 use Prim.Native.Nat.{ℕ, zero, suc, _+_, _-_, _≤_, _<_, min}
@@ -15,12 +16,12 @@ use native.Mathlib.Decide.{ℕ-discrete}
 use native.Mathlib.Omega.{arith}
 use lib.Dec.{eqb, ltb}
 use lib.ListN as L
-use lib.ListN.{length, getD, drop, length-append, length-take, take-append-drop}
+use lib.ListN.{length, getD, drop, length-append, length-drop, length-take, take-append-drop}
 use lib.Seq.{drop-append-add}
 use borrow.Author.Tests.{eqb-true, eqb-false, ltb-true, ltb-false}
 use Rattle.lists.specs.Tests.{pick}
 use Rattle.protocol.specs.Entry.{proper}
-use Rattle.protocol.specs.Beginning.{_⊑_, _⊏_, begins}
+use Rattle.protocol.specs.Beginning.{_⊑_, _⊏_, begins, comparable}
 use Rattle.protocol.specs.Vote.{Rule}
 use Rattle.protocol.specs.Office.{Office}
 use Rattle.protocol.specs.Issue.{withIssue, refuseEntry, refusalAt}
@@ -29,7 +30,7 @@ use Rattle.protocol.specs.Take.{withTake, refuseTake}
 use Rattle.protocol.specs.Elect.{withElect}
 use Rattle.protocol.specs.Folding.{Folded, Packet, settledLength, shorn, leastKnown, foldCount, withFold, withFoldedIssue, refuseFoldedIssue, withFoldedElect, caughtUp, fromThere, withFoldedTake, beginsPast, endsInside, refuseFoldedTake}
 use Rattle.protocol.proofs.FoldedWorld.{Desk, Posted, leaving, whole, wholeDesk, wholeMessage}
-use Rattle.lists.proofs.Tests.{pick-cases}
+use Rattle.lists.proofs.Tests.{pick-cases, or-right}
 use Rattle.protocol.proofs.Beginning.{⊑-trans, ⊑-comparable, ⊑-append, ⊑-rest, ⊏-length}
 use Rattle.protocol.proofs.Kept.{effectOf, ruleBehind, kept-suffices}
 use Rattle.protocol.proofs.Whole.{wholeIn, behind, issue-whole, take-whole, refuse-whole, elect-whole}
@@ -137,6 +138,36 @@ folded-issue-found n k line code f h = go (not (proper n line code)) _ h
     go false r h = refl
 
 -- ── take ──
+-- of 16, 17 and 10 no two hold together: where one log begins past the other's end there is nothing to compare. So in whatever order the three are
+-- tested, "the smallest number is given"
+pub record Apart (m : Packet) (f : Folded) : Type 0 where
+  pub not-both : beginsPast m f ≡ true → endsInside m f ≡ true → ⊥
+  pub past-agrees : beginsPast m f ≡ true → comparable (caughtUp m f .log) (fromThere m f .state .log) ≡ true
+  pub inside-agrees : endsInside m f ≡ true → comparable (caughtUp m f .log) (fromThere m f .state .log) ≡ true
+
+none-first : (a b : List ℕ) → length a ≡ 0 → comparable a b ≡ true
+unfolding begins
+none-first [] b h = refl
+none-first (x ∷ a) b h = absurd (omega (arith, h))
+
+none-second : (a b : List ℕ) → length b ≡ 0 → comparable a b ≡ true
+unfolding begins
+none-second a [] h = or-right (begins a [])
+none-second a (x ∷ b) h = absurd (omega (arith, h))
+
+pub numbers-apart : (m : Packet) (f : Folded) → Apart m f
+numbers-apart m f = record {
+  not-both = λ p q. omega (arith, past p, inside q);
+  past-agrees = λ p. none-first (caughtUp m f .log) (fromThere m f .state .log) (omega (arith, past p, length-drop (m .dropped - f .dropped) (f .held .log)));
+  inside-agrees = λ q. none-second (caughtUp m f .log) (fromThere m f .state .log) (omega (arith, inside q, length-drop (f .dropped - m .dropped) (m .state .log)));
+}
+  where
+    past : beginsPast m f ≡ true → settledLength (f .dropped) (f .held) < m .dropped
+    past p = ltb-true (settledLength (f .dropped) (f .held)) (m .dropped) p
+
+    inside : endsInside m f ≡ true → settledLength (m .dropped) (m .state) < f .dropped
+    inside q = ltb-true (settledLength (m .dropped) (m .state)) (f .dropped) q
+
 pub record TakeFound (k : ℕ) (m : Packet) (f : Folded) : Type 0 where
   pub other : m .sender ≡ k → ⊥
   pub reaches : m .dropped ≤ settledLength (f .dropped) (f .held)

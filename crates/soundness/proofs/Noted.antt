@@ -1,6 +1,6 @@
 -- The noted lengths: facts by name, both ways, and each place by the most that may be noted there.
 --     noted-facts, noted-true      the test `notedFine` and its facts
---     limited, noted-limited       the facts, and eight lengths that are no more than the most at each place
+--     limited, facts-of            the facts, and eight lengths that are no more than the most at each place
 --     limits-next, limits-done     a walk that makes every test: one more, all eight made
 -- Assumes nothing.
 use mathlib.Core.Path.{_≡_, refl, sym, ap, subst, _∙_}

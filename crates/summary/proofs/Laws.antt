@@ -2,7 +2,7 @@
 --     summary-append      a log in two parts: the second goes on from the summary of the first
 --     summary-nil         an empty log has done nothing
 --     summary-next        one entry more
---     same-summary        the test of two summaries, both ways
+--     same-summary-true, same-summary-refl     the test of two summaries, both ways
 -- Assumes nothing.
 use mathlib.Core.Path.{_≡_, refl, _∙_}
 use mathlib.Core.Bool.{true}

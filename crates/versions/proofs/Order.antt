@@ -1,6 +1,6 @@
 -- Two vectors, count by count.
---     WalkedTo, walked-next, walked-done      a walk over the counts, both ways: one office more, and its end
---     found-stands                            what was found both ways is the answer
+--     WalkedTo, walked-first, walked-next     a walk over the counts, both ways: its start, and one office more
+--     found-stands                            at its end, what was found both ways is the answer
 --     sized                                   a vector has the length of one
 -- Assumes nothing.
 use mathlib.Core.Path.{_≡_, refl, sym, ap, ap₂, _∙_}
