@@ -24,15 +24,21 @@ fn offices(n: usize) -> u32
     n as u32
 }
 
-// Whether the word is the value of an entry for n offices: one that codes a line, or a move of weight. Every test is made, so that a loop
-// of it runs on vectors.
+// Whether the word is the value of an entry for n offices: one that codes a line, or a move of weight. What both ask for is tested first. A walk
+// that leaves at the first word that is no entry is fast by these branches, and a walk over all words of a slice runs on vectors all the same.
 pub fn is_entry(word: u32, n: usize) -> bool
     ensures { λ r. ⌜ r ≡ isEntry n word ⌝ }
 {
     let m = offices(n);
     let line = word / 65536 % 256;
     let code = word % 65536;
-    (word / 16777216 < m) & ((code <= 9999) & ((line <= 63) | ((line < 64 + m) & (1 <= code))))
+    if !((word / 16777216 < m) & (code <= 9999)) {
+        return false;
+    }
+    if line <= 63 {
+        return true;
+    }
+    (line < 64 + m) & (1 <= code)
 }
 
 // The word's office, the upper two bits of its line and half its code, each raised so that a number past its limit carries into a bit

@@ -3,21 +3,17 @@
 --     Left, again ..    the ballots and the end
 -- Assumes nothing.
 use Prim.Native.Nat.{ℕ, _+_, _-_, _<_, _≤_, suc, zero}
-use mathlib.Core.Bool.{Bool, _&&_, false, true}
+use mathlib.Core.Bool.{Bool, false, true}
 use mathlib.Core.List.{List, [], _∷_, map, map-append}
 use mathlib.Core.Path.{_∙_, _≡_, ap, refl, sym}
 use native.Mathlib.Nat.{le-of-eq, not-suc-le-zero, sub-zero}
 use native.Mathlib.Numerals.{add-one}
 use native.Mathlib.Omega.{arith}
 use lib.ListN.{drop, getD, length, length-map, replicate, set}
-use lib.Bits.{bitOr}
 use lib.Seq.{drop-drop, getD-set-other, set-getD, sets}
 use Rattle.ballots.specs.Ballots.{ballotOf, noBallot}
 use Rattle.ballots.specs.declared.Ballot.{Ballot}
 use Rattle.protocol.specs.Entry.{isEntry}
-use Rattle.entries.specs.Carries.{isCoding, noCarry}
-use Rattle.entries.proofs.Carries.{no-carry-or}
-use Rattle.entries.proofs.Word.{coding-entry}
 use Rattle.lists.specs.Tests.{allB, both, pick}
 use Rattle.records.specs.Steps.{badBallot, badLog, ballotAt, endAt, logAt}
 use Rattle.records.specs.declared.BallotStep.{BallotStep}
@@ -26,12 +22,11 @@ use Rattle.records.specs.declared.LogStep.{LogStep}
 use Rattle.spelling.specs.Content.{eightTails}
 use Rattle.numbers.specs.Numbers.{runAt, runOk}
 use Rattle.spelling.specs.Reading.{afterBallot, ballotOk, ballotsOk, endOk, recordAt, recordHere, sizeAt, tailAt, tailsAt}
-use Rattle.lists.proofs.Tests.{all-mono, both-0, both-1, both-true, both-assoc, both-false-0, both-false-1, both-swap, getD-replicate}
-use Rattle.lists.proofs.Walk.{and-both}
+use Rattle.lists.proofs.Tests.{both-assoc, both-false-0, both-swap, getD-replicate}
 use Rattle.spelling.proofs.Ballots.{by-test, tailsAt-length}
 use Rattle.numbers.proofs.Numbers.{sets-alike}
 use Rattle.numbers.proofs.Steps.{test-end, test-fails, test-step}
-use Rattle.reading.specs.Read.{ballotsOf, logCoding, logWithin}
+use Rattle.reading.specs.Read.{ballotsOf, logWithin}
 
 module _ (s : List ℕ) (at n o : ℕ) where
   step-ok : ballotAt s at o .ok ≡ ballotOk (drop at s) o
@@ -85,34 +80,31 @@ end-step-ok : (at : ℕ) (s : List ℕ) → endAt s at .ok ≡ endOk (drop at s)
 unfolding endAt pick
 end-step-ok at s = by-test _ (endOk (drop at s)) (λ e. rw e) (λ e. rw e)
 
--- ---- the loop over the log records: what was found so far, and what is left to test from position at on
+-- ---- the loop over the log records: what is left to test from position at on
 
--- a test b is added to what was found, where it is the first of what was left
-joined : (a b c d : Bool) → (b ≡ true → c ≡ d) → (b ≡ false → c ≡ false) → both (a && b) d ≡ both a c
-unfolding both
-joined true true c d f g = sym (f refl)
-joined true false c d f g = sym (g refl)
-joined false b c d f g = refl
+-- a record whose value is an entry for n offices
+abbrev passes : ℕ → List ℕ → Bool
+passes n s = both (recordHere s) (isEntry n (recordAt s))
 
--- a record whose value passes a test
-abbrev passes : (ℕ → Bool) → List ℕ → Bool
-passes t s = both (recordHere s) (t (recordAt s))
+-- the records that are left at turn i, of k
+abbrev pub leftAt : ℕ → ℕ → ℕ → ℕ → List ℕ → Bool
+leftAt n k at i s = runOk 6 (passes n) (k - i) (drop at s)
 
--- records that stand there, whose values pass it: one by one, or the records first and then the values
-one-by-one : (t : ℕ → Bool) (k : ℕ) (s : List ℕ) → runOk 6 (passes t) k s ≡ both (runOk 6 recordHere k s) (allB t (runAt 6 recordAt k s))
+-- all are left: tested one by one, or the records first and then the values
+one-by-one : (n k : ℕ) (s : List ℕ) → runOk 6 (passes n) k s ≡ both (runOk 6 recordHere k s) (allB (isEntry n) (runAt 6 recordAt k s))
 unfolding runOk runAt allB both
-one-by-one t zero s = refl
-one-by-one t (suc k) s =
-    ap (both (passes t s)) (one-by-one t k (drop 6 s)) ∙ crossed (recordHere s) (t (recordAt s)) (runOk 6 recordHere k (drop 6 s)) (allB t (runAt 6 recordAt k (drop 6 s)))
+one-by-one n zero s = refl
+one-by-one n (suc k) s =
+    ap (both (passes n s)) (one-by-one n k (drop 6 s)) ∙ crossed (recordHere s) (isEntry n (recordAt s)) (runOk 6 recordHere k (drop 6 s)) (allB (isEntry n) (runAt 6 recordAt k (drop 6 s)))
   where
     crossed : (a b c d : Bool) → both (both a b) (both c d) ≡ both (both a c) (both b d)
     crossed a b c d = both-assoc a b (both c d) ∙ ap (both a) (both-swap b c d) ∙ sym (both-assoc a c (both b d))
 
--- what was found of the values so far, and the records that are left at turn i
-abbrev pub leftAt : (ℕ → Bool) → ℕ → Bool → ℕ → ℕ → List ℕ → Bool
-leftAt t k good at i s = both good (runOk 6 (passes t) (k - i) (drop at s))
+pub log-begins : (n k : ℕ) (s : List ℕ) → leftAt n k 0 0 s ≡ logWithin s n k
+unfolding logWithin
+log-begins n k s = rw sub-zero (one-by-one n k s)
 
-module _ (t : ℕ → Bool) (k : ℕ) (good : Bool) (at i : ℕ) (s : List ℕ) where
+module _ (n k at i : ℕ) (s : List ℕ) where
   -- what a log record's step says
   module _ (r : LogStep) (h : i < k) (e : r ≡ logAt s at) where
     -- it answers whether a record stands there
@@ -121,49 +113,30 @@ module _ (t : ℕ → Bool) (k : ℕ) (good : Bool) (at i : ℕ) (s : List ℕ) 
     stands = rw e (by-test _ (recordHere (drop at s)) (λ p. rw p) (λ p. rw p))
 
     -- none: the loop is left
-    pub log-fails : r .ok ≡ false → false ≡ leftAt t k good at i s
-    log-fails p = sym (both-false-1 good _ (test-fails 6 (passes t) k i (drop at s) h (both-false-0 (recordHere (drop at s)) _ (stands ∙ p))))
+    pub log-fails : r .ok ≡ false → false ≡ leftAt n k at i s
+    log-fails p = sym (test-fails 6 (passes n) k i (drop at s) h (both-false-0 (recordHere (drop at s)) _ (stands ∙ p)))
 
     module _ (p : r .ok ≡ true) where
-      -- else its value and the position after it
-      step-value : r .value ≡ recordAt (drop at s)
-      unfolding logAt pick
-      step-value = rw (e, stands ∙ p)
+      -- else its value decides
+      value-tested : isEntry n (r .value) ≡ passes n (drop at s)
+      unfolding logAt pick both
+      value-tested = rw (e, stands ∙ p)
 
+      -- no entry: the loop is left
+      pub log-refused : isEntry n (r .value) ≡ false → false ≡ leftAt n k at i s
+      log-refused q = sym (test-fails 6 (passes n) k i (drop at s) h (sym value-tested ∙ q))
+
+      -- and else it goes on after the record
       step-after : r .next ≡ at + 6
       unfolding logAt pick
       step-after = rw (e, stands ∙ p)
 
-      -- the record stands there, so the value decides
-      value-tested : t (r .value) ≡ passes t (drop at s)
-      unfolding both
-      value-tested = ap t step-value ∙ rw (stands ∙ p)
-
-      -- and the loop goes on
-      pub log-turn : (g : Bool) → g ≡ t (r .value) → leftAt t k (good && g) (r .next) (i + 1) s ≡ leftAt t k good at i s
-      log-turn g q =
-          rw (q ∙ value-tested, step-after) (joined good (passes t (drop at s)) _ _ (test-step 6 (passes t) k i at s h) (test-fails 6 (passes t) k i (drop at s) h))
+      pub log-turn : isEntry n (r .value) ≡ true → leftAt n k (r .next) (i + 1) s ≡ leftAt n k at i s
+      log-turn q = rw step-after (sym (test-step 6 (passes n) k i at s h (sym value-tested ∙ q)))
 
   -- no record is left
-  pub log-ends : k ≤ i → good ≡ leftAt t k good at i s
-  unfolding both
-  log-ends h = by-test _ good (λ e. rw (e, test-end 6 (passes t) k i (drop at s) h)) (λ e. rw e)
-
--- the same where the values are joined
-pub log-joined : (t : ℕ → Bool) (k bits at i : ℕ) (s : List ℕ) (r : LogStep) → i < k → r ≡ logAt s at → r .ok ≡ true → (v : ℕ) → noCarry v ≡ t (r .value)
-    → leftAt t k (noCarry (bitOr bits v)) (r .next) (i + 1) s ≡ leftAt t k (noCarry bits) at i s
-log-joined t k bits at i s r h e p v q =
-    ap (λ (g : Bool). leftAt t k g (r .next) (i + 1) s) (no-carry-or bits v ∙ sym (and-both (noCarry bits) (noCarry v))) ∙ log-turn t k (noCarry bits) at i s r h e p (noCarry v) q
-
--- all are left
-pub log-begins : (t : ℕ → Bool) (k : ℕ) (s : List ℕ) → leftAt t k true 0 0 s ≡ both (runOk 6 recordHere k s) (allB t (runAt 6 recordAt k s))
-unfolding both
-log-begins t k s = rw sub-zero (one-by-one t k s)
-
--- values that code lines are entries
-pub log-coded : (s : List ℕ) (n k : ℕ) → logCoding s n k ≡ true → logWithin s n k ≡ true
-unfolding logCoding logWithin
-log-coded s n k e = both-true _ _ (both-0 _ _ e) (all-mono (isCoding n) (isEntry n) (coding-entry n) (runAt 6 recordAt k s) (both-1 _ _ e))
+  pub log-ends : k ≤ i → true ≡ leftAt n k at i s
+  log-ends h = sym (test-end 6 (passes n) k i (drop at s) h)
 
 -- ---- the loop over the ballots: what is left to test, and to store, from office o at position at, is what there was to test and to store
 -- at first, and no ballot is stored yet from office o on

@@ -9,7 +9,6 @@ use Rattle.ballots.specs.declared.Ballot.{Ballot}
 use Rattle.ballots.specs.Ballots.{ballotOf, noBallot}
 use Rattle.lists.specs.Tests.{both, allB, pick}
 use Rattle.protocol.specs.Entry.{isEntry}
-use Rattle.entries.specs.Carries.{isCoding}
 use Rattle.protocol.specs.Limits.{isOffice}
 use Rattle.numbers.specs.Numbers.{be16, runAt, runOk}
 use Rattle.spelling.specs.Content.{Content, eightTails}
@@ -20,10 +19,6 @@ use Rattle.reading.specs.declared.Reading.{Reading}
 -- the head is of the layout, and its fields are within the limits: "the 1024 limit then covers what is undropped"
 unfoldable pub headWithin : List ℕ → Bool
 headWithin s = both (headOk s) (both (isOffice (countAt s) (senderAt s)) (leb (heldAt s) 1024))
-
--- k log records stand there, whose values are entries for n offices that code lines
-unfoldable pub logCoding : List ℕ → ℕ → ℕ → Bool
-logCoding s n k = both (runOk 6 recordHere k s) (allB (isCoding n) (runAt 6 recordAt k s))
 
 -- k log records stand there, whose values are entries for n offices
 unfoldable pub logWithin : List ℕ → ℕ → ℕ → Bool

@@ -18,7 +18,7 @@ ghost use lib.ListN.{length, drop};
 ghost use lib.Seq.{sets};
 ghost use Rattle.numbers.specs.Numbers.{be16, runAt};
 ghost use Rattle.spelling.specs.Reading.{recordAt, reading};
-ghost use Rattle.reading.specs.Read.{headWithin, logCoding, logWithin, eightWeights, badReading, headReading, readingOf};
+ghost use Rattle.reading.specs.Read.{headWithin, logWithin, eightWeights, badReading, headReading, readingOf};
 
 // What a message says. Its undropped entries, as many as are held, stay in it, six bytes each after the head.
 pub struct Reading {
@@ -32,45 +32,23 @@ pub struct Reading {
     pub ok: bool,
 }
 
-// Whether k log records stand at the start, whose values are entries for n offices that code lines: their marks one by one, their values
-// together.
-fn log_coding(rest: &[u8], n: usize, k: usize) -> bool
-    ensures { λ r. ⌜ r ≡ logCoding (now (rest .entry)) n k ⌝ }
-{
-    let mut at: usize = 0;
-    let mut bits: u32 = 0;
-    for i in 0..k {
-        let step = read_log(rest, at);
-        let ok = step.ok;
-        if !ok {
-            return false;
-        }
-        bits = bits | entries::raised(step.value, n);
-        at = step.next;
-    }
-    entries::no_carry(bits)
-}
-
-// Whether k log records stand at the start, whose values are entries for n offices. Most logs have no move of weight, and then the faster
-// test sees it.
+// Whether k log records stand at the start, whose values are entries for n offices: record by record, edits and moves alike.
 fn log_within(rest: &[u8], n: usize, k: usize) -> bool
     ensures { λ r. ⌜ r ≡ logWithin (now (rest .entry)) n k ⌝ }
 {
-    if log_coding(rest, n, k) {
-        return true;
-    }
     let mut at: usize = 0;
-    let mut good = true;
     for i in 0..k {
         let step = read_log(rest, at);
         let ok = step.ok;
         if !ok {
             return false;
         }
-        good = good & entries::is_entry(step.value, n);
+        if !entries::is_entry(step.value, n) {
+            return false;
+        }
         at = step.next;
     }
-    good
+    true
 }
 
 // The k weights at a position, and zeros after them.
