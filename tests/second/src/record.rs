@@ -302,22 +302,28 @@ fn sound_ballot(ballot: &Ballot, n: usize, limit: usize) -> bool {
         && ballot.cells[ballot.len..].iter().fold(0, |bits, &cell| bits | cell) == 0
 }
 
+/// Whether all ballots of a record of n offices, 1 to 8, are within the limits behind its settled length.
+pub(crate) fn sound_ballots(record: &Record) -> bool {
+    let Some(limit) = tail_limit(record.settled, record.kept.dropped) else {
+        return false;
+    };
+    let (known, past) = record.ballots.split_at(record.n);
+    known.iter().all(|ballot| sound_ballot(ballot, record.n, limit))
+        && past.iter().all(|ballot| sound_ballot(ballot, record.n, 0))
+}
+
 /// Whether the record with its log is sound.
 pub fn sound(record: &Record, log: &[u32]) -> bool {
     let Record { n, own, weights, kept, .. } = record;
     if log.len() < LOG || !within_limits(*n, *own, weights) || !sound_kept(kept, *n, weights) || !sound_noted(record) {
         return false;
     }
-    let Some(limit) = tail_limit(record.settled, kept.dropped) else {
-        return false;
-    };
-    let entries = &log[..record.held()];
-    if !all_entries(entries, *n)
-        || record.present != weights_after(kept.present, entries)
-        || record.codes != codes_after(&kept.codes, entries)
-    {
+    if tail_limit(record.settled, kept.dropped).is_none() {
         return false;
     }
-    let (known, past) = record.ballots.split_at(*n);
-    known.iter().all(|ballot| sound_ballot(ballot, *n, limit)) && past.iter().all(|ballot| sound_ballot(ballot, *n, 0))
+    let entries = &log[..record.held()];
+    all_entries(entries, *n)
+        && record.present == weights_after(kept.present, entries)
+        && record.codes == codes_after(&kept.codes, entries)
+        && sound_ballots(record)
 }
