@@ -8,7 +8,7 @@ use second::record::{LOG, UNSOUND};
 use crate::breaks::clause_name;
 
 /// The calls, in the order of the tally.
-const CALLS: [&str; 16] = [
+const CALLS: [&str; 18] = [
     "found",
     "sound",
     "issue",
@@ -25,6 +25,8 @@ const CALLS: [&str; 16] = [
     "compare vector",
     "forecast",
     "fold",
+    "outcome",
+    "standing",
 ];
 const NUMBERS: usize = 18;
 /// How often each call answered each number, and what else was seen.
@@ -54,6 +56,14 @@ pub struct Tally {
     pub folded: u64,
     pub dropped_too: u64,
     pub with_dropped: u64,
+    /// Own entries that were pending: settled, pending still, lost; and outcomes with entries of two of these.
+    pub told: [u64; 3],
+    pub told_mixed: u64,
+    /// Outcomes refused for the record before alone.
+    pub untold_before: u64,
+    /// Rows of standings, and standings with two or more.
+    pub candidates: u64,
+    pub contested: u64,
 }
 
 impl Tally {
@@ -95,6 +105,14 @@ impl Tally {
         writeln!(output, "logs above {LOG} words {}", self.long_logs)?;
         writeln!(output, "records with dropped entries {}", self.with_dropped)?;
         writeln!(output, "folds that dropped entries {}, takes {}", self.folded, self.dropped_too)?;
+        let [settled, pending, lost] = self.told;
+        writeln!(
+            output,
+            "own entries told settled {settled}, pending {pending}, lost {lost}; outcomes with entries of two of these {}",
+            self.told_mixed
+        )?;
+        writeln!(output, "outcomes refused for the record before alone {}", self.untold_before)?;
+        writeln!(output, "rows of standings {}, standings with several {}", self.candidates, self.contested)?;
         writeln!(output, "records refused with {UNSOUND} for one broken clause:")?;
         for (&clause, count) in &self.clauses {
             writeln!(output, "  {}: {count}", clause_name(clause))?;

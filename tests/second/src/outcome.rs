@@ -34,12 +34,14 @@ pub fn outcome(before: &Record, after: &Record, log: &[u32], rest: &mut [u32]) -
     (DONE, told)
 }
 
-/// Whether the record may be one that the office had before: the same office of the same frame, its ballots within their
-/// limits as far as can be told without its log, and its settled length one that the log after it still reaches back to.
+/// Whether the record may be one that the office had before, as far as can be told without its log: the same office of the
+/// same frame, a settled length that the log after it still reaches back to, the undropped length and the ballots within
+/// their limits.
 fn leads_to(before: &Record, after: &Record) -> bool {
+    let held = before.settled.checked_sub(before.kept.dropped);
     (before.n, before.own, before.weights) == (after.n, after.own, after.weights)
-        && sound_ballots(before)
         && (after.kept.dropped..=after.settled).contains(&before.settled)
+        && held.and_then(|held| tail_limit(held, 0)).is_some_and(|limit| sound_ballots(before, limit))
 }
 
 /// How many entries of the tail the path begins with.

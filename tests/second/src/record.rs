@@ -302,11 +302,8 @@ fn sound_ballot(ballot: &Ballot, n: usize, limit: usize) -> bool {
         && ballot.cells[ballot.len..].iter().fold(0, |bits, &cell| bits | cell) == 0
 }
 
-/// Whether all ballots of a record of n offices, 1 to 8, are within the limits behind its settled length.
-pub(crate) fn sound_ballots(record: &Record) -> bool {
-    let Some(limit) = tail_limit(record.settled, record.kept.dropped) else {
-        return false;
-    };
+/// Whether the ballots of a record of n offices, 1 to 8, are tails of at most `limit` entries, and none from place n on.
+pub(crate) fn sound_ballots(record: &Record, limit: usize) -> bool {
     let (known, past) = record.ballots.split_at(record.n);
     known.iter().all(|ballot| sound_ballot(ballot, record.n, limit))
         && past.iter().all(|ballot| sound_ballot(ballot, record.n, 0))
@@ -318,12 +315,12 @@ pub fn sound(record: &Record, log: &[u32]) -> bool {
     if log.len() < LOG || !within_limits(*n, *own, weights) || !sound_kept(kept, *n, weights) || !sound_noted(record) {
         return false;
     }
-    if tail_limit(record.settled, kept.dropped).is_none() {
+    let Some(limit) = tail_limit(record.settled, kept.dropped) else {
         return false;
-    }
+    };
     let entries = &log[..record.held()];
     all_entries(entries, *n)
         && record.present == weights_after(kept.present, entries)
         && record.codes == codes_after(&kept.codes, entries)
-        && sound_ballots(record)
+        && sound_ballots(record, limit)
 }

@@ -288,7 +288,25 @@ fn what_is_not_looked_at() {
         Record { codes: [9; LINES as usize], ..before },
         Record { noted: [7; OFFICES], ..before },
         Record { kept: Kept { counts: [9; OFFICES], codes: [u32::MAX; 64], ..before.kept }, ..before },
+        Record { kept: Kept { dropped: 1, ..before.kept }, ..before },
     ] {
         assert_eq!(told(&other, &after), ([1, 0, 0], vec![]));
     }
+    refused("more dropped than settled", &Record { kept: Kept { dropped: 2, ..before.kept }, ..before }, &after);
+}
+
+#[test]
+fn more_than_1024_undropped_before() {
+    // The length before is within that after, but what it says was not dropped has no room in a log.
+    let kept = Kept { dropped: 2000, counts: [2000, 0, 0, 0, 0, 0, 0, 0], ..Kept::nothing([1, 0, 0, 0, 0, 0, 0, 0]) };
+    let after = alone(&[A, D], &[]).behind(kept);
+    let mut before = alone(&[], &[D]).record;
+    (before.settled, before.kept.dropped) = (2001, 978);
+    assert_eq!(told(&before, &after), ([1, 0, 0], vec![]));
+    before.kept.dropped = 977;
+    refused("a path of 1025", &before, &after);
+    before.ballots[0] = Ballot::NONE;
+    assert_eq!(told(&before, &after), ([0, 0, 0], vec![]));
+    before.kept.dropped = 976;
+    refused("1025 of them", &before, &after);
 }
