@@ -44,7 +44,7 @@ module _ (bs : List Ballot) (eight : length bs ≡ 8) (vs : List ℕ) (i : ℕ) 
   votes-done h = inv ∙ fill-end 0 (map cast bs) (replicate 8 0) (length-map bs cast ∙ eight ∙ sym (length-replicate {A = ℕ} 8 0)) i (omega (arith, length-replicate {A = ℕ} 8 0))
 
 -- what is left of zeros
-zeros-left : (i k : ℕ) → drop {A = ℕ} i (replicate k 0) ≡ replicate (k - i) 0
+pub zeros-left : (i k : ℕ) → drop {A = ℕ} i (replicate k 0) ≡ replicate (k - i) 0
 zeros-left zero k = let d : k ≡ k - 0 = omega arith in ap (λ (j : ℕ). replicate j 0) d
 zeros-left (suc i) zero = let d : 0 ≡ 0 - suc i = omega arith in ap (λ (j : ℕ). replicate j 0) d
 zeros-left (suc i) (suc k) = let d : k - i ≡ suc k - suc i = omega arith in zeros-left i k ∙ ap (λ (j : ℕ). replicate j 0) d

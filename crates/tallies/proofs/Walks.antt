@@ -28,7 +28,7 @@ use Rattle.tallies.specs.declared.Winner.the-variants.{Entry, Nobody}
 abbrev pub votesFrom : ℕ → List ℕ → Votes
 votesFrom i xs = votesIn (drop i xs)
 
-abbrev voteAt : ℕ → List ℕ → Option ℕ
+abbrev pub voteAt : ℕ → List ℕ → Option ℕ
 voteAt i xs = voteIn (getD xs i noVote)
 
 -- a place within the list gives the same whatever stands past the end
@@ -57,7 +57,7 @@ for-word x y h = go (eqb y noVote) refl
     go true e = let same = eqb-true y noVote e in rw e (sym (ne-eqb y x (λ (q : y ≡ x). h (sym q ∙ same))))
     go false e = rw e
 
-none-word : (y : ℕ) → isNone (voteIn y) ≡ eqb y noVote
+pub none-word : (y : ℕ) → isNone (voteIn y) ≡ eqb y noVote
 none-word y = go (eqb y noVote) refl
   where
     go : (t : Bool) → eqb y noVote ≡ t → isNone (voteIn y) ≡ eqb y noVote
@@ -89,7 +89,7 @@ module _ (x : ℕ) (xs ws : List ℕ) (i whole sum : ℕ) (inv : whole ≡ sum +
       nothing false = refl
 
 -- ── the supported entries from place i on ──
-supported-step : (xs ws : List ℕ) (i : ℕ) → i < length xs → i < length ws
+pub supported-step : (xs ws : List ℕ) (i : ℕ) → i < length xs → i < length ws
     → supported (drop i ws) (votesFrom i xs) ≡ and-also (voteAt i xs) (supported (drop (i + 1) ws) (votesFrom (i + 1) xs))
 unfolding supported
 supported-step xs ws i hx hw = from-step supported xs ws i hx hw

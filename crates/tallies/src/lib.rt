@@ -39,7 +39,7 @@ fn share(counts: bool, weight: u16) -> u32
 }
 
 // The weight of the offices that cast this vote: T of an entry, U of the vote that is none.
-fn weight_for(votes: [u32; 8], weights: [u16; 8], vote: u32) -> u32
+pub fn weight_for(votes: [u32; 8], weights: [u16; 8], vote: u32) -> u32
     ensures { λ r. ⌜ (r ≡ weightFor weights (votesIn votes) vote) × (r ≤ 524280) ⌝ }
 {
     let mut sum: u32 = 0;
