@@ -1,0 +1,16 @@
+use borrow.Author.Needs.{needs}
+use mathlib.Core.Path.{sym, ap}
+use native.Mathlib.Omega.{arith}
+use lib.ListN.{length}
+use Rattle.fates.proofs.Own.{one-own, one-other}
+use Rattle.fates.proofs.one_of.Statement.{statement}
+use Rattle.fates.proofs.one_of.Tie as tie
+
+returns : tie.Need-returns
+returns c = let a = c .before .args in (sym (ap length (one-own (a .office) (a .word) (c .if1 .taken))), omega arith)
+
+returns-2 : tie.Need-returns-2
+returns-2 c = let a = c .before .args in (sym (ap length (one-other (a .office) (a .word) (c .if1 .left))), omega arith)
+
+pub one-of-spec : {M : Type 1} → statement M
+one-of-spec = tie.close (tie.spec (λ c. search needs) returns returns-2)

@@ -1,0 +1,5 @@
+-- Laws that belong to no one function.
+pub mod Facts
+pub mod Answer
+pub mod Moved
+pub mod Claims
