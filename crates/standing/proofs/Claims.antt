@@ -219,6 +219,12 @@ one-vote-more r s words words' k e p q M =
     let d' = done s words' q in
     subst₂ (λ (a b : Standing). Adds a b k e (weightOf (r .summary .present) k)) (sym (d .1)) (sym (d' .1)) (added r words (d .0) s words' (d' .0) k e M)
 
+-- two records that keep the same of dropped entries and hold the same log have the same present weights
+pub same-log : (r s : Record) (words words' : List ℕ) → standingOf r words .number ≡ 0 → standingOf s words' .number ≡ 0
+    → r .kept ≡ s .kept → heldBy r words .log ≡ heldBy s words' .log → r .summary .present ≡ s .summary .present
+same-log r s words words' p q kept log =
+    follows r words (done r words p .0) ∙ (λ i. weightsAfter (kept i .summary .present) (log i)) ∙ sym (follows s words' (done s words' q .0))
+
 -- a ballot that is put where there was none
 pub ballot-heard : (r : Record) (words : List ℕ) (k e : ℕ) (b : Ballot) (t : List ℕ) → k < r .n → getD (r .ballots) k offEnd .len ≡ 0 → tailOf b ≡ e ∷ t
     → standingOf r words .number ≡ 0 → standingOf (withBallot r k b) words .number ≡ 0

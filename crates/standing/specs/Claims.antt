@@ -4,6 +4,8 @@
 --     one-vote-more    (r s : Record) (words words' : List ℕ) (k e : ℕ)
 --                          → standingOf r words .number ≡ 0 → standingOf s words' .number ≡ 0 → OneVoteMore r words s words' k e
 --                          → Adds (standingOf r words) (standingOf s words') k e (weightOf (r .summary .present) k)
+--     same-log         (r s : Record) (words words' : List ℕ) → standingOf r words .number ≡ 0 → standingOf s words' .number ≡ 0
+--                          → r .kept ≡ s .kept → heldBy r words .log ≡ heldBy s words' .log → r .summary .present ≡ s .summary .present
 --     ballot-heard     (r : Record) (words : List ℕ) (k e : ℕ) (b : Ballot) (t : List ℕ)
 --                          → k < r .n → getD (r .ballots) k offEnd .len ≡ 0 → tailOf b ≡ e ∷ t
 --                          → standingOf r words .number ≡ 0 → standingOf (withBallot r k b) words .number ≡ 0
@@ -63,8 +65,8 @@ pub record Decides (r : Record) (words : List ℕ) (s : Standing) : Type 0 where
   pub first : (e : ℕ) → leader (tieOrder r words) s ≡ some e → (1 ≤ electOf r words .count) × (getD (electWords r words) (heldLength r) 0 ≡ e)
 
 -- ── "at the same settled log, a vote of an office that had none adds its present weight to one row, or makes one, and takes it from U" ──
--- two records of n offices at one settled log, so with the same present weights; office k has no ballot in the first and one for e in the second,
--- and every other office votes alike
+-- two records of n offices at one settled log, so with the same present weights (law `same-log`); office k has no ballot in the first and one
+-- for e in the second, and every other office votes alike
 pub record OneVoteMore (r : Record) (words : List ℕ) (s : Record) (words' : List ℕ) (k e : ℕ) : Type 0 where
   pub offices : r .n ≡ s .n
   pub weights : r .summary .present ≡ s .summary .present
