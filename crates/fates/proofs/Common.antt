@@ -11,12 +11,12 @@ use mathlib.Core.Logic.{_↔_}
 use Prim.Native.Nat.{ℕ, zero, suc, _+_, _<_, _≤_, min}
 use native.Mathlib.Omega.{arith}
 use lib.Dec.{eqb}
-use lib.ListN.{length, getD, take, drop, drop-of-length-le}
+use lib.ListN.{length, getD, take, drop}
 use borrow.Author.Tests.{eqb-true, eq-eqb, ne-eqb}
 use Rattle.lists.proofs.Tests.{if-cases}
 use Rattle.lists.proofs.Walk.{rest-step}
 use Rattle.protocol.specs.Beginning.{_⊑_}
-use Rattle.protocol.proofs.Beginning.{⊑-trans, ⊑-append}
+use Rattle.protocol.proofs.Beginning.{⊑-trans}
 use Rattle.fates.specs.Fates.{common}
 
 pub common-left : (a b : List ℕ) → common a b ⊑ a

@@ -4,3 +4,4 @@ pub mod Own
 pub mod Telling
 pub mod Parts
 pub mod Held
+pub mod Cases

@@ -9,7 +9,7 @@
 use mathlib.Core.Path.{_≡_, refl, sym, ap, subst, _∙_}
 use mathlib.Core.List.{List, [], _∷_, _++_, append-assoc, append-cancel-left}
 use mathlib.Core.Bool.{Bool, true, false, cond}
-use mathlib.Core.Logic.{_⊎_, inl, inr, _↔_}
+use mathlib.Core.Logic.{_⊎_, inl, inr}
 use Prim.Native.Nat.{ℕ, zero, suc}
 use native.Mathlib.Omega.{arith}
 use lib.ListN.{length, drop, length-append}
@@ -166,6 +166,7 @@ module _ (k : ℕ) (o o' : Office) where
 -- an office that is as it was: all is pending
 pub unchanged : (k : ℕ) (o : Office) → (settledOf k o o ≡ []) × (lostOf k o o ≡ [])
 unchanged k o =
-    let t : List ℕ = tail o k in
-    (ap (common t) (drop-length (o .log)) ∙ common-none t,
-    ap (λ (p : List ℕ). drop (length (common t p)) t) (drop-append-seam (o .log) t) ∙ ap (λ (c : List ℕ). drop (length c) t) (common-same t) ∙ drop-length t)
+    let t : List ℕ = tail o k in (
+      ap (common t) (drop-length (o .log)) ∙ common-none t,
+      ap (λ (p : List ℕ). drop (length (common t p)) t) (drop-append-seam (o .log) t) ∙ ap (λ (c : List ℕ). drop (length c) t) (common-same t) ∙ drop-length t,
+    )

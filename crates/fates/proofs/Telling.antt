@@ -3,7 +3,6 @@
 --     tell-short, tell-room, tell-done    refused with 6, or done
 -- Assumes nothing.
 use mathlib.Core.Path.{_≡_, refl, sym, ap, _∙_}
-use mathlib.Core.Bool.{true, false}
 use mathlib.Core.List.{List, _++_, append-assoc, append-cancel-left}
 use Prim.Native.Nat.{ℕ, _+_, _-_, _<_, _≤_}
 use native.Mathlib.Nat.{zero-add}
@@ -15,7 +14,7 @@ use Rattle.lists.specs.Tests.{pick}
 use Rattle.lists.proofs.Walk.{take-from, rest-part}
 use Rattle.protocol.specs.Beginning.{_⊑_}
 use Rattle.protocol.proofs.Beginning.{⊑-rest}
-use Rattle.fates.specs.Fates.{common, settledPart, keptPart, pendingPart, lostPart, entriesOf}
+use Rattle.fates.specs.Fates.{settledPart, keptPart, pendingPart, lostPart, entriesOf}
 use Rattle.fates.specs.Told.{restOf, hasRoom, toldDone, toldRefused, toldOf, toldWords}
 use Rattle.fates.specs.declared.Told.{Told}
 use Rattle.fates.proofs.Common.{common-left, common-grows, common-take}

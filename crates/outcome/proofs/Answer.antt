@@ -4,7 +4,7 @@
 --     was-fine, is-fine                the own ballots of both records are within their limits
 --     begins, fits                     the place of the tail in the log that is held
 -- Assumes nothing.
-use mathlib.Core.Path.{_≡_, refl, sym, ap, ap₂, subst, _∙_}
+use mathlib.Core.Path.{_≡_, sym, ap, _∙_}
 use mathlib.Core.Bool.{true, false}
 use mathlib.Core.List.{List, _++_}
 use Prim.Native.Nat.{ℕ, _-_, _<_, _≤_}
@@ -12,10 +12,10 @@ use native.Mathlib.Omega.{arith}
 use lib.ListN.{length, getD, take, drop, length-map}
 use lib.Seq.{drop-append-le}
 use borrow.Author.Tests.{eqb-true}
-use Rattle.lists.specs.Tests.{both, pick, allB}
+use Rattle.lists.specs.Tests.{pick}
 use Rattle.lists.proofs.Tests.{both-0, both-1, both-true, both-false-0, both-false-1, all-at}
 use Rattle.lists.proofs.Walk.{take-from}
-use Rattle.protocol.specs.Office.{path, tail}
+use Rattle.protocol.specs.Office.{tail}
 use Rattle.protocol.specs.Limits.{tailsFine}
 use Rattle.ballots.specs.Ballots.{tailOf, ballotFine, ballotsFine, offEnd}
 use Rattle.ballots.proofs.Laws as B

@@ -3,37 +3,33 @@
 --     after-call                      of every sound record and what a take, elect or fold left of it
 --     fold-loses-nothing
 -- Assumes nothing.
-use mathlib.Core.Path.{_≡_, refl, sym, ap, ap₂, subst, subst₂, _∙_}
+use mathlib.Core.Path.{_≡_, refl, sym, ap, ap₂, subst, _∙_}
 use mathlib.Core.Bool.{Bool, true, false, true≢false}
-use mathlib.Core.List.{List, [], _∷_, _++_, append-assoc}
+use mathlib.Core.List.{List, [], _++_, append-assoc}
 use mathlib.Core.Logic.{_⊎_, inl, inr, _↔_}
 use Prim.Native.Nat.{ℕ, _+_, _-_, _<_, _≤_}
 use native.Mathlib.Omega.{arith}
 use lib.Dec.{leb}
 use lib.ListN.{length, take, drop, length-append, length-drop, take-append-drop}
 use lib.Seq.{length-take-le}
-use borrow.Author.Tests.{leb-true, leb-false, le-leb}
+use borrow.Author.Tests.{leb-true, leb-false}
 use Rattle.lists.specs.Tests.{pick}
 use Rattle.lists.proofs.Tests.{both-true}
 use Rattle.protocol.specs.Entry.{officeOf}
 use Rattle.protocol.specs.Beginning.{_⊑_}
 use Rattle.protocol.specs.Office.{Office, tail, path}
-use Rattle.protocol.specs.Folding as F
 use Rattle.protocol.specs.Folding.{shorn}
 use Rattle.protocol.proofs.Beginning.{⊑-append, ⊑-rest, ⊑-length}
-use Rattle.ballots.specs.Ballots.{ballotsFine, tailOf}
-use Rattle.ballots.proofs.Laws as B
 use Rattle.ballots.proofs.Eight.{places-fine}
-use Rattle.fates.specs.Fates.{settledPart, keptPart, pendingPart, lostPart, settledOf, pendingOf, lostOf, entriesOf, Loses, Stands}
+use Rattle.fates.specs.Fates.{settledPart, keptPart, pendingPart, lostPart, settledOf, pendingOf, lostOf, entriesOf, Stands}
 use Rattle.fates.specs.Told.{restOf, hasRoom, toldDone, toldRefused, toldOf, toldWords}
-use Rattle.fates.specs.declared.Told.{Told}
-use Rattle.fates.proofs.Common.{common-left, common-right, common-grows}
+use Rattle.fates.proofs.Common.{common-right, common-grows}
 use Rattle.fates.proofs.Own.{entries-few}
 use Rattle.fates.proofs.Telling as T
 use Rattle.fates.proofs.Parts as P
 use Rattle.fates.proofs.Held.{lost-held}
 use Rattle.frame.specs.State.{heldLength, heldBy, foldedBy, ownBallot, goes}
-use Rattle.frame.specs.Soundness.{soundB, Sound}
+use Rattle.frame.specs.Soundness.{soundB}
 use Rattle.frame.specs.Folding.{foldOf, foldWords}
 use Rattle.frame.specs.declared.Record.{Record}
 use Rattle.frame.proofs.State.{log-length, tail-at, own-fine}
@@ -42,7 +38,7 @@ use Rattle.outcome.specs.Outcome.{tailBefore, placeIn, logSince, pathSin
 use Rattle.outcome.specs.Claims.{ThreeParts, Refusals, Called, wholeOf, formerAfter, LostAt, AfterCall}
 use Rattle.outcome.specs.declared.Outcome.{Outcome}
 use Rattle.outcome.proofs.Facts.{Follows}
-use Rattle.outcome.proofs.Answer.{report-refused, report-unsound, can-report}
+use Rattle.outcome.proofs.Answer.{report-unsound, can-report}
 use Rattle.outcome.proofs.Moved.{Moved, moved, fold-same}
 
 -- ── of any two records ──
@@ -285,6 +281,7 @@ fold-loses-nothing r words rest = go (soundB r words) refl
         let M = fold-same r words e .0 in
         let s = fold-same r words e .1 in
         let k = shorn (M .gone) (heldBy r words) in
-        let u = P.unchanged (r .own) k in
-        (none-settled r r' words' rest (sym (settled-is r words r' words' M) ∙ ap (settledOf (r .own) k) s ∙ u .0),
-        none-lost r r' words' rest (sym (lost-is r words r' words' M) ∙ ap (lostOf (r .own) k) s ∙ u .1))
+        let u = P.unchanged (r .own) k in (
+          none-settled r r' words' rest (sym (settled-is r words r' words' M) ∙ ap (settledOf (r .own) k) s ∙ u .0),
+          none-lost r r' words' rest (sym (lost-is r words r' words' M) ∙ ap (lostOf (r .own) k) s ∙ u .1),
+        )

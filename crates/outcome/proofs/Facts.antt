@@ -4,12 +4,10 @@
 -- Assumes nothing.
 use mathlib.Core.Path.{_≡_, refl, sym, ap, _∙_}
 use mathlib.Core.Bool.{Bool, true, false, true≢false}
-use mathlib.Core.List.{List}
-use Prim.Native.Nat.{ℕ, _≤_}
+use Prim.Native.Nat.{_≤_}
 use lib.Dec.{eqb, leb}
-use lib.ListN.{length, getD}
 use borrow.Author.Tests.{eqb-true, eq-eqb, leb-true, le-leb}
-use Rattle.lists.specs.Tests.{both, same, allB}
+use Rattle.lists.specs.Tests.{both, same}
 use Rattle.lists.proofs.Tests.{both-0, both-1, both-true}
 use Rattle.lists.proofs.Same.{same-true, same-refl}
 use Rattle.ballots.specs.Ballots.{ballotsFine}
@@ -28,60 +26,36 @@ pub record Follows (before after : Record) : Type 0 where
   pub fine : ballotsFine (before .n) (heldLength before) (before .ballots) ≡ true
 
 module _ (before after : Record) where
-  abbrev a : Bool
-  a = eqb (before .n) (after .n)
-
-  abbrev b : Bool
-  b = eqb (before .own) (after .own)
-
-  abbrev c : Bool
-  c = same (before .weights) (after .weights)
-
-  abbrev d : Bool
-  d = leb (before .settled) (after .settled)
-
-  abbrev e : Bool
-  e = leb (after .kept .dropped) (before .settled)
-
-  abbrev f : Bool
-  f = leb (before .kept .dropped) (before .settled)
-
-  abbrev g : Bool
-  g = leb (heldLength before) 1024
-
-  abbrev h : Bool
-  h = ballotsFine (before .n) (heldLength before) (before .ballots)
-
   pub followed : follows before after ≡ true → Follows before after
   unfolding follows
   followed t =
-      let t1 = both-1 a (both b (both c (both d (both e (both f (both g h)))))) t in
-      let t2 = both-1 b (both c (both d (both e (both f (both g h))))) t1 in
-      let t3 = both-1 c (both d (both e (both f (both g h)))) t2 in
-      let t4 = both-1 d (both e (both f (both g h))) t3 in
-      let t5 = both-1 e (both f (both g h)) t4 in
-      let t6 = both-1 f (both g h) t5 in
+      let t1 = both-1 _ _ t in
+      let t2 = both-1 _ _ t1 in
+      let t3 = both-1 _ _ t2 in
+      let t4 = both-1 _ _ t3 in
+      let t5 = both-1 _ _ t4 in
+      let t6 = both-1 _ _ t5 in
       record {
-        offices = eqb-true _ _ (both-0 a _ t);
-        own = eqb-true _ _ (both-0 b _ t1);
-        weights = same-true _ _ (both-0 c _ t2);
-        longer = leb-true _ _ (both-0 d _ t3);
-        was-settled = leb-true _ _ (both-0 e _ t4);
-        within = leb-true _ _ (both-0 f _ t5);
-        most = leb-true _ _ (both-0 g _ t6);
-        fine = both-1 g h t6;
+        offices = eqb-true _ _ (both-0 _ _ t);
+        own = eqb-true _ _ (both-0 _ _ t1);
+        weights = same-true _ _ (both-0 _ _ t2);
+        longer = leb-true _ _ (both-0 _ _ t3);
+        was-settled = leb-true _ _ (both-0 _ _ t4);
+        within = leb-true _ _ (both-0 _ _ t5);
+        most = leb-true _ _ (both-0 _ _ t6);
+        fine = both-1 _ _ t6;
       }
 
   pub follows-true : Follows before after → follows before after ≡ true
   unfolding follows
   follows-true F =
-      both-true a _ (eq-eqb _ _ (F .offices))
-      (both-true b _ (eq-eqb _ _ (F .own))
-      (both-true c _ (ap (same (before .weights)) (sym (F .weights)) ∙ same-refl (before .weights))
-      (both-true d _ (le-leb _ _ (F .longer))
-      (both-true e _ (le-leb _ _ (F .was-settled))
-      (both-true f _ (le-leb _ _ (F .within))
-      (both-true g _ (le-leb _ _ (F .most)) (F .fine)))))))
+      both-true _ _ (eq-eqb (before .n) (after .n) (F .offices))
+      (both-true _ _ (eq-eqb (before .own) (after .own) (F .own))
+      (both-true _ _ (ap (same (before .weights)) (sym (F .weights)) ∙ same-refl (before .weights))
+      (both-true _ _ (le-leb (before .settled) (after .settled) (F .longer))
+      (both-true _ _ (le-leb (after .kept .dropped) (before .settled) (F .was-settled))
+      (both-true _ _ (le-leb (before .kept .dropped) (before .settled) (F .within))
+      (both-true _ _ (le-leb (heldLength before) 1024 (F .most)) (F .fine)))))))
 
   pub follows-not : (Follows before after → ⊥) → false ≡ follows before after
   follows-not n = go (follows before after) refl
@@ -94,10 +68,10 @@ module _ (before after : Record) where
   follows-other q = follows-not (λ F. true≢false (sym (ap (same (before .weights)) (sym (F .weights)) ∙ same-refl (before .weights)) ∙ q))
 
   -- where the facts hold but for the last, it decides
-  pub follows-last : (t : Bool) → t ≡ h → before .n ≡ after .n → before .own ≡ after .own → before .weights ≡ after .weights → before .settled ≤ after .settled
+  pub follows-last : (t : Bool) → t ≡ ballotsFine (before .n) (heldLength before) (before .ballots) → before .n ≡ after .n → before .own ≡ after .own → before .weights ≡ after .weights → before .settled ≤ after .settled
       → after .kept .dropped ≤ before .settled → before .kept .dropped ≤ before .settled → heldLength before ≤ 1024 → t ≡ follows before after
   follows-last t q p1 p2 p3 p4 p5 p6 p7 = go t q
     where
-      go : (t : Bool) → t ≡ h → t ≡ follows before after
+      go : (t : Bool) → t ≡ ballotsFine (before .n) (heldLength before) (before .ballots) → t ≡ follows before after
       go true q = sym (follows-true (record { offices = p1; own = p2; weights = p3; longer = p4; was-settled = p5; within = p6; most = p7; fine = sym q }))
       go false q = follows-not (λ F. absurd (true≢false (sym (F .fine) ∙ sym q)))

@@ -6,22 +6,18 @@
 use mathlib.Core.Path.{_≡_, refl, sym, ap, ap₂, subst, subst₂, _∙_}
 use mathlib.Core.Bool.{Bool, true, false}
 use mathlib.Core.List.{List}
-use mathlib.Core.Option.{some}
 use Prim.Native.Nat.{ℕ, _+_, _-_, _≤_}
 use native.Mathlib.Nat.{add-zero}
 use native.Mathlib.Omega.{arith}
 use lib.Dec.{eqb}
-use lib.ListN.{length}
 use borrow.Author.Tests.{eqb-true, eqb-false}
-use Rattle.protocol.specs.Office.{Office, path}
-use Rattle.protocol.specs.Take.{withTake}
-use Rattle.protocol.specs.Elect.{withElect}
+use Rattle.protocol.specs.Office.{path}
 use Rattle.protocol.specs.Folding as F
-use Rattle.protocol.specs.Folding.{shorn, caughtUp, fromThere, foldCount, withFold, withFoldedTake, withFoldedElect}
+use Rattle.protocol.specs.Folding.{shorn, caughtUp, fromThere, withFold, withFoldedTake, withFoldedElect}
 use Rattle.protocol.proofs.Office.{OfficeMoves, moves-refl, take-moves, elect-moves}
 use Rattle.protocol.proofs.Folding.{take-found}
 use Rattle.protocol.proofs.FoldedLimits.{folded-take-fine}
-use Rattle.spelling.specs.Content.{Content, asPacket}
+use Rattle.spelling.specs.Content.{asPacket}
 use Rattle.ballots.specs.Ballots.{wordsWith}
 use Rattle.frame.specs.State.{heldLength, heldBy, foldedBy, holding}
 use Rattle.frame.specs.Soundness.{soundB, Sound}
@@ -30,7 +26,7 @@ use Rattle.frame.specs.Electing.{ruleOf, electedOf, electOf, electWords}
 use Rattle.frame.specs.Folding.{shortenedOf, foldOf, foldWords}
 use Rattle.frame.specs.declared.Record.{Record}
 use Rattle.frame.proofs.Sound.{sound}
-use Rattle.frame.proofs.State.{log-length, whole-length, folded-fine, folded-by, sound-of}
+use Rattle.frame.proofs.State.{whole-length, folded-fine, folded-by, sound-of}
 use Rattle.frame.proofs.Take.{Accepted, accepted, packet-fine, taken-office, take-done-is}
 use Rattle.frame.proofs.Accept.{take-keeps}
 use Rattle.frame.proofs.Elect.{elect-zero, elect-done, elect-sound, elect-state}

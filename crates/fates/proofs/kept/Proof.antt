@@ -1,10 +1,10 @@
 -- Where the log's words end within the tail, what is behind them is compared with the tail behind the log; else the log decides.
 use borrow.Author.Needs.{needs}
-use mathlib.Core.Path.{_≡_, refl, sym, ap, _∙_}
+use mathlib.Core.Path.{refl, sym, ap, _∙_}
 use mathlib.Core.List.{List}
-use Prim.Native.Nat.{ℕ, _+_, _-_}
+use Prim.Native.Nat.{ℕ}
 use native.Mathlib.Omega.{arith}
-use lib.ListN.{length, drop, length-drop}
+use lib.ListN.{length, length-drop}
 use Rattle.lists.proofs.Walk.{rest-part}
 use Rattle.fates.specs.Fates.{common}
 use Rattle.fates.proofs.Common.{common-short, kept-more}

@@ -1,11 +1,8 @@
 use borrow.Author.Needs.{needs}
-use mathlib.Core.Path.{_≡_, sym, ap, _∙_}
-use mathlib.Core.List.{List, [], _∷_}
-use Prim.Native.Nat.{ℕ, _+_}
+use mathlib.Core.Path.{sym, ap, _∙_}
 use native.Mathlib.Omega.{arith}
-use lib.ListN.{length, set}
+use lib.ListN.{length}
 use lib.Seq.{sets}
-use Rattle.fates.specs.Fates.{entriesOf}
 use Rattle.fates.proofs.Own.{one-none, one-whole}
 use Rattle.fates.proofs.put.Statement.{statement}
 use Rattle.fates.proofs.put.Tie as tie

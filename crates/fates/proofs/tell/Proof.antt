@@ -1,10 +1,7 @@
 -- The tail is cut at the two lengths that are walked for; what is counted and written are the office's entries of the parts.
 use borrow.Author.Needs.{needs}
-use mathlib.Core.Path.{_≡_, sym}
-use mathlib.Core.List.{List, _++_}
-use Prim.Native.Nat.{ℕ}
-use native.Mathlib.Omega.{arith}
-use lib.ListN.{length, take}
+use mathlib.Core.Path.{sym}
+use mathlib.Core.List.{_++_}
 use lib.Seq.{length-take-le}
 use Rattle.protocol.proofs.Beginning.{⊑-append}
 use Rattle.fates.proofs.Telling.{Cut, tell-short, tell-room, tell-done}

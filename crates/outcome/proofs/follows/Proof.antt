@@ -1,13 +1,10 @@
 -- Each test of the definition in its turn; the last one decides.
 use borrow.Author.Needs.{needs}
-use mathlib.Core.Path.{_≡_, sym, ap, _∙_}
-use mathlib.Core.Bool.{true≢false}
+use mathlib.Core.Path.{sym, _∙_}
 use native.Mathlib.Omega.{arith}
 use borrow.Author.Tests.{not-true, not-false}
-use Rattle.lists.specs.Tests.{same}
-use Rattle.lists.proofs.Same.{same-true, same-refl}
-use Rattle.frame.specs.declared.Record.{Record}
-use Rattle.outcome.proofs.Facts.{Follows, follows-not, follows-other, follows-last}
+use Rattle.lists.proofs.Same.{same-true}
+use Rattle.outcome.proofs.Facts.{follows-not, follows-other, follows-last}
 use Rattle.outcome.proofs.follows.Statement.{statement}
 use Rattle.outcome.proofs.follows.Tie as tie
 

@@ -1,14 +1,12 @@
 -- Soundness, then whether the one record could follow the other; then the own tail before is compared with the log and the own tail after.
 use borrow.Author.Needs.{needs}
-use mathlib.Core.Path.{_≡_, sym, _∙_}
-use mathlib.Core.List.{List}
-use Prim.Native.Nat.{ℕ, _-_, _<_, _≤_}
+use mathlib.Core.Path.{sym, _∙_}
+use Prim.Native.Nat.{_-_, _<_, _≤_}
 use lib.ListN.{length}
 use native.Mathlib.Omega.{arith}
 use lib.Seq.{length-take-le}
 use borrow.Author.Tests.{not-true, not-false}
 use Rattle.frame.specs.Soundness.{Sound}
-use Rattle.frame.specs.declared.Record.{Record}
 use Rattle.frame.proofs.Sound.{sound}
 use Rattle.outcome.proofs.Facts.{Follows, followed}
 use Rattle.outcome.proofs.Answer.{report-unsound, report-stray, report-made, member, was-fine, is-fine, begins, fits}
