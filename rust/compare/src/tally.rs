@@ -87,6 +87,17 @@ impl Tally {
                 numbers.iter().map(|&count| if count == 0 { String::new() } else { count.to_string() }).collect();
             writeln!(output, "| {call} | {} |", cells.join(" | "))?;
         }
+        self.print_seen(output)?;
+        self.print_told(output)?;
+        writeln!(output, "records refused with {UNSOUND} for one broken clause:")?;
+        for (&clause, count) in &self.clauses {
+            writeln!(output, "  {}: {count}", clause_name(clause))?;
+        }
+        Ok(())
+    }
+
+    /// Prints what was seen beside the numbers.
+    fn print_seen(&self, output: &mut impl Write) -> io::Result<()> {
         writeln!(output, "\nmoves of weight issued {}", self.issued_moves)?;
         writeln!(output, "elections of one entry {}, of more {}", self.elected_one, self.elected_more)?;
         writeln!(output, "takes that grew the log {}, that changed a ballot {}", self.grown, self.adopted)?;
@@ -104,7 +115,11 @@ impl Tally {
         writeln!(output, "elections that changed a code {}, takes {}", self.elected_code, self.taken_code)?;
         writeln!(output, "logs above {LOG} words {}", self.long_logs)?;
         writeln!(output, "records with dropped entries {}", self.with_dropped)?;
-        writeln!(output, "folds that dropped entries {}, takes {}", self.folded, self.dropped_too)?;
+        writeln!(output, "folds that dropped entries {}, takes {}", self.folded, self.dropped_too)
+    }
+
+    /// Prints what supervisors would have been told.
+    fn print_told(&self, output: &mut impl Write) -> io::Result<()> {
         let [settled, pending, lost] = self.told;
         writeln!(
             output,
@@ -112,11 +127,6 @@ impl Tally {
             self.told_mixed
         )?;
         writeln!(output, "outcomes refused for the record before alone {}", self.untold_before)?;
-        writeln!(output, "rows of standings {}, standings with several {}", self.candidates, self.contested)?;
-        writeln!(output, "records refused with {UNSOUND} for one broken clause:")?;
-        for (&clause, count) in &self.clauses {
-            writeln!(output, "  {}: {count}", clause_name(clause))?;
-        }
-        Ok(())
+        writeln!(output, "rows of standings {}, standings with several {}", self.candidates, self.contested)
     }
 }

@@ -9,9 +9,10 @@ use crate::Entry;
 ///
 /// Each own entry that was pending before the call is settled, pending still, or **lost**: a place of the settled log takes
 /// one entry, of whatever line, and when another office's wins the place of an edit or of an earlier one, the edit and
-/// those behind it are lost. No office will ever settle a lost entry at its place (proved). What a supervisor still wants
-/// is issued again ([`Office::issue`](crate::Office::issue)): a new entry, which settles once or is lost in its turn. After
-/// one call nothing is pending where something is lost (proved).
+/// those behind it are lost. No office will ever settle a lost entry at its place (proved, where a service does what
+/// [`Office`](crate::Office) asks of it). What a supervisor still wants is issued again
+/// ([`Office::issue`](crate::Office::issue)): a new entry, which settles once or is lost in its turn. After one call nothing
+/// is pending where something is lost (proved).
 ///
 /// ```
 /// use joukerpan::{Entry, Office, Refused};
