@@ -16,7 +16,8 @@
  * alters. So a service stores both durably before anything of them is sent or shown; never restores an
  * older state, nor founds a number again; never runs two copies of an office number; and hands take what
  * an office of the same frame sent, late, twice or never. docs/EMBEDDING.md shows the harm where this is
- * not kept, what to do after a disk is lost, and that an edit can lose with no call refused.
+ * not kept, what to do after a disk is lost, and that an edit can lose with no call refused: ask
+ * joukerpan_outcome after each take, elect and fold.
  *
  * Link with target/staticlib/libembed.a (x86-64 Linux), which `rt staticlib embed` writes.
  */
@@ -212,6 +213,22 @@ typedef struct {
     uint32_t entry;  /* that entry; 0 where none is named */
 } joukerpan_foreseen;
 
+typedef struct {
+    uint32_t number;
+    size_t settled;  /* own entries that were pending and are settled; 0 where refused, as the two below */
+    size_t pending;  /* those that are pending still */
+    size_t lost;     /* those that are lost for good */
+} joukerpan_told;
+
+typedef struct {
+    uint32_t number;
+    size_t rows;                          /* supported entries there are; 0 where refused */
+    uint32_t unheard;                     /* U: the present weight of the offices whose vote is missing */
+    uint32_t entries[JOUKERPAN_OFFICES];  /* the supported entries, each once; zero from place rows on */
+    uint32_t tallies[JOUKERPAN_OFFICES];  /* T of each: the present weight of the offices that vote for it */
+    uint32_t silent[JOUKERPAN_OFFICES];   /* of each office: 1 if its vote is missing, else 0 */
+} joukerpan_tallied;
+
 /*
  * A fresh record: an empty log, no ballots, present weights as founded, no edit of any line, nothing dropped,
  * no office heard of.
@@ -313,6 +330,29 @@ joukerpan_taken joukerpan_take(joukerpan_record record, uint32_t *log, size_t lo
                                const uint8_t *message, size_t message_len);
 
 /*
+ * What became of the own edits, and moves of weight, that were pending: `before` is the record that a take, an
+ * elect or a fold was handed, `after` the one that it answered, with the log as it is then. Each own entry of the
+ * own tail of `before` is one of three: settled, where the settled log has it at its place with all before it;
+ * pending, where the own path has; lost, where neither has, and then no office will ever settle that issue of
+ * it. Issued again it is a new entry, at a later place. Entries that the office adopted from others are not told.
+ * Those that are not settled are written to `rest` in their order, pending ones in front of lost ones; later
+ * words keep their contents. JOUKERPAN_TAIL words always do. After one call no entry is pending where one is
+ * lost. Several calls may lie between the two records, if no entry past the settled length of `before` was
+ * dropped since. Refused: 1 (`after` with its log unsound; another frame's or office's record before; its ballots
+ * outside their limits; settled lengths that do not follow each other), 6.
+ */
+joukerpan_told joukerpan_outcome(joukerpan_record before, joukerpan_record after,
+                                 const uint32_t *log, size_t log_len, uint32_t *rest, size_t rest_len);
+
+/*
+ * How the next place of the settled log stands: the entries that ballots vote for, each once, in the order of the
+ * lowest office that does, with the present weight behind each (T); the weight of the offices whose vote is
+ * missing (U), and which these are. T and U add up to the total. Elect settles first the entry with T above U and
+ * above every other T + U; where its T is just another T + U, a tie, see elect. Refused: 1.
+ */
+joukerpan_tallied joukerpan_standing(joukerpan_record record, const uint32_t *log, size_t log_len);
+
+/*
  * The household sheet: the weights of the households pooled under the settled codes of their lines, a row
  * for each code met, codes rising. Households under lines that no one has coded, if there are any, are the
  * first row, apart from code 0. The bytes are household records, JOUKERPAN_HOUSEHOLD bytes each, and nothing
@@ -392,6 +432,12 @@ JOUKERPAN_ASSERT(sizeof(joukerpan_foreseen) == 12 && offsetof(joukerpan_foreseen
                  offsetof(joukerpan_foreseen, entry) == 8, "joukerpan_foreseen");
 JOUKERPAN_ASSERT(sizeof(joukerpan_written) == 16 && offsetof(joukerpan_written, length) == 8, "joukerpan_written");
 JOUKERPAN_ASSERT(sizeof(joukerpan_compared) == 40 && offsetof(joukerpan_compared, answers) == 4, "joukerpan_compared");
+JOUKERPAN_ASSERT(sizeof(joukerpan_told) == 32 && offsetof(joukerpan_told, settled) == 8 &&
+                 offsetof(joukerpan_told, pending) == 16 && offsetof(joukerpan_told, lost) == 24, "joukerpan_told");
+JOUKERPAN_ASSERT(sizeof(joukerpan_tallied) == 120 && offsetof(joukerpan_tallied, rows) == 8 &&
+                 offsetof(joukerpan_tallied, unheard) == 16 && offsetof(joukerpan_tallied, entries) == 20 &&
+                 offsetof(joukerpan_tallied, tallies) == 52 &&
+                 offsetof(joukerpan_tallied, silent) == 84, "joukerpan_tallied");
 
 #undef JOUKERPAN_ASSERT
 

@@ -1,6 +1,6 @@
 /*
  * The engine through its C calls: the paper's rehearsal, some lettered cases, moves of weight, the frame whole, each
- * refusal once, the parts of a tail, logs compared from their ends; further calls in further.c.
+ * refusal once, the parts of a tail, logs compared from their ends; further calls in further.c and told.c.
  */
 #include "offices.h"
 
@@ -362,6 +362,7 @@ int main(void) {
     message_refusals();
     longest_message();
     further_calls();
+    told_calls();
     printf("embed: %d answers as expected\n", checks);
     return 0;
 }

@@ -110,4 +110,7 @@ static inline size_t send(const office *of, uint8_t *output, size_t length) {
 /* The calls beside document 01's: in further.c. */
 void further_calls(void);
 
+/* What a supervisor is told: in told.c. */
+void told_calls(void);
+
 #endif

@@ -14,6 +14,8 @@ ghost use Rattle.earlier.specs.Earlier.{earlierOf};
 ghost use Rattle.archive.specs.Writing.{writeOf, writeBytes};
 ghost use Rattle.archive.specs.Comparison.{compareOf};
 ghost use Rattle.forecast.specs.Forecast.{forecastOf};
+ghost use Rattle.outcome.specs.Outcome.{reportOf, reportWords};
+ghost use Rattle.standing.specs.Standing.{standingOf};
 ghost use Rattle.embed.specs.Part.{partOf};
 ghost use Rattle.embed.specs.Framed.{across};
 ghost use Rattle.embed.specs.Foreseen.{foreseenOf};
@@ -29,7 +31,9 @@ use frame::founding::Founded;
 use frame::issuing::Issued;
 use frame::sending::Sent;
 use frame::taking::Taken;
+use outcome::Outcome;
 use sheet::Sheet;
+use standing::Standing;
 use tallies::Winner;
 
 // Eight weights. An array by itself cannot cross to C; a struct that holds one can.
@@ -179,6 +183,27 @@ pub extern "C" fn joukerpan_take(office: Record, log: &mut [u32], message: &[u8]
     ensures { λ r. ⌜ (r ≡ takeOf office (now (log .entry)) (now (message .entry))) × (now (log .exit) ≡ takeWords office (now (log .entry)) (now (message .entry))) ⌝ }
 {
     office.take(log, message)
+}
+
+// What became of the own entries that were pending before a take, elect or fold; those that are not settled are written to the front of `rest`.
+#[no_mangle]
+pub extern "C" fn joukerpan_outcome(
+    before: Record,
+    after: Record,
+    log: &[u32],
+    rest: &mut [u32],
+) -> Outcome
+    ensures { λ r. ⌜ (r ≡ reportOf before after (now (log .entry)) (now (rest .entry))) × (now (rest .exit) ≡ reportWords before after (now (log .entry)) (now (rest .entry))) ⌝ }
+{
+    outcome::report(before, after, log, rest)
+}
+
+// How the next place stands: for each supported entry its T, and U, and which offices are unheard.
+#[no_mangle]
+pub extern "C" fn joukerpan_standing(office: Record, log: &[u32]) -> Standing
+    ensures { λ r. ⌜ r ≡ standingOf office (now (log .entry)) ⌝ }
+{
+    standing::next_place(office, log)
 }
 
 // The household sheet: class totals of the households that the bytes say, by the settled codes.

@@ -3,10 +3,12 @@
 
 use std::slice::{from_raw_parts, from_raw_parts_mut};
 
-use joukerpan_sys::Weights;
+use joukerpan_sys::{Tallied, Told, Weights};
 use second::archive::PATHS;
 use second::calls as plain;
+use second::outcome::Outcome;
 use second::record::{stored, Codes, Record};
+use second::standing::Standing;
 
 /// An answer that holds a record; the record comes first, as in the engine's.
 #[repr(C)]
@@ -155,4 +157,25 @@ pub unsafe extern "C" fn forecast(
 ) -> u64 {
     let (_, named) = second::forecast::forecast(&record, from_raw_parts(log, words), lowest.of, highest.of);
     named.map_or(0, |entry| u64::from(entry) + 1)
+}
+
+#[inline(never)]
+pub unsafe extern "C" fn outcome(
+    before: Record,
+    after: Record,
+    log: *const u32,
+    words: usize,
+    rest: *mut u32,
+    count: usize,
+) -> Told {
+    let (log, rest) = (from_raw_parts(log, words), from_raw_parts_mut(rest, count));
+    let (number, Outcome { settled, pending, lost }) = second::outcome::outcome(&before, &after, log, rest);
+    Told { number, settled, pending, lost }
+}
+
+#[inline(never)]
+pub unsafe extern "C" fn standing(record: Record, log: *const u32, words: usize) -> Tallied {
+    let (number, stands) = second::standing::standing(&record, from_raw_parts(log, words));
+    let Standing { rows, unheard, entries, tallies, silent } = stands;
+    Tallied { number, rows, unheard, entries, tallies, silent }
 }

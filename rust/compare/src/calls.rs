@@ -5,7 +5,7 @@ use std::io::{self, stdout, Write};
 use second::calls as plain;
 use second::message::LONGEST;
 use second::random::Random;
-use second::record::{sound, Record, CODES, DONE, LINES, LOG, OFFICES};
+use second::record::{sound, Record, CODES, DONE, LINES, LOG, OFFICES, UNSOUND};
 use second::samples::Sample;
 
 use crate::alike::{same, same_lent, Lent};
@@ -17,6 +17,7 @@ use crate::forge::{any_bytes, damaged, forged};
 use crate::samples::{any_sample, huge, Family};
 use crate::sheets;
 use crate::tally::Tally;
+use crate::told;
 use crate::vectors;
 
 /// Calls on one record, one after the other.
@@ -28,6 +29,8 @@ struct Trial<'a> {
     tally: &'a mut Tally,
     record: Record,
     log: Lent<u32>,
+    /// The record before the last take, election or fold, done or not.
+    before: Record,
 }
 
 impl Trial<'_> {
@@ -121,7 +124,7 @@ impl Trial<'_> {
         self.tally.elected_code += u64::from(answer.2.codes != self.record.codes);
         same("elect", engine, answer)?;
         same_lent("elect's log", &log, &self.log)?;
-        self.record = answer.2;
+        (self.before, self.record) = (self.record, answer.2);
         Ok(())
     }
 
@@ -133,7 +136,7 @@ impl Trial<'_> {
         self.tally.folded += u64::from(answer.1 > 0);
         same("fold", engine, answer)?;
         same_lent("fold's log", &log, &self.log)?;
-        self.record = answer.2;
+        (self.before, self.record) = (self.record, answer.2);
         Ok(())
     }
 
@@ -170,7 +173,7 @@ impl Trial<'_> {
         self.tally.compared_some += u64::from(number != DONE && places > 1);
         same(&format!("take of {message:02X?}"), engine, answer)?;
         same_lent("take's log", &log, &self.log)?;
-        self.record = after;
+        (self.before, self.record) = (self.record, after);
         Ok(())
     }
 
@@ -210,6 +213,28 @@ impl Trial<'_> {
         Ok(())
     }
 
+    /// What became of the own entries since the last take, election or fold, or since any other record.
+    fn outcome(&mut self, family: &Family) -> Result<(), String> {
+        let any = told::any_before(self.random, family, &self.record, self.log.part());
+        let before = if self.random.percent(25) { self.before } else { any };
+        let answer = told::outcomes(self.random, &before, &self.record, self.log.part())?;
+        let (number, counts) = answer;
+        self.tally.count(16, number);
+        let parts = [counts.settled, counts.pending, counts.lost];
+        self.tally.told.iter_mut().zip(parts).for_each(|(sum, count)| *sum += count as u64);
+        self.tally.told_mixed += u64::from(told::is_mixed(answer));
+        self.tally.untold_before += u64::from(number == UNSOUND && sound(&self.record, self.log.part()));
+        Ok(())
+    }
+
+    fn standing(&mut self) -> Result<(), String> {
+        let (number, standing) = told::standings(&self.record, self.log.part())?;
+        self.tally.count(17, number);
+        self.tally.candidates += standing.rows as u64;
+        self.tally.contested += u64::from(standing.rows > 1);
+        Ok(())
+    }
+
     /// A message: sent by a related office or by others, forged, damaged, or any bytes.
     fn message(&mut self, family: &Family) -> Vec<u8> {
         let random = &mut *self.random;
@@ -236,7 +261,7 @@ impl Trial<'_> {
 
     /// One call of any kind.
     fn call(&mut self, family: &Family) -> Result<(), String> {
-        match self.random.below(20) {
+        match self.random.below(24) {
             0 => self.found(),
             1 => self.sound(),
             2 | 3 => self.issue(),
@@ -251,6 +276,8 @@ impl Trial<'_> {
             13 => self.compare_vector(),
             14 => self.forecast(),
             15 | 16 => self.fold(),
+            17..=19 => self.outcome(family),
+            20 => self.standing(),
             _ => self.take(family),
         }
     }
@@ -295,7 +322,7 @@ pub fn compare(seed: u64, rounds: u64) -> io::Result<bool> {
         let family = Family::new(&mut random);
         let Sample { record, log } = sample(&mut random, &mut tally, &family);
         let log = Lent::new(&log);
-        let mut trial = Trial { random: &mut random, tally: &mut tally, record, log };
+        let mut trial = Trial { random: &mut random, tally: &mut tally, record, log, before: record };
         for call in 0..CALLS_A_ROUND {
             let before = trial.record;
             if let Err(difference) = trial.call(&family) {

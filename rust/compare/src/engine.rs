@@ -5,8 +5,10 @@ use std::mem::{offset_of, size_of, transmute};
 use joukerpan_sys as engine;
 use joukerpan_sys::Weights;
 use second::archive::PATHS;
+use second::outcome::Outcome;
 use second::record::{coded, Codes, Record, OFFICES};
 use second::sheet::Row;
+use second::standing::Standing;
 
 const _: () = {
     assert!(size_of::<Record>() == size_of::<engine::Record>());
@@ -128,4 +130,16 @@ pub fn forecast(record: &Record, log: &[u32], lowest: [u16; OFFICES], highest: [
     let (lowest, highest) = (Weights { of: lowest }, Weights { of: highest });
     let answer = unsafe { engine::joukerpan_forecast(to_engine(record), log.as_ptr(), log.len(), lowest, highest) };
     (answer.number, answer.named, answer.entry)
+}
+
+pub fn outcome(before: &Record, after: &Record, log: &[u32], rest: &mut [u32]) -> (u32, Outcome) {
+    let (before, after, out) = (to_engine(before), to_engine(after), rest.as_mut_ptr());
+    let answer = unsafe { engine::joukerpan_outcome(before, after, log.as_ptr(), log.len(), out, rest.len()) };
+    (answer.number, Outcome { settled: answer.settled, pending: answer.pending, lost: answer.lost })
+}
+
+pub fn standing(record: &Record, log: &[u32]) -> (u32, Standing) {
+    let answer = unsafe { engine::joukerpan_standing(to_engine(record), log.as_ptr(), log.len()) };
+    let engine::Tallied { number, rows, unheard, entries, tallies, silent } = answer;
+    (number, Standing { rows, unheard, entries, tallies, silent })
 }

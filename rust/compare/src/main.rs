@@ -19,6 +19,7 @@ mod sheets;
 mod soak;
 mod stack;
 mod tally;
+mod told;
 mod vectors;
 
 const USAGE: &str = "usage:

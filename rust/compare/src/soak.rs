@@ -9,6 +9,7 @@ use second::record::{DONE, LINES, OFFICES};
 
 mod desk;
 mod order;
+mod told;
 
 use desk::Desk;
 use order::Order;
@@ -36,6 +37,9 @@ pub struct Counts {
     pub dropped_too: u64,
     pub restarts: u64,
     pub forgotten: u64,
+    /// Outcomes of takes, elections and folds, and entries that they told to be lost.
+    pub told: u64,
+    pub lost: u64,
 }
 
 /// A message on its way: to whom, and how often it has come.
@@ -169,9 +173,10 @@ impl World {
 
     fn print(&self, output: &mut impl Write) -> io::Result<()> {
         let Counts { calls, edits, stopped, sent, taken, inside, elected, folds, folded, .. } = &self.counts;
-        let Counts { dropped_too, restarts, forgotten, .. } = &self.counts;
+        let Counts { dropped_too, restarts, forgotten, told, lost, .. } = &self.counts;
         writeln!(output, "{edits} edits made, {stopped} times a full part or log; {} settled", self.order.length())?;
         writeln!(output, "{elected} entries settled by elections, each place at several offices")?;
+        writeln!(output, "{told} outcomes told, {lost} edits lost by them, none of which was settled")?;
         writeln!(
             output,
             "{sent} messages sent, {taken} takes done; {} came again, {} never came",

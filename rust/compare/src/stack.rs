@@ -7,12 +7,12 @@ use std::mem::transmute;
 
 use joukerpan_sys as engine;
 use joukerpan_sys::{
-    Compared, Earlier, Elected, Folded, Foreseen, Founded, Framed, Issued, Lines, Part, Sent, Sheet, Taken, Weights,
-    Written, COUNT, HOUSEHOLD,
+    Compared, Earlier, Elected, Folded, Foreseen, Founded, Framed, Issued, Lines, Part, Sent, Sheet, Taken, Tallied,
+    Told, Weights, Written, COUNT, HOUSEHOLD,
 };
 use second::message::LONGEST;
 use second::random::Random;
-use second::record::{LOG, OFFICES};
+use second::record::{LOG, OFFICES, TAIL};
 use second::samples::Sample;
 
 use crate::benchmark::{state, Ballots, Entries, State};
@@ -45,6 +45,8 @@ struct Calls {
     write_vectors: unsafe extern "C" fn(engine::Record, *const u32, usize, *mut u8, usize) -> Written,
     compare_vector: unsafe extern "C" fn(engine::Record, *const u32, usize, *const u8, usize) -> Compared,
     forecast: unsafe extern "C" fn(engine::Record, *const u32, usize, Weights, Weights) -> Foreseen,
+    outcome: unsafe extern "C" fn(engine::Record, engine::Record, *const u32, usize, *mut u32, usize) -> Told,
+    standing: unsafe extern "C" fn(engine::Record, *const u32, usize) -> Tallied,
 }
 
 extern "C" fn nothing() {}
@@ -68,6 +70,8 @@ impl Calls {
             write_vectors: engine::joukerpan_write_vectors,
             compare_vector: engine::joukerpan_compare_vector,
             forecast: engine::joukerpan_forecast,
+            outcome: engine::joukerpan_outcome,
+            standing: engine::joukerpan_standing,
         }
     }
 
@@ -94,6 +98,8 @@ impl Calls {
                 write_vectors: transmute(nothing),
                 compare_vector: transmute(nothing),
                 forecast: transmute(nothing),
+                outcome: transmute(nothing),
+                standing: transmute(nothing),
             }
         }
     }
@@ -128,7 +134,7 @@ macro_rules! call {
     }};
 }
 
-const CALLS: [Call; 16] = [
+const CALLS: [Call; 18] = [
     ("found", |calls, input| {
         let (log, length) = input.log();
         call!(calls.found, 3, 0, Weights { of: [1; OFFICES] }, log, length)
@@ -201,6 +207,15 @@ const CALLS: [Call; 16] = [
     ("forecast", |calls, input| {
         let ((log, length), bound) = (input.log(), Weights { of: input.sample.record.present });
         call!(calls.forecast, to_engine(&input.sample.record), log, length, bound, bound)
+    }),
+    ("outcome", |calls, input| {
+        let ((log, length), record) = (input.log(), to_engine(&input.sample.record));
+        let mut rest = [0; TAIL];
+        call!(calls.outcome, record, record, log, length, rest.as_mut_ptr(), rest.len())
+    }),
+    ("standing", |calls, input| {
+        let (log, length) = input.log();
+        call!(calls.standing, to_engine(&input.sample.record), log, length)
     }),
 ];
 

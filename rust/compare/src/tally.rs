@@ -8,7 +8,7 @@ use second::record::{LOG, UNSOUND};
 use crate::breaks::clause_name;
 
 /// The calls, in the order of the tally.
-const CALLS: [&str; 16] = [
+const CALLS: [&str; 18] = [
     "found",
     "sound",
     "issue",
@@ -25,6 +25,8 @@ const CALLS: [&str; 16] = [
     "compare vector",
     "forecast",
     "fold",
+    "outcome",
+    "standing",
 ];
 const NUMBERS: usize = 18;
 /// How often each call answered each number, and what else was seen.
@@ -54,6 +56,14 @@ pub struct Tally {
     pub folded: u64,
     pub dropped_too: u64,
     pub with_dropped: u64,
+    /// Own entries that were pending: settled, pending still, lost; and outcomes with entries of two of these.
+    pub told: [u64; 3],
+    pub told_mixed: u64,
+    /// Outcomes refused for the record before alone.
+    pub untold_before: u64,
+    /// Rows of standings, and standings with two or more.
+    pub candidates: u64,
+    pub contested: u64,
 }
 
 impl Tally {
@@ -77,6 +87,17 @@ impl Tally {
                 numbers.iter().map(|&count| if count == 0 { String::new() } else { count.to_string() }).collect();
             writeln!(output, "| {call} | {} |", cells.join(" | "))?;
         }
+        self.print_seen(output)?;
+        self.print_told(output)?;
+        writeln!(output, "records refused with {UNSOUND} for one broken clause:")?;
+        for (&clause, count) in &self.clauses {
+            writeln!(output, "  {}: {count}", clause_name(clause))?;
+        }
+        Ok(())
+    }
+
+    /// Prints what was seen beside the numbers.
+    fn print_seen(&self, output: &mut impl Write) -> io::Result<()> {
         writeln!(output, "\nmoves of weight issued {}", self.issued_moves)?;
         writeln!(output, "elections of one entry {}, of more {}", self.elected_one, self.elected_more)?;
         writeln!(output, "takes that grew the log {}, that changed a ballot {}", self.grown, self.adopted)?;
@@ -94,11 +115,18 @@ impl Tally {
         writeln!(output, "elections that changed a code {}, takes {}", self.elected_code, self.taken_code)?;
         writeln!(output, "logs above {LOG} words {}", self.long_logs)?;
         writeln!(output, "records with dropped entries {}", self.with_dropped)?;
-        writeln!(output, "folds that dropped entries {}, takes {}", self.folded, self.dropped_too)?;
-        writeln!(output, "records refused with {UNSOUND} for one broken clause:")?;
-        for (&clause, count) in &self.clauses {
-            writeln!(output, "  {}: {count}", clause_name(clause))?;
-        }
-        Ok(())
+        writeln!(output, "folds that dropped entries {}, takes {}", self.folded, self.dropped_too)
+    }
+
+    /// Prints what supervisors would have been told.
+    fn print_told(&self, output: &mut impl Write) -> io::Result<()> {
+        let [settled, pending, lost] = self.told;
+        writeln!(
+            output,
+            "own entries told settled {settled}, pending {pending}, lost {lost}; outcomes with entries of two of these {}",
+            self.told_mixed
+        )?;
+        writeln!(output, "outcomes refused for the record before alone {}", self.untold_before)?;
+        writeln!(output, "rows of standings {}, standings with several {}", self.candidates, self.contested)
     }
 }

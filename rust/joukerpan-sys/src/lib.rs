@@ -261,6 +261,38 @@ pub struct Compared {
     pub answers: [u32; OFFICES + 1],
 }
 
+/// What became of the own entries that were pending.
+#[repr(C)]
+#[derive(Clone, Copy, Debug, PartialEq, Eq)]
+pub struct Told {
+    /// 0, or the refusal's number.
+    pub number: u32,
+    /// Those that are settled; 0 where the call is refused, as the two below.
+    pub settled: usize,
+    /// Those that are pending still.
+    pub pending: usize,
+    /// Those that are lost.
+    pub lost: usize,
+}
+
+/// How the next place stands.
+#[repr(C)]
+#[derive(Clone, Copy, Debug, PartialEq, Eq)]
+pub struct Tallied {
+    /// 0, or the refusal's number.
+    pub number: u32,
+    /// Supported entries there are; 0 where the call is refused.
+    pub rows: usize,
+    /// U: the present weight of the offices with no ballot.
+    pub unheard: u32,
+    /// The supported entries, each once, in the order of the lowest office that supports it, then zeros.
+    pub entries: [u32; OFFICES],
+    /// T of each of them, then zeros.
+    pub tallies: [u32; OFFICES],
+    /// Of each office 1 if it has no ballot, else 0.
+    pub silent: [u32; OFFICES],
+}
+
 // Each function asks what C asks: a pointer is aligned, not null, and names as many elements as the
 // count after it says; memory that a call writes is named by no other argument of it.
 extern "C" {
@@ -313,6 +345,19 @@ extern "C" {
         message: *const u8,
         message_len: usize,
     ) -> Taken;
+
+    /// What became of the own entries that were pending before a call. Writes those that are not settled.
+    pub fn joukerpan_outcome(
+        before: Record,
+        after: Record,
+        log: *const u32,
+        log_len: usize,
+        rest: *mut u32,
+        rest_len: usize,
+    ) -> Told;
+
+    /// How the next place stands: supported entries with their weights, and whose vote is missing.
+    pub fn joukerpan_standing(record: Record, log: *const u32, log_len: usize) -> Tallied;
 
     /// The household sheet, by the settled codes.
     pub fn joukerpan_sheet(
@@ -378,4 +423,9 @@ const _: () = {
     assert!(size_of::<Foreseen>() == 12 && offset_of!(Foreseen, named) == 4 && offset_of!(Foreseen, entry) == 8);
     assert!(size_of::<Written>() == 16 && offset_of!(Written, length) == 8);
     assert!(size_of::<Compared>() == 40 && offset_of!(Compared, answers) == 4);
+    assert!(size_of::<Told>() == 32 && offset_of!(Told, settled) == 8);
+    assert!(offset_of!(Told, pending) == 16 && offset_of!(Told, lost) == 24);
+    assert!(size_of::<Tallied>() == 120 && offset_of!(Tallied, rows) == 8 && offset_of!(Tallied, unheard) == 16);
+    assert!(offset_of!(Tallied, entries) == 20 && offset_of!(Tallied, tallies) == 52);
+    assert!(offset_of!(Tallied, silent) == 84);
 };

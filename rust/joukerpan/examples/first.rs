@@ -11,7 +11,7 @@ fn main() -> Result<(), Refused> {
     let message = office0.message(); // bytes, for the service to carry
 
     office2.take(&message)?;
-    let count = office2.elect();
+    let count = office2.elect().grown;
     match office2.settled_frame(5)? {
         Some(code) => println!("settled {count}, line 5 is {code}"),
         None => println!("settled {count}, line 5 has no edit yet"),

@@ -22,7 +22,7 @@
 //! assert_eq!(here.settled_frame(5), Ok(None));        // no edit yet for the tabulator
 //!
 //! there.take(&here.message())?;                       // office 2 hears of it and joins: 65 of 100
-//! assert_eq!(there.elect(), 1);
+//! assert_eq!(there.elect().grown, 1);
 //! assert_eq!(there.settled_frame(5), Ok(Some(120)));
 //! assert_eq!(there.frame()[5], Some(120));            // all 64 lines in one call
 //! # Ok::<(), Refused>(())
@@ -34,8 +34,9 @@
 //! are [`Office::vectors`]. What would win by next round's weights, where they are known within bounds, is
 //! [`Office::forecast`].
 //!
-//! What a service owes in return, above all how it stores an office, stands at [`Office`]. That an edit
-//! can lose, and how that is noticed, stands at [`Office::pending`].
+//! What a service owes in return, above all how it stores an office, stands at [`Office`]. An edit can lose, with no call
+//! refused: take, elect and fold hand back an [`Outcome`], which names the lost ones. Whose vote is missing where nothing
+//! settles is [`Office::standing`].
 //!
 //! What is proved and of what, docs/READING.md of the repository says; this crate adds the
 //! memory that the engine borrows, bytes to store an office as, and no rule of its own.
@@ -45,7 +46,9 @@
 mod bytes;
 mod earlier;
 mod entry;
+mod next_place;
 mod office;
+mod outcome;
 mod refused;
 mod sheet;
 mod unreadable;
@@ -57,7 +60,9 @@ pub use joukerpan_sys::{
     Ballot, Kept, Record, Summary, CODES, COUNT, HOUSEHOLD, HOUSEHOLDS, LENGTH, LINES, LOG, MESSAGE_MAX, OFFICES, TAIL,
     VECTORS_MAX,
 };
+pub use next_place::{Candidate, NextPlace};
 pub use office::{sound, Office};
+pub use outcome::Outcome;
 pub use refused::Refused;
 pub use sheet::{Household, Row, Sheet};
 pub use unreadable::Unreadable;

@@ -11,6 +11,7 @@ mod edits;
 mod folding;
 mod frames;
 mod outlook;
+mod told;
 
 /// One office's state: its record and its log, which are always sound together.
 ///

@@ -9,7 +9,7 @@ fn office() -> Office {
     zero.issue(5, 120).unwrap();
     zero.move_weight(2, 15).unwrap();
     one.take(&zero.message()).unwrap();
-    assert_eq!(one.elect(), 2);
+    assert_eq!(one.elect().grown, 2);
     assert_eq!(one.present(), [25, 35, 40]);
     one.issue(63, 9999).unwrap();
     zero.issue(6, 7).unwrap();
@@ -43,7 +43,7 @@ fn a_folded_office_is_read_back() {
         office.issue(code % 64, code).unwrap();
         office.elect();
         if code % 1000 == 999 {
-            assert_eq!(office.fold(), 1000);
+            assert_eq!(office.fold().dropped, 1000);
         }
     }
     assert_eq!((office.settled_length(), office.dropped(), office.settled().len()), (3072, 3000, 72));

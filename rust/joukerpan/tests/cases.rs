@@ -1,6 +1,6 @@
 //! The paper's cases through the safe crate: the rehearsal, A to L, and each refusal.
 
-use joukerpan::{Ballot, Entry, Office, Record, Refused, LOG, MESSAGE_MAX, OFFICES, TAIL};
+use joukerpan::{Ballot, Entry, Office, Outcome, Record, Refused, LOG, MESSAGE_MAX, OFFICES, TAIL};
 
 const A: Entry = Entry { office: 0, line: 5, code: 120 };
 const B: Entry = Entry { office: 1, line: 5, code: 130 };
@@ -36,9 +36,9 @@ fn tail(office: &Office, place: usize) -> Vec<Entry> {
 }
 
 /// How many entries an election settles, and the log after it.
-fn elected(weights: &[u16], ballots: &[(usize, &[Entry])]) -> (usize, Vec<u32>) {
+fn elected(weights: &[u16], ballots: &[(usize, &[Entry])]) -> (u64, Vec<u32>) {
     let mut office = office(0, weights, &[], ballots);
-    (office.elect(), office.settled().to_vec())
+    (office.elect().grown, office.settled().to_vec())
 }
 
 #[test]
@@ -49,7 +49,7 @@ fn the_rehearsal() {
     let message = zero.message();
     assert_eq!(message.len(), 36);
     two.take(&message).unwrap();
-    assert_eq!(two.elect(), 1);
+    assert_eq!(two.elect().grown, 1);
     assert_eq!((two.settled_frame(5), two.tentative_frame(5)), (Ok(Some(120)), Ok(Some(120))));
     assert_eq!((one.settled_frame(5), one.tentative_frame(5)), (Ok(None), Ok(Some(130))));
 }
@@ -104,10 +104,11 @@ fn logs_are_compared_from_their_ends() {
         let shared = own.min(sent);
         let one = office(1, &WEIGHTS, &path[..own], &[]);
         let message = office(0, &WEIGHTS, &path[..sent], &[]).message();
-        assert_eq!(one.clone().take_with_places(&message), (Ok(()), shared), "{own} {sent}");
+        let (taken, places) = one.clone().take_with_places(&message);
+        assert_eq!((taken.unwrap().grown, places), ((sent - shared) as u64, shared), "{own} {sent}");
         let mut again = one.clone();
         again.take(&message).unwrap();
-        assert_eq!(again.take_with_places(&message), (Ok(()), sent), "once more");
+        assert_eq!(again.take_with_places(&message), (Ok(Outcome::default()), sent), "once more");
         for at in [0, shared / 2, shared.saturating_sub(1)].into_iter().filter(|&at| at < shared) {
             let mut other = path[..sent].to_vec();
             for differ in [at, 0] {
@@ -185,7 +186,7 @@ fn a_busy_office_waits_while_others_go_on() {
     assert_eq!(other.issue(5, 20), Err(Refused::PartFull));
     busy.take(&other.message()).unwrap();
     assert_eq!((tail(&busy, 0).len(), busy.issue(5, 20)), (20, Err(Refused::PartFull)));
-    assert_eq!(busy.elect(), 20); // 75 above 25
+    assert_eq!(busy.elect().grown, 20); // 75 above 25
     assert_eq!(busy.issue(5, 20), Ok(()));
 }
 
@@ -220,7 +221,7 @@ fn a_full_log() {
     let mut office = office(0, &[1], &[A; LOG - 1], &[]);
     office.issue(0, 1).unwrap();
     assert_eq!(office.issue(0, 2), Err(Refused::LogFull));
-    assert_eq!(office.elect(), 1);
+    assert_eq!(office.elect().grown, 1);
     assert_eq!((office.settled().len(), office.settled_frame(0)), (LOG, Ok(Some(1))));
     assert_eq!(office.issue(0, 2), Err(Refused::LogFull));
 }

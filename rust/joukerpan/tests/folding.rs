@@ -4,7 +4,7 @@
 mod dice;
 
 use dice::Dice;
-use joukerpan::{Household, Office, Refused, LINES, LOG, TAIL};
+use joukerpan::{Household, Office, Outcome, Refused, LINES, LOG, TAIL};
 
 /// An office with the entries that it has dropped, which nothing but the tests knows.
 struct Whole {
@@ -29,7 +29,7 @@ impl Whole {
         assert_eq!(self.office.settled_length() as usize, self.log().len());
     }
 
-    fn take(&mut self, message: &[u8]) -> Result<(), Refused> {
+    fn take(&mut self, message: &[u8]) -> Result<Outcome, Refused> {
         let before = self.office.settled().to_vec();
         let taken = self.office.take(message);
         self.note(&before);
@@ -39,7 +39,7 @@ impl Whole {
     fn fold(&mut self) -> u64 {
         let (before, whole) = (self.office.settled().to_vec(), self.log());
         let read = reads(&self.office);
-        let count = self.office.fold();
+        let count = self.office.fold().dropped;
         self.note(&before);
         assert_eq!((self.log(), reads(&self.office)), (whole, read), "nothing that is read changes");
         count
@@ -71,7 +71,7 @@ fn one_order_is_behind_all_offices() {
                 whole.office.issue(dice.below(5) as u32, dice.below(3) as u32).unwrap();
             }
             match whole.take(&sent[dice.below(sent.len())]) {
-                Ok(()) | Err(Refused::OwnMessage) => {}
+                Ok(_) | Err(Refused::OwnMessage) => {}
                 refused => {
                     assert_eq!(refused, Err(Refused::EndsInside));
                     inside += 1;
@@ -95,15 +95,15 @@ fn a_full_log_has_room_again_once_all_are_heard_of() {
     let [mut zero, mut one, mut two] = [0, 1, 2].map(|own| Office::found(own, &[100, 1, 1]).unwrap());
     for code in 0..LOG as u32 {
         zero.issue(code % 64, code).unwrap();
-        assert_eq!(zero.elect(), 1);
+        assert_eq!(zero.elect().grown, 1);
     }
-    assert_eq!((zero.issue(5, 120), zero.fold()), (Err(Refused::LogFull), 0));
+    assert_eq!((zero.issue(5, 120), zero.fold().dropped), (Err(Refused::LogFull), 0));
     one.take(&zero.message()).unwrap();
     zero.take(&one.message()).unwrap();
-    assert_eq!((zero.fold(), zero.issue(5, 120)), (0, Err(Refused::LogFull))); // office 2 was never heard of
+    assert_eq!((zero.fold().dropped, zero.issue(5, 120)), (0, Err(Refused::LogFull))); // office 2 was never heard of
     two.take(&zero.message()).unwrap();
     zero.take(&two.message()).unwrap();
-    assert_eq!((zero.fold(), zero.issue(5, 120), zero.elect()), (LOG as u64, Ok(()), 1));
+    assert_eq!((zero.fold().dropped, zero.issue(5, 120), zero.elect().grown), (LOG as u64, Ok(()), 1));
     assert_eq!((zero.settled_length(), zero.settled().len()), (1025, 1));
 
     assert_eq!(one.dropped(), 0);
@@ -123,7 +123,7 @@ fn messages_that_begin_past_or_end_inside() {
     let mut other = Office::found(1, &[1, 0]).unwrap();
     other.take(&alone.message()).unwrap();
     alone.take(&other.message()).unwrap();
-    assert_eq!(alone.fold(), 2);
+    assert_eq!(alone.fold().dropped, 2);
     other.take(&alone.message()).unwrap();
     assert_eq!(other.take_with_places(&first), (Err(Refused::EndsInside), 0)); // an old message
 
@@ -137,7 +137,7 @@ fn earlier_places_of_a_folded_log() {
     for (line, code) in [(5, 120), (6, 7), (5, 130)] {
         office.issue(line, code).unwrap();
     }
-    assert_eq!((office.elect(), office.fold()), (3, 3));
+    assert_eq!((office.elect().grown, office.fold().dropped), (3, 3));
     office.issue(7, 9).unwrap();
     office.elect();
     let at = |p, lines: &[u32]| office.frame_at(p, lines).map(|earlier| (earlier.edits().to_vec(), earlier.words()));

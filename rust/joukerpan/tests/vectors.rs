@@ -134,7 +134,7 @@ fn across_two_offices_counts_do_not_decide() {
     let first = one.message();
     zero.issue(5, 120).unwrap();
     two.take(&zero.message()).unwrap();
-    assert_eq!(two.elect(), 1);
+    assert_eq!(two.elect().grown, 1);
     one.take(&two.message()).unwrap(); // its ballot lost
     one.issue(5, 131).unwrap();
     zero.take(&first).unwrap();

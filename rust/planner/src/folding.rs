@@ -1,11 +1,11 @@
 //! Folding (request (xiv)), the one place that knows of it: what the rest of the simulator asks of an office's log,
 //! whose first entries go once every office is known to have them. Everything else counts by whole lengths.
 
-use joukerpan::{Office, Refused};
+use joukerpan::{Office, Outcome, Refused};
 
 /// Drops what every office is known to have; answers how many entries went.
 pub fn fold(office: &mut Office) -> usize {
-    places(office.fold())
+    places(office.fold().dropped)
 }
 
 /// How many entries the office has dropped so far.
@@ -23,10 +23,11 @@ fn places(count: u64) -> usize {
 }
 
 /// The office takes a message of another one. That its log ends inside what is dropped here is old news: all of it
-/// is known.
-pub fn take(office: &mut Office, message: &[u8]) {
+/// is known, and nothing changes.
+pub fn take(office: &mut Office, message: &[u8]) -> Outcome {
     match office.take(message) {
-        Ok(()) | Err(Refused::EndsInside) => {}
+        Ok(outcome) => outcome,
+        Err(Refused::EndsInside) => Outcome::default(),
         Err(refused) => unreachable!("a sent message of another office is taken: {refused}"),
     }
 }

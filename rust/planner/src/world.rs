@@ -120,15 +120,14 @@ impl World {
         let message = self.offices[from].send(&mut self.buffer).expect("no message is longer");
         self.sizes[from] = Some((versions.1, message.len()));
         self.bytes += message.len() as u64;
-        let before = *self.offices[to].record();
-        folding::take(&mut self.offices[to], message);
-        self.offices[to].elect();
-        if *self.offices[to].record() == before {
+        let ballots = self.offices[to].record().ballots;
+        let taken = folding::take(&mut self.offices[to], message);
+        if !taken.then(self.offices[to].elect()).changed {
             self.nothing_new[to][from] = Some(versions);
             return (false, Vec::new());
         }
         self.versions[to] += 1;
-        let (length, ballots) = (self.lengths[to], before.ballots);
+        let length = self.lengths[to];
         let lost = self.note(to, now);
         let news = self.lengths[to] != length || self.offices[to].record().ballots != ballots;
         (news, lost)

@@ -302,6 +302,13 @@ fn sound_ballot(ballot: &Ballot, n: usize, limit: usize) -> bool {
         && ballot.cells[ballot.len..].iter().fold(0, |bits, &cell| bits | cell) == 0
 }
 
+/// Whether the ballots of a record of n offices, 1 to 8, are tails of at most `limit` entries, and none from place n on.
+pub(crate) fn sound_ballots(record: &Record, limit: usize) -> bool {
+    let (known, past) = record.ballots.split_at(record.n);
+    known.iter().all(|ballot| sound_ballot(ballot, record.n, limit))
+        && past.iter().all(|ballot| sound_ballot(ballot, record.n, 0))
+}
+
 /// Whether the record with its log is sound.
 pub fn sound(record: &Record, log: &[u32]) -> bool {
     let Record { n, own, weights, kept, .. } = record;
@@ -312,12 +319,8 @@ pub fn sound(record: &Record, log: &[u32]) -> bool {
         return false;
     };
     let entries = &log[..record.held()];
-    if !all_entries(entries, *n)
-        || record.present != weights_after(kept.present, entries)
-        || record.codes != codes_after(&kept.codes, entries)
-    {
-        return false;
-    }
-    let (known, past) = record.ballots.split_at(*n);
-    known.iter().all(|ballot| sound_ballot(ballot, *n, limit)) && past.iter().all(|ballot| sound_ballot(ballot, *n, 0))
+    all_entries(entries, *n)
+        && record.present == weights_after(kept.present, entries)
+        && record.codes == codes_after(&kept.codes, entries)
+        && sound_ballots(record, limit)
 }

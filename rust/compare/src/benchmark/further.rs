@@ -1,10 +1,10 @@
-//! Calls that came later: earlier places, version vectors, forecasts, folding.
+//! Calls that came later: earlier places, version vectors, forecasts, what supervisors are told, folding.
 
 use std::hint::black_box;
 
 use joukerpan_sys as engine;
 use joukerpan_sys::{Weights, VECTORS_MAX};
-use second::record::{LINES, LOG, OFFICES};
+use second::record::{LINES, LOG, OFFICES, TAIL};
 use second::samples::Sample;
 
 use super::states::{doubled, state, State, WEIGHTS};
@@ -70,10 +70,44 @@ fn vector_cases(of: State, cases: &mut Vec<Case>) {
     );
 }
 
+/// How the next place stands; and what became of the own entries by an election, which settles all of a full tail.
+fn told_cases(of: State, cases: &mut Vec<Case>) {
+    let Sample { record, log } = state(of, 0);
+    let proved = to_engine(&record);
+    let mut case = |call: &str, engine: Call, second: Call, by_value: Call| {
+        cases.push(Case { call: call.into(), state: of, engine, second, by_value });
+    };
+    let (a, b, c) = (log.clone(), log.clone(), log.clone());
+    case(
+        "standing",
+        call!(unsafe { engine::joukerpan_standing(*black_box(&proved), a.as_ptr(), LOG) }),
+        call!(second::standing::standing(black_box(&record), &b)),
+        call!(unsafe { by_value::standing(*black_box(&record), c.as_ptr(), LOG) }),
+    );
+    let mut log = log;
+    let (_, _, after) = second::elect::elect(record, &mut log);
+    let elected = to_engine(&after);
+    let (a, b, c) = (log.clone(), log.clone(), log);
+    let (mut d, mut e, mut f) = ([0; TAIL], [0; TAIL], [0; TAIL]);
+    case(
+        "outcome",
+        call!(unsafe {
+            let (before, after) = (*black_box(&proved), *black_box(&elected));
+            engine::joukerpan_outcome(before, after, a.as_ptr(), LOG, d.as_mut_ptr(), TAIL)
+        }),
+        call!(second::outcome::outcome(black_box(&record), black_box(&after), &b, &mut e)),
+        call!(unsafe {
+            let (before, after) = (*black_box(&record), *black_box(&after));
+            by_value::outcome(before, after, c.as_ptr(), LOG, f.as_mut_ptr(), TAIL)
+        }),
+    );
+}
+
 /// The calls that only read.
 pub fn further_cases(of: State, cases: &mut Vec<Case>) {
     reading_cases(of, cases);
     vector_cases(of, cases);
+    told_cases(of, cases);
 }
 
 /// A fold that drops half of the log, one that drops nothing, and a take whose sender has dropped half of it. The words

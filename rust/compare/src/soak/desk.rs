@@ -1,6 +1,6 @@
 //! One office under both: the engine through the Rust crate, and the second implementation. Every answer is compared.
 
-use joukerpan::{Office, Refused, LOG};
+use joukerpan::{Office, Outcome, Refused, LOG};
 use second::archive::{compare_vector, write_vectors, PATHS};
 use second::calls as plain;
 use second::earlier::earlier;
@@ -12,6 +12,7 @@ use second::samples::any_households;
 use second::sheet::sheet;
 
 use super::order::{Chain, Issue, Order};
+use super::told::{led, lost, stands, Told};
 use super::{done, Counts};
 use crate::alike::same;
 use crate::engine::from_engine;
@@ -23,6 +24,7 @@ struct Plain {
     log: Vec<u32>,
     /// The whole settled log, dropped entries included.
     chain: Chain,
+    told: Told,
 }
 
 /// An office, and how it was when it was stored last.
@@ -30,8 +32,9 @@ pub struct Desk {
     office: Office,
     plain: Plain,
     stored: (Vec<u8>, Plain),
-    /// Issues since then.
+    /// Issues since then, and those that were lost.
     issues: Vec<Issue>,
+    lost: Vec<Issue>,
 }
 
 /// The number of an answer of the crate.
@@ -44,9 +47,9 @@ impl Desk {
         let office = Office::found(own, weights).map_err(|refused| refused.to_string())?;
         let log = vec![0; LOG];
         let (_, record) = plain::found(OFFICES, own, *weights, &log);
-        let plain = Plain { record, log, chain: Chain::EMPTY };
+        let plain = Plain { record, log, chain: Chain::EMPTY, told: Told::default() };
         let stored = (office.to_bytes(), plain.clone());
-        let desk = Desk { office, plain, stored, issues: vec![] };
+        let desk = Desk { office, plain, stored, issues: vec![], lost: vec![] };
         desk.same("founding")?;
         Ok(desk)
     }
@@ -76,8 +79,22 @@ impl Desk {
         self.same(what)
     }
 
+    /// Notes the record after a take, an election or a fold, and what became of the own entries that were pending.
+    fn told(&mut self, what: &str, record: Record, outcome: &Outcome, counts: &mut Counts) -> Result<(), String> {
+        let (before, chain) = (self.plain.record, self.plain.chain);
+        self.after(what, record, counts)?;
+        let gone = lost(&before, chain, (&self.plain.record, &self.plain.log), outcome)?;
+        let told = &mut self.plain.told;
+        (told.settled, told.lost) = (told.settled + outcome.settled as u64, told.lost + gone.len() as u64);
+        told.check(&self.office)?;
+        self.lost.extend(gone);
+        counts.calls += 1;
+        counts.told += 1;
+        Ok(())
+    }
+
     pub fn issue(&mut self, line: u32, code: u32, counts: &mut Counts) -> Result<(), String> {
-        let Plain { record, log, chain } = &self.plain;
+        let Plain { record, log, chain, .. } = &self.plain;
         let own = &record.ballots[record.own];
         let (place, view) = (record.settled + own.len as u64, chain.with(own.tail()));
         let (given, after) = plain::issue(*record, log, line, code);
@@ -86,6 +103,7 @@ impl Desk {
         if done(given) {
             let ballot = &after.ballots[after.own];
             self.issues.push(Issue { place, view, entry: ballot.cells[ballot.len - 1] });
+            self.plain.told.issued += 1;
         } else {
             counts.stopped += 1;
         }
@@ -93,18 +111,24 @@ impl Desk {
     }
 
     pub fn elect(&mut self, counts: &mut Counts) -> Result<(), String> {
+        let stood = stands(&self.office, &self.plain.record, &self.plain.log)?;
+        let held = self.plain.record.held();
         let (_, count, record) = second::elect::elect(self.plain.record, &mut self.plain.log);
-        same("elect", self.office.elect(), count)?;
-        counts.elected += count as u64;
-        self.after("elect", record, counts)
+        let outcome = self.office.elect();
+        same("elect", outcome.grown, count as u64)?;
+        counts.elected += outcome.grown;
+        counts.calls += 1;
+        self.told("elect", record, &outcome, counts)?;
+        self.plain.log[held..held + count].first().map_or(Ok(()), |&first| led(&stood, first))
     }
 
     pub fn fold(&mut self, counts: &mut Counts) -> Result<(), String> {
         let (_, count, record) = second::fold::fold(self.plain.record, &mut self.plain.log);
-        same("fold", self.office.fold(), count)?;
+        let outcome = self.office.fold();
+        same("fold", outcome.dropped, count)?;
         counts.folds += u64::from(count > 0);
         counts.folded += count;
-        self.after("fold", record, counts)
+        self.told("fold", record, &outcome, counts)
     }
 
     /// Takes a message that an office sent: done, or an old one.
@@ -119,7 +143,10 @@ impl Desk {
             other => return Err(format!("a sent message was refused with {other} at office {}", before.own)),
         }
         counts.dropped_too += u64::from(record.kept.dropped > before.kept.dropped);
-        self.after("take", record, counts)
+        match answer {
+            Ok(outcome) => self.told("take", record, &outcome, counts),
+            Err(_) => self.after("take", record, counts),
+        }
     }
 
     /// Stores the office, and answers its message.
@@ -137,8 +164,11 @@ impl Desk {
     /// Stores the office. What it has settled is a part of the order, and what it has issued counts.
     pub fn store(&mut self, order: &mut Order, counts: &mut Counts) -> Result<(), String> {
         order.store(&self.plain.record, self.held(), self.plain.chain, &self.issues)?;
+        order.lose(&self.lost);
         counts.edits += self.issues.len() as u64;
+        counts.lost += self.lost.len() as u64;
         self.issues.clear();
+        self.lost.clear();
         self.stored = (self.office.to_bytes(), self.plain.clone());
         Ok(())
     }
@@ -151,14 +181,16 @@ impl Desk {
         self.office = Office::from_bytes(&bytes).map_err(|unreadable| unreadable.to_string())?;
         self.plain = plain;
         self.issues.clear();
+        self.lost.clear();
         self.same("restart")
     }
 
     /// One of the calls that only read.
     pub fn read(&mut self, random: &mut Random, counts: &mut Counts) -> Result<(), String> {
         counts.calls += 1;
-        match random.below(5) {
+        match random.below(6) {
             0 => self.read_frames(),
+            5 => stands(&self.office, &self.plain.record, &self.plain.log).map(|_| ()),
             1 => self.read_earlier(random),
             2 => self.read_sheet(random),
             3 => self.read_vectors(random),

@@ -39,11 +39,14 @@ pub struct Order {
     /// Of each length, the entries up to it.
     chains: Vec<Chain>,
     issues: HashMap<u64, Vec<Issue>>,
+    /// Issues that their offices were told to be lost.
+    lost: Vec<Issue>,
 }
 
 impl Order {
     pub fn new(weights: &[u16]) -> Order {
-        Order { weights: weights.to_vec(), entries: vec![], chains: vec![Chain::EMPTY], issues: HashMap::new() }
+        let (issues, lost) = (HashMap::new(), vec![]);
+        Order { weights: weights.to_vec(), entries: vec![], chains: vec![Chain::EMPTY], issues, lost }
     }
 
     pub fn length(&self) -> usize {
@@ -72,8 +75,25 @@ impl Order {
         Ok(())
     }
 
+    /// Notes which issues an office that is stored was told to be lost.
+    pub fn lose(&mut self, lost: &[Issue]) {
+        self.lost.extend(lost);
+    }
+
+    /// Whether the order has none of the lost issues: what is lost is lost for good, at every office.
+    fn check_lost(&self) -> Result<(), String> {
+        let settled = |issue: &&Issue| {
+            let place = issue.place as usize;
+            self.chains.get(place) == Some(&issue.view) && self.entries.get(place) == Some(&issue.entry)
+        };
+        match self.lost.iter().find(settled) {
+            Some(issue) => Err(format!("place {}: {:08X} was told to be lost", issue.place, issue.entry)),
+            None => Ok(()),
+        }
+    }
+
     /// Whether the offices have all of the order, each entry was issued by its own office with exactly the entries before
-    /// it in view, and what is kept of dropped entries is what these did.
+    /// it in view, no lost one is among them, and what is kept of dropped entries is what these did.
     pub fn check(&self, desks: &[Desk]) -> Result<(), String> {
         for (place, &word) in self.entries.iter().enumerate() {
             let issued = |issue: &Issue| issue.entry == word && issue.view == self.chains[place];
@@ -82,6 +102,7 @@ impl Order {
                 return Err(format!("place {place}: nobody issued {word:08X} with the entries before it in view"));
             }
         }
+        self.check_lost()?;
         desks.iter().try_for_each(|desk| self.check_desk(&desk.record()))
     }
 

@@ -5,10 +5,10 @@ use std::fs;
 use std::path::PathBuf;
 use std::sync::mpsc::Receiver;
 
-use joukerpan::{Office, Refused};
+use joukerpan::{Office, Outcome, Refused};
 
 use crate::dice::Dice;
-use crate::lost::lost;
+use crate::lost::hear;
 use crate::network::{Event, Network};
 use crate::storage::{store, stored};
 
@@ -37,33 +37,30 @@ enum End {
     Stopped,
 }
 
-/// Works an event into the office, elects, and folds; answers how many edits were made and how many lost.
-/// Any other refused message than an old one ends the office here, since each was sent by one of them. A service
+/// Works an event into the office, elects, and folds; answers how many edits were made and what became of those that were
+/// pending. Any other refused message than an old one ends the office here, since each was sent by one of them. A service
 /// may pass over bytes from elsewhere, and stops at `OtherLog` and `BeginsPast`.
-fn work(office: &mut Office, event: Event) -> Result<(usize, usize), Refused> {
-    let mut before = office.clone();
-    let mut edits = 0;
+fn work(office: &mut Office, event: Event) -> Result<(usize, Outcome), Refused> {
+    let (mut edits, mut outcome) = (0, Outcome::default());
     match event {
-        Event::Message(message) => match office.take(&message) {
+        Event::Message(message) => match hear(office, &message) {
             Err(Refused::EndsInside) => {} // all that it has is settled here, and dropped
-            taken => taken?,
+            heard => outcome = heard?,
         },
         Event::Turn(Some((line, code)), _done) => match office.issue(line, code) {
             Err(Refused::PartFull) => {} // the supervisor waits until some of her edits are decided
             issued => {
                 issued?;
-                (before, edits) = (office.clone(), 1);
+                (edits, outcome) = (1, office.elect());
             }
         },
         Event::Turn(None, _done) => {}
         Event::Stop => {}
     }
-    office.elect();
-    let gone = lost(&before, office).len();
     if office.settled().len() > FOLDED_AT {
-        office.fold();
+        outcome = outcome.then(office.fold());
     }
-    Ok((edits, gone))
+    Ok((edits, outcome))
 }
 
 impl Desk<'_> {
@@ -84,9 +81,8 @@ impl Desk<'_> {
                 return Ok(End::Stopped);
             }
             let due = matches!(event, Event::Turn(..));
-            let before = office.clone();
-            let (edits, lost) = work(&mut office, event)?;
-            let changed = office != before;
+            let (edits, outcome) = work(&mut office, event)?;
+            let changed = edits > 0 || outcome.changed;
             let killed = self.dice.below(3 * KILLED_AT);
             match killed {
                 0 => return Ok(End::Killed), // before the store: as if the event had never come
@@ -98,7 +94,7 @@ impl Desk<'_> {
                 _ => {}
             }
             self.edits += edits; // from here on the supervisor may see them
-            self.lost += lost;
+            self.lost += outcome.lost.len();
             if killed == 2 {
                 return Ok(End::Killed); // after the store: this message is never sent
             }

@@ -1,12 +1,9 @@
-//! Whether a supervisor's edit was lost.
+//! A message worked in, and what became of the supervisor's edits by it.
 
-use joukerpan::{Entry, Office};
+use joukerpan::{Office, Outcome, Refused};
 
-/// The own edits, and moves of weight, that a take or an election has lost: pending before, neither pending
-/// nor settled after. They settle oldest first, and what is behind a lost one is lost with it.
-pub fn lost(before: &Office, after: &Office) -> Vec<Entry> {
-    let known = before.settled_length() - after.dropped(); // of those that are left; nothing new is dropped
-    let news = after.settled().iter().skip(known as usize);
-    let settled = news.filter(|&&word| usize::from(Entry::from(word).office) == after.own()).count();
-    before.pending().into_iter().skip(settled + after.pending().len()).collect()
+/// Takes the message and elects. The outcome names the own edits, and moves of weight, that are lost by it, the oldest
+/// first: the service tells its supervisor, or issues them again.
+pub fn hear(office: &mut Office, message: &[u8]) -> Result<Outcome, Refused> {
+    Ok(office.take(message)?.then(office.elect()))
 }

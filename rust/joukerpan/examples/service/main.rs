@@ -18,7 +18,7 @@ use std::{env, fs, process, thread};
 use desk::Desk;
 use dice::Dice;
 use joukerpan::{Office, Refused, LINES};
-use lost::lost;
+use lost::hear;
 use network::Network;
 use storage::{store, stored};
 
@@ -26,7 +26,7 @@ const WEIGHTS: [u16; 3] = [40, 35, 25];
 /// Turns of the offices together.
 const TURNS: usize = 400;
 
-type Outcome<T> = Result<T, Box<dyn Error + Send + Sync>>;
+type Answer<T> = Result<T, Box<dyn Error + Send + Sync>>;
 
 /// The file of an office.
 fn file_of(folder: &Path, own: usize) -> PathBuf {
@@ -47,7 +47,7 @@ fn live(network: &Network, dice: &mut Dice) {
 }
 
 /// Runs the desks to the end of the turns, each in a thread of its own.
-fn run<'a>(desks: Vec<Desk<'a>>, network: &'a Network, dice: &mut Dice) -> Outcome<Vec<Desk<'a>>> {
+fn run<'a>(desks: Vec<Desk<'a>>, network: &'a Network, dice: &mut Dice) -> Answer<Vec<Desk<'a>>> {
     thread::scope(|scope| {
         let threads: Vec<_> = desks.into_iter().map(|desk| scope.spawn(|| desk.run())).collect();
         live(network, dice);
@@ -59,17 +59,16 @@ fn run<'a>(desks: Vec<Desk<'a>>, network: &'a Network, dice: &mut Dice) -> Outco
 fn hear_all(offices: &mut [Office]) -> Result<usize, Refused> {
     let mut gone = 0;
     loop {
-        let before = offices.to_vec();
+        let mut changed = false;
         for own in 0..offices.len() {
             for from in (0..offices.len()).filter(|&from| from != own) {
-                let seen = offices[own].clone();
                 let message = offices[from].message();
-                offices[own].take(&message)?;
-                offices[own].elect();
-                gone += lost(&seen, &offices[own]).len();
+                let outcome = hear(&mut offices[own], &message)?;
+                gone += outcome.lost.len();
+                changed |= outcome.changed;
             }
         }
-        if offices == before {
+        if !changed {
             return Ok(gone);
         }
     }
@@ -80,7 +79,7 @@ fn alike(a: &Office, b: &Office) -> bool {
     a.frame() == b.frame() && a.settled() == b.settled() && a.present() == b.present()
 }
 
-fn main() -> Outcome<()> {
+fn main() -> Answer<()> {
     let seed = env::args().nth(1).map_or(Ok(1), |seed| seed.parse())?;
     let folder = env::temp_dir().join(format!("joukerpan-service-{}", process::id()));
     fs::create_dir_all(&folder)?;

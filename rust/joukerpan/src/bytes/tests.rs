@@ -20,7 +20,7 @@ fn office() -> Office {
     let mut office = Office::found(1, &[40, 60, 0]).unwrap();
     office.issue(5, 130).unwrap();
     office.move_weight(2, 10).unwrap();
-    assert_eq!(office.elect(), 2);
+    assert_eq!(office.elect().grown, 2);
     office.issue(6, 7).unwrap();
     office
 }
@@ -36,7 +36,7 @@ fn folded() -> Office {
         other.take(&early.message()).unwrap();
         office.take(&other.message()).unwrap();
     }
-    assert_eq!((office.fold(), office.settled().len()), (1, 1));
+    assert_eq!((office.fold().dropped, office.settled().len()), (1, 1));
     office
 }
 

@@ -3,17 +3,13 @@
 use joukerpan_sys as engine;
 use joukerpan_sys::{LINES, LOG, MESSAGE_MAX};
 
-use crate::{Entry, Office, Refused};
+use crate::{Entry, Office, Outcome, Refused};
 
 impl Office {
     /// The office's own entries that are not settled yet, the oldest first: edits, and moves of weight.
     ///
-    /// An edit leaves this list in a take or an election, settled or **lost**: a place of the settled
-    /// log takes one entry, of whatever line, and when another office's wins the place of an edit or
-    /// an earlier one, the edit and those behind it are gone, with no refusal. A service that tells its
-    /// supervisors compares this list and the settled log before and after each take and elect
-    /// (docs/EMBEDDING.md of the repository). Entries that this office has adopted from others are
-    /// not its own and are not in the list.
+    /// An edit leaves this list in a take or an election, settled or **lost**, with no refusal. Each take, election and fold
+    /// says which ([`Outcome`]). Entries that this office has adopted from others are not its own and are not in the list.
     ///
     /// ```
     /// use joukerpan::{Entry, Office, Refused};
@@ -21,16 +17,6 @@ impl Office {
     /// let mut office = Office::found(1, &[40, 35, 25])?;
     /// office.issue(5, 130)?;
     /// assert_eq!(office.pending(), [Entry { office: 1, line: 5, code: 130 }]);
-    ///
-    /// let mut other = Office::found(0, &[40, 35, 25])?;
-    /// let mut third = Office::found(2, &[40, 35, 25])?;
-    /// other.issue(6, 7)?;              // another line, and the same place
-    /// third.take(&other.message())?;
-    /// assert_eq!(third.elect(), 1);
-    ///
-    /// office.take(&third.message())?;  // done, and the edit is lost
-    /// assert_eq!(office.pending(), []);
-    /// assert_eq!((office.settled_frame(5), office.tentative_frame(5)), (Ok(None), Ok(None)));
     /// # Ok::<(), Refused>(())
     /// ```
     pub fn pending(&self) -> Vec<Entry> {
@@ -39,8 +25,7 @@ impl Office {
         entries.filter(|entry| usize::from(entry.office) == self.record.own).collect()
     }
 
-    /// Edits the frame: appends the entry to the office's own ballot. It can lose: see
-    /// [`Office::pending`].
+    /// Edits the frame: appends the entry to the office's own ballot. It can lose: see [`Outcome`].
     ///
     /// Lines 0 to 63 have codes 0 to 9999. Line 64 + j is a move of weight to office j, with the weight
     /// as its code: see [`Office::move_weight`].
@@ -94,12 +79,12 @@ impl Office {
     /// closing.move_weight(0, 25)?;
     ///
     /// here.take(&closing.message())?;                // office 0 joins: 65 of 100
-    /// assert_eq!(here.elect(), 1);
+    /// assert_eq!(here.elect().grown, 1);
     /// assert_eq!(here.present(), [65, 35, 0]);
     /// assert_eq!(here.weights(), [40, 35, 25]);
     ///
     /// here.issue(5, 120)?;
-    /// assert_eq!(here.elect(), 1);                   // 65 is above the unheard 35
+    /// assert_eq!(here.elect().grown, 1);             // 65 is above the unheard 35
     /// # Ok::<(), Refused>(())
     /// ```
     pub fn move_weight(&mut self, to: usize, weight: u16) -> Result<(), Refused> {
@@ -107,15 +92,16 @@ impl Office {
         self.issue(LINES.saturating_add(to), weight.into())
     }
 
-    /// Settles the entries that have won, and answers how many: 0 where none has. Each is counted by the
-    /// present weights that those before it have left; a tie goes to the entry whose office has fewer settled
-    /// entries then, and then to the lower value.
-    pub fn elect(&mut self) -> usize {
+    /// Settles the entries that have won. [`Outcome::grown`] says how many, 0 where none has, and the rest of the outcome
+    /// what became of the own ones. Each is counted by the present weights that those before it have left; a tie goes to
+    /// the entry whose office has fewer settled entries then, and then to the lower value.
+    pub fn elect(&mut self) -> Outcome {
+        let before = self.record;
         // SAFETY: the log names its words, which nothing else does, for as long as the call lasts.
-        let elected = unsafe { engine::joukerpan_elect(self.record, self.log.as_mut_ptr(), LOG) };
+        let elected = unsafe { engine::joukerpan_elect(before, self.log.as_mut_ptr(), LOG) };
         debug_assert_eq!(elected.number, 0, "an office is sound");
         self.record = elected.record;
-        elected.count
+        self.outcome(&before)
     }
 
     /// Writes the office's message to the front of the output and answers that part.
@@ -153,8 +139,8 @@ impl Office {
 
     /// Works in another office's message: drops what its sender had dropped, writes the settled entries that are
     /// missing here, with the weights that they move and the codes that they set, adopts every ballot that is more
-    /// than what is known, and notes how far the sender is. The same message again changes nothing.
-    /// [`Office::take_with_places`] also says how far the logs were compared.
+    /// than what is known, and notes how far the sender is. The same message again changes nothing. The outcome says what
+    /// became of the own edits; [`Office::take_with_places`] also how far the logs were compared.
     ///
     /// # Errors
     ///
@@ -170,7 +156,7 @@ impl Office {
     /// assert_eq!(office.take(&office.message()), Err(Refused::OwnMessage));
     /// # Ok::<(), Refused>(())
     /// ```
-    pub fn take(&mut self, message: &[u8]) -> Result<(), Refused> {
+    pub fn take(&mut self, message: &[u8]) -> Result<Outcome, Refused> {
         self.take_with_places(message).0
     }
 
@@ -196,8 +182,8 @@ impl Office {
     ///
     /// let sender = settled(&[120, 130, 140, 150])?;
     /// let mut other = Office::found(1, &[1, 0])?;
-    /// assert_eq!(other.take_with_places(&sender.message()), (Ok(()), 0)); // no place that both have
-    /// assert_eq!(other.take_with_places(&sender.message()), (Ok(()), 4));
+    /// assert_eq!(other.take_with_places(&sender.message()).1, 0); // no place that both have
+    /// assert_eq!(other.take_with_places(&sender.message()).1, 4);
     /// assert_eq!(other.take_with_places(b"no message"), (Err(Refused::NoMessage), 0));
     ///
     /// // An office 0 founded again, as none should be: its third place differs, and so does its first.
@@ -205,12 +191,13 @@ impl Office {
     /// assert_eq!(other.take_with_places(&again.message()), (Err(Refused::OtherLog), 2));
     /// # Ok::<(), Refused>(())
     /// ```
-    pub fn take_with_places(&mut self, message: &[u8]) -> (Result<(), Refused>, usize) {
+    pub fn take_with_places(&mut self, message: &[u8]) -> (Result<Outcome, Refused>, usize) {
+        let before = self.record;
         // SAFETY: log and message name their elements for as long as the call lasts; the log, which
         // the engine writes, is this office's own.
         let taken =
-            unsafe { engine::joukerpan_take(self.record, self.log.as_mut_ptr(), LOG, message.as_ptr(), message.len()) };
+            unsafe { engine::joukerpan_take(before, self.log.as_mut_ptr(), LOG, message.as_ptr(), message.len()) };
         self.record = taken.record;
-        (Refused::check(taken.number), taken.places)
+        (Refused::check(taken.number).map(|()| self.outcome(&before)), taken.places)
     }
 }

@@ -107,7 +107,7 @@ impl Stage {
             Some(sent) => (&sent.bytes[..], Some(sent.number)),
             None => (&[][..], None),
         };
-        let taken = self.offices[office].take(bytes);
+        let taken = self.offices[office].take(bytes).map(|_| ());
         let notes = match taken {
             Ok(()) => notes::taken(&before, &self.offices[office]),
             Err(refused) => vec![notes::refused(refused)],
@@ -119,7 +119,7 @@ impl Stage {
 
     fn elect(&mut self, office: usize) -> Option<Played> {
         let before = self.offices.get(office)?.clone();
-        let count = self.offices[office].elect();
+        let count = self.offices[office].elect().grown;
         let notes = notes::elected(&before, &self.offices[office]);
         Some((format!("e 0 {count}"), Act::Call { office, notes, message: None }))
     }
