@@ -48,7 +48,7 @@ use Rattle.frame.specs.Issuing.{issueNumber, issueOf}
 use Rattle.frame.specs.Sending.{sendBytes, sendNumber, sendOf}
 use Rattle.frame.specs.Soundness.{soundB}
 use Rattle.frame.specs.Taking.{sameOffices, takeNumber, takeOf, takeWords, takenOffice}
-use Rattle.fates.specs.Fates.{common, settledOf, lostOf}
+use Rattle.pending.specs.Parts.{common, settledOf, lostOf}
 use Rattle.agreement.specs.World.{Replica, World, Call, issue, send, take, elect, replicaAt, number, step, after}
 use Rattle.agreement.specs.Demand.{Founded, says, logAt, viewAt, order, IssuedIn}
 use Rattle.agreement.proofs.Founded.{foundReplica}

@@ -1,5 +1,5 @@
 -- What became of an edit: "a call on the record before and after a take, elect or fold at one office, and the log after it". What it tells of the own
--- tail is defined in `fates`; here is where that tail, the log and the own path stand in the two records. Assumes nothing.
+-- tail is defined in `pending`; here is where that tail, the log and the own path stand in the two records. Assumes nothing.
 use mathlib.Core.Bool.{Bool}
 use mathlib.Core.List.{List}
 use Prim.Native.Nat.{ℕ, _-_}
@@ -8,9 +8,9 @@ use lib.ListN.{drop}
 use Rattle.lists.specs.Tests.{both, pick, same}
 use Rattle.protocol.specs.Office.{path}
 use Rattle.ballots.specs.Ballots.{tailOf, ballotsFine}
-use Rattle.fates.specs.Fates.{settledPart, pendingPart, lostPart, entriesOf}
-use Rattle.fates.specs.Told.{toldOf, toldWords, toldRefused}
-use Rattle.fates.specs.declared.Told.{Told}
+use Rattle.pending.specs.Parts.{settledPart, pendingPart, lostPart, entriesOf}
+use Rattle.pending.specs.Told.{toldOf, toldWords, toldRefused}
+use Rattle.pending.specs.declared.Told.{Told}
 use Rattle.frame.specs.State.{heldLength, heldBy, ownBallot}
 use Rattle.frame.specs.Soundness.{soundB}
 use Rattle.frame.specs.declared.Record.{Record}

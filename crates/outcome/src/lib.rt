@@ -80,7 +80,7 @@ pub fn report(before: Record, after: Record, log: &[u32], rest: &mut [u32]) -> O
     let end = now.len;
     let from = (before.settled - after.kept.dropped) as usize;
     let held = (after.settled - after.kept.dropped) as usize;
-    let told = fates::tell(own, &cells[..len], &log[from..held], &later[..end], rest);
+    let told = pending::tell(own, &cells[..len], &log[from..held], &later[..end], rest);
     Outcome {
         number: told.number,
         settled: told.settled,

@@ -7,8 +7,8 @@ use Prim.Native.Nat.{ℕ}
 use lib.Dec.{leb}
 use lib.ListN.{length, drop}
 use Rattle.lists.specs.Tests.{pick}
-use Rattle.fates.specs.Fates.{settledPart, pendingPart, lostPart, entriesOf}
-use Rattle.fates.specs.declared.Told.{Told}
+use Rattle.pending.specs.Parts.{settledPart, pendingPart, lostPart, entriesOf}
+use Rattle.pending.specs.declared.Told.{Told}
 
 -- the own entries that did not settle: those pending still, and behind them those lost (law `rest-parts`)
 abbrev pub restOf : ℕ → List ℕ → List ℕ → List ℕ

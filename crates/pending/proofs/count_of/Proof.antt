@@ -4,10 +4,10 @@ use mathlib.Core.Path.{_≡_, ap}
 use Prim.Native.Nat.{_+_, _-_, _≤_}
 use native.Mathlib.Omega.{arith}
 use lib.ListN.{length, drop}
-use Rattle.fates.specs.Fates.{entriesOf}
-use Rattle.fates.proofs.Own.{count-next, own-done}
-use Rattle.fates.proofs.count_of.Statement.{statement}
-use Rattle.fates.proofs.count_of.Tie as tie
+use Rattle.pending.specs.Parts.{entriesOf}
+use Rattle.pending.proofs.Own.{count-next, own-done}
+use Rattle.pending.proofs.count_of.Statement.{statement}
+use Rattle.pending.proofs.count_of.Tie as tie
 
 abbrev Inv-loop : tie.InvT-loop
 Inv-loop office words count₀ i₀ i-end count i = (i ≤ length words) × (count ≤ i) × (length (entriesOf office words) ≡ count + length (entriesOf office (drop i words)))

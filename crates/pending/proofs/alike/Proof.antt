@@ -4,10 +4,10 @@ use mathlib.Core.Path.{_≡_}
 use Prim.Native.Nat.{_+_, _-_, _≤_, min}
 use native.Mathlib.Omega.{arith}
 use lib.ListN.{length, drop}
-use Rattle.fates.specs.Fates.{common}
-use Rattle.fates.proofs.Common.{common-next, common-stop, common-done}
-use Rattle.fates.proofs.alike.Statement.{statement}
-use Rattle.fates.proofs.alike.Tie as tie
+use Rattle.pending.specs.Parts.{common}
+use Rattle.pending.proofs.Common.{common-next, common-stop, common-done}
+use Rattle.pending.proofs.alike.Statement.{statement}
+use Rattle.pending.proofs.alike.Tie as tie
 
 abbrev Inv-loop : tie.InvT-loop
 Inv-loop a b most i₀ i = (most ≡ min (length a) (length b)) × (i ≤ most) × (length (common a b) ≡ i + length (common (drop i a) (drop i b)))

@@ -1,3 +1,3 @@
 -- The three parts of an office's own tail after a call, and what is told of them.
-pub mod Fates
+pub mod Parts
 pub mod Told

@@ -4,9 +4,9 @@ use mathlib.Core.Path.{sym}
 use mathlib.Core.List.{_++_}
 use lib.Seq.{length-take-le}
 use Rattle.protocol.proofs.Beginning.{⊑-append}
-use Rattle.fates.proofs.Telling.{Cut, tell-short, tell-room, tell-done}
-use Rattle.fates.proofs.tell.Statement.{statement}
-use Rattle.fates.proofs.tell.Tie as tie
+use Rattle.pending.proofs.Telling.{Cut, tell-short, tell-room, tell-done}
+use Rattle.pending.proofs.tell.Statement.{statement}
+use Rattle.pending.proofs.tell.Tie as tie
 
 -- the places of the code: where all is counted, and from there the walks and the start
 abbrev walked : tie.After-count-of3 → tie.After-kept

@@ -4,8 +4,8 @@ ghost use mathlib.Core.List.{_++_, _∷_, []};
 ghost use Prim.Native.Nat.{_+_, _≤_};
 ghost use lib.ListN.{length};
 ghost use lib.Seq.{sets};
-ghost use Rattle.fates.specs.Fates.{common, entriesOf};
-ghost use Rattle.fates.specs.Told.{toldOf, toldWords};
+ghost use Rattle.pending.specs.Parts.{common, entriesOf};
+ghost use Rattle.pending.specs.Told.{toldOf, toldWords};
 
 // Of the own entries that were pending, how many settled, how many are pending still and how many are lost. `number` is 0 when it is done.
 pub struct Told {

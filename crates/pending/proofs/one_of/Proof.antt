@@ -2,9 +2,9 @@ use borrow.Author.Needs.{needs}
 use mathlib.Core.Path.{sym, ap}
 use native.Mathlib.Omega.{arith}
 use lib.ListN.{length}
-use Rattle.fates.proofs.Own.{one-own, one-other}
-use Rattle.fates.proofs.one_of.Statement.{statement}
-use Rattle.fates.proofs.one_of.Tie as tie
+use Rattle.pending.proofs.Own.{one-own, one-other}
+use Rattle.pending.proofs.one_of.Statement.{statement}
+use Rattle.pending.proofs.one_of.Tie as tie
 
 returns : tie.Need-returns
 returns c = let a = c .before .args in (sym (ap length (one-own (a .office) (a .word) (c .if1 .taken))), omega arith)

@@ -5,10 +5,10 @@ use Prim.Native.Nat.{_-_, _≤_}
 use native.Mathlib.Omega.{arith}
 use lib.ListN.{length, getD, drop}
 use Rattle.lists.proofs.Stores.{Left, left-all, left-next, left-none}
-use Rattle.fates.specs.Fates.{entriesOf}
-use Rattle.fates.proofs.Own.{own-next, own-done, count-next}
-use Rattle.fates.proofs.write_of.Statement.{statement}
-use Rattle.fates.proofs.write_of.Tie as tie
+use Rattle.pending.specs.Parts.{entriesOf}
+use Rattle.pending.proofs.Own.{own-next, own-done, count-next}
+use Rattle.pending.proofs.write_of.Statement.{statement}
+use Rattle.pending.proofs.write_of.Tie as tie
 
 abbrev Inv-loop : tie.InvT-loop
 Inv-loop office words out₀ at₀ i₀ i-end out at i = (i ≤ length words) × Left out₀ 0 (entriesOf office words) out at (entriesOf office (drop i words))

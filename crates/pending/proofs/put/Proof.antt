@@ -3,9 +3,9 @@ use mathlib.Core.Path.{sym, ap, _∙_}
 use native.Mathlib.Omega.{arith}
 use lib.ListN.{length}
 use lib.Seq.{sets}
-use Rattle.fates.proofs.Own.{one-none, one-whole}
-use Rattle.fates.proofs.put.Statement.{statement}
-use Rattle.fates.proofs.put.Tie as tie
+use Rattle.pending.proofs.Own.{one-none, one-whole}
+use Rattle.pending.proofs.put.Statement.{statement}
+use Rattle.pending.proofs.put.Tie as tie
 
 returns : tie.Need-returns
 returns c =

@@ -6,10 +6,10 @@ use Prim.Native.Nat.{ℕ}
 use native.Mathlib.Omega.{arith}
 use lib.ListN.{length, length-drop}
 use Rattle.lists.proofs.Walk.{rest-part}
-use Rattle.fates.specs.Fates.{common}
-use Rattle.fates.proofs.Common.{common-short, kept-more}
-use Rattle.fates.proofs.kept.Statement.{statement}
-use Rattle.fates.proofs.kept.Tie as tie
+use Rattle.pending.specs.Parts.{common}
+use Rattle.pending.proofs.Common.{common-short, kept-more}
+use Rattle.pending.proofs.kept.Statement.{statement}
+use Rattle.pending.proofs.kept.Tie as tie
 
 returns : tie.Need-returns
 returns c =
