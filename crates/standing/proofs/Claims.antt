@@ -8,20 +8,20 @@ use Prim.Native.Nat.{ℕ, _+_, _-_, _<_, _≤_}
 use native.Mathlib.Decide.{decLt}
 use native.Mathlib.Omega.{arith}
 use lib.Dec.{eqb}
-use lib.ListN.{length, getD, drop, length-map}
+use lib.ListN.{length, getD, drop, length-map, length-append}
 use lib.Seq.{getD-drop, getD-at, getD-set-same, getD-set-other}
 use borrow.Author.Tests.{eqb-true}
 use Rattle.lists.specs.Tests.{allB}
 use Rattle.lists.proofs.Tests.{all-getD}
 use Rattle.protocol.specs.Counts.{quieter}
-use Rattle.protocol.specs.Elect.{settle, withElect}
+use Rattle.protocol.specs.Elect.{settle, withElect, electCount}
 use Rattle.protocol.specs.Folding.{withFoldedElect}
 use Rattle.protocol.specs.Limits.{total}
 use Rattle.protocol.specs.Moves.{weightsAfter, weightOf}
-use Rattle.protocol.specs.Office.{Office, first}
+use Rattle.protocol.specs.Office.{Office, first, votes}
 use Rattle.protocol.specs.Vote.{Votes, isNone, tally, unheard, winner, Rule}
 use Rattle.protocol.specs.Winning.{Supported}
-use Rattle.protocol.proofs.Elect.{elect-log, elect-none, elect-some, count-some}
+use Rattle.protocol.proofs.Elect.{elect-log, elect-none, elect-some}
 use Rattle.protocol.proofs.Moves.{weights-length, weights-total, weights-zero}
 use Rattle.protocol.proofs.Vote.{NamesVoted, byLog-voted}
 use Rattle.summary.specs.declared.Summary.{Summary}
@@ -122,8 +122,17 @@ module _ (r : Record) (words : List ℕ) (S : Sound r words) where
   settles-none : winnerOf r words ≡ none → electOf r words .count ≡ 0
   settles-none q = omega (arith, elected .counted, ap (λ (o : Office). length (o .log)) (elect-none rule (heldBy r words) q))
 
+  -- where an entry wins, elect settles one more than behind it
+  count-some : (o : Office) (e : ℕ) → rule (o .log) (votes o) ≡ some e → electCount rule o ≡ 1 + electCount rule (settle e o)
+  unfolding settle
+  count-some o e q =
+      let l : ℕ = length (withElect rule (settle e o) .log) in
+      let g = elect-log rule (settle e o) in
+      let whole : l ≡ length (o .log ++ (e ∷ [])) + length (g .0) = ap length (g .1) ∙ length-append (o .log ++ (e ∷ [])) (g .0) in
+      omega (arith, ap (λ (r : Office). length (r .log)) (elect-some rule voted o e q), whole, length-append (o .log) (e ∷ []))
+
   settles-one : (e : ℕ) → winnerOf r words ≡ some e → 1 ≤ electOf r words .count
-  settles-one e q = omega (arith, elected .counted, count-some rule voted (heldBy r words) e q)
+  settles-one e q = omega (arith, elected .counted, count-some (heldBy r words) e q)
 
   settles-first : (e : ℕ) → winnerOf r words ≡ some e → getD (electWords r words) (heldLength r) 0 ≡ e
   unfolding withFoldedElect settle
