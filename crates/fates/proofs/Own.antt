@@ -31,7 +31,8 @@ unfolding entriesOf
 stands-entries k l e h s = record {
   front = entriesOf k (s .front);
   rest = entriesOf k (s .rest);
-  whole = ap (entriesOf k) (s .whole) ∙ entries-append k (s .front) (e ∷ s .rest) ∙ ap (λ (t : Bool). entriesOf k (s .front) ++ cond t (e ∷ entriesOf k (s .rest)) (entriesOf k (s .rest))) (eq-eqb (officeOf e) k h);
+  whole = ap (entriesOf k) (s .whole) ∙ entries-append k (s .front) (e ∷ s .rest)
+      ∙ ap (λ (t : Bool). entriesOf k (s .front) ++ cond t (e ∷ entriesOf k (s .rest)) (entriesOf k (s .rest))) (eq-eqb (officeOf e) k h);
 }
 
 pub entries-stand : (k : ℕ) (l : List ℕ) (e : ℕ) → Stands (entriesOf k l) e → (officeOf e ≡ k) × Stands l e
@@ -46,7 +47,8 @@ entries-stand k (x ∷ l) e s = go (eqb (officeOf x) k) refl (s .front) (s .whol
     later : (officeOf e ≡ k) × Stands l e → (officeOf e ≡ k) × Stands (x ∷ l) e
     later h = (h .0, record { front = x ∷ h .1 .front; rest = h .1 .rest; whole = ap (λ (r : List ℕ). x ∷ r) (h .1 .whole) })
 
-    go : (t : Bool) → eqb (officeOf x) k ≡ t → (a : List ℕ) → cond t (x ∷ entriesOf k l) (entriesOf k l) ≡ a ++ (e ∷ s .rest) → (Stands (entriesOf k l) e → (officeOf e ≡ k) × Stands l e) → (officeOf e ≡ k) × Stands (x ∷ l) e
+    go : (t : Bool) → eqb (officeOf x) k ≡ t → (a : List ℕ) → cond t (x ∷ entriesOf k l) (entriesOf k l) ≡ a ++ (e ∷ s .rest)
+        → (Stands (entriesOf k l) e → (officeOf e ≡ k) × Stands l e) → (officeOf e ≡ k) × Stands (x ∷ l) e
     go true d [] q ih = let same : x ≡ e = cc in (ap officeOf (sym same) ∙ eqb-true (officeOf x) k d, record { front = []; rest = l; whole = ap (λ (z : ℕ). z ∷ l) same })
     go true d (y ∷ a) q ih = later (ih (record { front = a; rest = s .rest; whole = cc }))
     go false d a q ih = later (ih (record { front = a; rest = s .rest; whole = q }))

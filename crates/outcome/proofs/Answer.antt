@@ -61,7 +61,9 @@ module _ (before after : Record) (words : List ℕ) where
     eight = sym (length-map (before .ballots) tailOf) ∙ eqb-true _ 8 (both-0 _ _ (both-1 _ _ (F .fine)))
 
     pub was-fine : B.Fine (before .n) (heldLength before) (ownBallot before)
-    was-fine = B.fine _ _ _ (all-at (ballotFine (before .n) (heldLength before)) offEnd (before .ballots) (before .own) (both-0 _ _ (sym (places-fine (before .n) (heldLength before) (before .ballots) eight) ∙ F .fine)) (omega (arith, eight, member)))
+    was-fine =
+        let each = both-0 _ _ (sym (places-fine (before .n) (heldLength before) (before .ballots) eight) ∙ F .fine) in
+        B.fine _ _ _ (all-at (ballotFine (before .n) (heldLength before)) offEnd (before .ballots) (before .own) each (omega (arith, eight, member)))
 
     pub is-fine : B.Fine (after .n) (heldLength after) (getD (after .ballots) (before .own) offEnd)
     is-fine = ballot after words S (before .own) member
@@ -87,8 +89,10 @@ module _ (before after : Record) (words : List ℕ) where
         told ≡ toldOf (before .own) (tailBefore before) l (l ++ tailOf (getD (after .ballots) (before .own) offEnd)) rest
         → (rest' : List ℕ) → rest' ≡ toldWords (before .own) (tailBefore before) l rest → Reports before after words rest (outcomeIs told) rest'
     unfolding reportOf reportWords pick
-    report-made rest told e rest' w =
-        (simp can-report (ap outcomeIs (e ∙ λ i. toldOf (before .own) (tailBefore before) (log-part i) (whole i) rest)), simp can-report (w ∙ ap (λ (l : List ℕ). toldWords (before .own) (tailBefore before) l rest) log-part))
+    report-made rest told e rest' w = (
+      simp can-report (ap outcomeIs (e ∙ λ i. toldOf (before .own) (tailBefore before) (log-part i) (whole i) rest)),
+      simp can-report (w ∙ ap (λ (l : List ℕ). toldWords (before .own) (tailBefore before) l rest) log-part),
+    )
       where
         whole : take (heldLength after - placeIn before after) (drop (placeIn before after) words) ++ tailOf (getD (after .ballots) (before .own) offEnd) ≡ pathSince before after words
         whole = ap (λ (l : List ℕ). l ++ tailOf (getD (after .ballots) (before .own) offEnd)) log-part ∙ path-part

@@ -68,7 +68,8 @@ module _ (before after : Record) where
   follows-other q = follows-not (λ F. true≢false (sym (ap (same (before .weights)) (sym (F .weights)) ∙ same-refl (before .weights)) ∙ q))
 
   -- where the facts hold but for the last, it decides
-  pub follows-last : (t : Bool) → t ≡ ballotsFine (before .n) (heldLength before) (before .ballots) → before .n ≡ after .n → before .own ≡ after .own → before .weights ≡ after .weights → before .settled ≤ after .settled
+  pub follows-last : (t : Bool) → t ≡ ballotsFine (before .n) (heldLength before) (before .ballots)
+      → before .n ≡ after .n → before .own ≡ after .own → before .weights ≡ after .weights → before .settled ≤ after .settled
       → after .kept .dropped ≤ before .settled → before .kept .dropped ≤ before .settled → heldLength before ≤ 1024 → t ≡ follows before after
   follows-last t q p1 p2 p3 p4 p5 p6 p7 = go t q
     where
