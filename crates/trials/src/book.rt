@@ -1,10 +1,10 @@
 // All that a trial holds is one list of numbers, its book, in the digest's order: the record's numbers, the log's length and words, the
 // output's length and bytes, the message's length and bytes; and behind them the line that is read. A place of the book is 64 bits wide;
-// what it may hold is said by `limit`.
+// behind all there is as much room as seven ballots have, so that any part may be counted on by ballots.
 ghost use Prim.Native.Nat.{_+_, _≤_, _<_};
 ghost use lib.ListN.{length};
 
-pub type Book = [u64; 15765];
+pub type Book = [u64; 15970];
 
 // Where the weights begin, the present weights, the settled length and the codes; the dropped count, the kept weights, codes and counts, the noted
 // lengths; and the ballots, each a length field and 32 cells.
@@ -30,12 +30,21 @@ pub const BALLOTS: usize = 172;
 
 pub const BALLOT: usize = 33;
 
-// Where the length of the log, of the output and of the message stands. What is in them stands behind it.
+// The cells of the first ballot.
+pub const CELLS: usize = 173;
+
+// Where the length of the log, of the output and of the message stands, and what is in them behind it.
 pub const LOG: usize = 436;
+
+pub const LOG_WORDS: usize = 437;
 
 pub const OUTPUT: usize = 1537;
 
+pub const OUTPUT_BYTES: usize = 1538;
+
 pub const MESSAGE: usize = 8638;
+
+pub const MESSAGE_BYTES: usize = 8639;
 
 // Most words of the log, and most bytes of the output and of the message.
 pub const WORDS: usize = 1100;
@@ -45,40 +54,20 @@ pub const BYTES: usize = 7100;
 // Where the numbers of the line begin, up to 24. All before is the state.
 pub const SAID: usize = 15739;
 
-// How many bytes of a line are held.
-pub const HELD: usize = 15763;
+pub const SECOND: usize = 15740;
 
-// A place that stays zero.
-pub const ZERO: usize = 15764;
+pub const THIRD: usize = 15741;
 
-// The most that a number may be at this place, other than a length of a buffer.
-pub fn limit(place: usize) -> u64 {
-    if place > OUTPUT {
-        return 255;
-    }
-    if place > LOG {
-        return 4294967295;
-    }
-    if place >= BALLOTS {
-        if (place - BALLOTS) % BALLOT == 0 {
-            return u64::MAX;
-        }
-        return 4294967295;
-    }
-    if place >= KEPT_COUNTS {
-        return u64::MAX;
-    }
-    if place >= KEPT_CODES {
-        return 4294967295;
-    }
-    if (place < WEIGHTS) | (place == SETTLED) | (place == DROPPED) {
-        return u64::MAX;
-    }
-    if (place >= CODES) & (place < DROPPED) {
-        return 4294967295;
-    }
-    65535
-}
+pub const NINTH: usize = 15747;
+
+// Places that stay 0, 1 and more than any place, and one that nothing is read from.
+pub const ZERO: usize = 15763;
+
+pub const ONE: usize = 15764;
+
+pub const MANY: usize = 15765;
+
+pub const SPARE: usize = 15766;
 
 // The place of the number that is written at turn i, where there are `each` of them.
 fn turn(i: usize, each: usize) -> usize
@@ -90,8 +79,8 @@ fn turn(i: usize, each: usize) -> usize
 
 // Writes the `each` numbers from place `from` on, over and over, `total` in all, from place `to` on.
 pub fn write(book: &mut Book, to: usize, total: usize, from: usize, each: usize)
-    requires { ⌜ to + total ≤ 15765 ⌝ }
-    requires { ⌜ from + each ≤ 15765 ⌝ }
+    requires { ⌜ to + total ≤ 15970 ⌝ }
+    requires { ⌜ from + each ≤ 15970 ⌝ }
     requires { ⌜ 0 < each ⌝ }
 {
     for i in 0..total {
@@ -99,7 +88,7 @@ pub fn write(book: &mut Book, to: usize, total: usize, from: usize, each: usize)
     }
 }
 
-pub fn wide(x: u32) -> u64 {
+fn of_word(x: u32) -> u64 {
     x as u64
 }
 
@@ -109,7 +98,7 @@ fn of_byte(x: u8) -> u64 {
 
 // The numbers from this place on as words: the low 32 bits of each.
 pub fn to_words(book: &Book, at: usize, to: &mut [u32])
-    requires { ⌜ at + length (now to) ≤ 15765 ⌝ }
+    requires { ⌜ at + length (now to) ≤ 15970 ⌝ }
 {
     for i in 0..to.len() {
         to[i] = (book[at + i] % 4294967296) as u32;
@@ -118,16 +107,16 @@ pub fn to_words(book: &Book, at: usize, to: &mut [u32])
 
 // Writes words as numbers from this place on.
 pub fn from_words(from: &[u32], book: &mut Book, at: usize)
-    requires { ⌜ at + length (now from) ≤ 15765 ⌝ }
+    requires { ⌜ at + length (now from) ≤ 15970 ⌝ }
 {
     for i in 0..from.len() {
-        book[at + i] = wide(from[i]);
+        book[at + i] = of_word(from[i]);
     }
 }
 
 // The numbers from this place on as bytes: the low 8 bits of each.
 pub fn to_bytes(book: &Book, at: usize, to: &mut [u8])
-    requires { ⌜ at + length (now to) ≤ 15765 ⌝ }
+    requires { ⌜ at + length (now to) ≤ 15970 ⌝ }
 {
     for i in 0..to.len() {
         to[i] = (book[at + i] % 256) as u8;
@@ -136,7 +125,7 @@ pub fn to_bytes(book: &Book, at: usize, to: &mut [u8])
 
 // Writes bytes as numbers from this place on.
 pub fn from_bytes(from: &[u8; 7100], book: &mut Book, at: usize)
-    requires { ⌜ at + 7100 ≤ 15765 ⌝ }
+    requires { ⌜ at + 7100 ≤ 15970 ⌝ }
 {
     for i in 0..7100 {
         book[at + i] = of_byte(from[i]);

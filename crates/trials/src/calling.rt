@@ -1,4 +1,5 @@
-// The lines that call, and what each call answers. A call is lent the log; `S`, `T` and `H` also lend the output or the message.
+// The lines that call, and what each call answers. A call is lent the log, and the output by `S` and `W` or else the message.
+ghost use Prim.Native.Nat.{_≤_};
 use crate::book;
 use crate::book::Book;
 use crate::book::SAID;
@@ -16,26 +17,10 @@ fn print(number: u64) {
     io::print_decimal(1, number);
 }
 
-// The low 32 bits.
-fn word(number: u64) -> u32 {
-    (number % 4294967296) as u32
-}
-
-// `F n own w0 … w7`
-fn found(book: &mut Book, log: &[u32]) {
-    let weights = record::weights(book, SAID + 2);
-    let founded = Record::found(book[SAID] as usize, book[SAID + 1] as usize, weights, log);
-    let next = founded.record;
-    print(founded.number as u64);
-    record::keep(next, book);
-}
-
-// `I line code`
-fn issue(book: &mut Book, log: &[u32]) {
-    let issued = record::of(book).issue(log, word(book[SAID]), word(book[SAID + 1]));
-    let next = issued.record;
-    print(issued.number as u64);
-    record::keep(next, book);
+// Prints a call's number and another behind it.
+fn tell(number: u32, more: u64) {
+    print(number as u64);
+    print(more);
 }
 
 // The digest of words, 1100 at most.
@@ -43,18 +28,9 @@ fn part_digest(part: &[u32]) -> u64 {
     if part.len() > book::WORDS {
         return 0;
     }
-    let mut numbers = [0u64; 15765];
+    let mut numbers = [0u64; 15970];
     book::from_words(part, &mut numbers, 0);
     digest::with_all(0, &numbers, 0, part.len())
-}
-
-// `P`
-fn settled(book: &Book, log: &[u32]) {
-    let mut number: u32 = 0;
-    let part = record::of(book).settled(log, &mut number);
-    print(number as u64);
-    print(part.len() as u64);
-    print(part_digest(part));
 }
 
 // What a frame shows, as codes are stored: 0 for no edit yet, else the code + 1.
@@ -65,133 +41,6 @@ fn stored(edit: Edit) -> u64 {
     }
 }
 
-// `V line`
-fn frames(book: &Book, log: &[u32]) {
-    let settled = both_frames::settled_frame(record::of(book), log, word(book[SAID]));
-    let tentative = both_frames::tentative_frame(record::of(book), log, word(book[SAID]));
-    let now = settled.edit;
-    let soon = tentative.edit;
-    print(settled.number as u64);
-    print(stored(now));
-    print(tentative.number as u64);
-    print(stored(soon));
-}
-
-// `A`
-fn all_lines(book: &Book, log: &[u32]) {
-    let lines = both_frames::all_lines(record::of(book), log);
-    let codes = lines.codes;
-    print(lines.number as u64);
-    print(part_digest(&codes));
-}
-
-// `U`
-fn sound(book: &Book, log: &[u32]) {
-    if record::of(book).sound(log) {
-        print(1);
-        return;
-    }
-    print(0);
-}
-
-// `E`
-fn elect(book: &mut Book, log: &mut [u32]) {
-    let elected = record::of(book).elect(log);
-    let next = elected.record;
-    print(elected.number as u64);
-    print(elected.count as u64);
-    record::keep(next, book);
-}
-
-// `D`
-fn fold(book: &mut Book, log: &mut [u32]) {
-    let folded = record::of(book).fold(log);
-    let next = folded.record;
-    print(folded.number as u64);
-    print(folded.count);
-    record::keep(next, book);
-}
-
-// `S`
-fn send(book: &mut Book, log: &[u32]) {
-    let length = within(book[book::OUTPUT] as usize, book::BYTES);
-    let mut output = [0u8; 7100];
-    book::to_bytes(book, book::OUTPUT + 1, &mut output);
-    let sent = record::of(book).send(log, &mut output[..length]);
-    print(sent.number as u64);
-    print(sent.length as u64);
-    book::from_bytes(&output, book, book::OUTPUT + 1);
-}
-
-// `T`
-fn take(book: &mut Book, log: &mut [u32]) {
-    let length = within(book[book::MESSAGE] as usize, book::BYTES);
-    let mut message = [0u8; 7100];
-    book::to_bytes(book, book::MESSAGE + 1, &mut message);
-    let taken = record::of(book).take(log, &message[..length]);
-    let next = taken.record;
-    print(taken.number as u64);
-    print(taken.places as u64);
-    record::keep(next, book);
-}
-
-// The digest of the class and the total of each of the first rows.
-fn rows_digest(rows: [Row; 64], count: usize) -> u64 {
-    let mut numbers = [0u64; 15765];
-    for i in 0..64 {
-        let row = rows[i];
-        numbers[2 * i] = row.class as u64;
-        numbers[2 * i + 1] = row.total;
-    }
-    digest::with_all(0, &numbers, 0, 2 * within(count, 64))
-}
-
-// `H`
-fn households(book: &Book, log: &[u32]) {
-    let length = within(book[book::MESSAGE] as usize, book::BYTES);
-    let mut message = [0u8; 7100];
-    book::to_bytes(book, book::MESSAGE + 1, &mut message);
-    let made = sheet::household_sheet(record::of(book), log, &message[..length]);
-    let rows = made.rows;
-    print(made.number as u64);
-    print(made.count as u64);
-    print(rows_digest(rows, made.count));
-}
-
-// `Q p`
-fn earlier(book: &Book, log: &[u32]) {
-    let length = within(book[book::MESSAGE] as usize, book::BYTES);
-    let mut lines = [0u32; 7100];
-    book::to_words(book, book::MESSAGE + 1, &mut lines);
-    let made = earlier::frame_at(record::of(book), log, book[SAID], &lines[..length]);
-    let edits = made.edits;
-    print(made.number as u64);
-    print(made.words as u64);
-    print(part_digest(&edits));
-}
-
-// `W`
-fn vectors(book: &mut Book, log: &[u32]) {
-    let length = within(book[book::OUTPUT] as usize, book::BYTES);
-    let mut output = [0u8; 7100];
-    book::to_bytes(book, book::OUTPUT + 1, &mut output);
-    let made = archive::write(record::of(book), log, &mut output[..length]);
-    print(made.number as u64);
-    print(made.length as u64);
-    book::from_bytes(&output, book, book::OUTPUT + 1);
-}
-
-// `C`
-fn compare(book: &Book, log: &[u32]) {
-    let length = within(book[book::MESSAGE] as usize, book::BYTES);
-    let mut message = [0u8; 7100];
-    book::to_bytes(book, book::MESSAGE + 1, &mut message);
-    let made = archive::compare(record::of(book), log, &message[..length]);
-    let answers = made.answers;
-    print(made.number as u64);
-    print(part_digest(&answers));
-}
-
 // The entry that is named, as a frame's code is stored: 0 for none, else its value + 1.
 fn named(winner: Winner) -> u64 {
     match winner {
@@ -200,57 +49,185 @@ fn named(winner: Winner) -> u64 {
     }
 }
 
-// `B l0 … l7 h0 … h7`
-fn forecast(book: &Book, log: &[u32]) {
-    let lowest = record::weights(book, SAID);
-    let highest = record::weights(book, SAID + 8);
-    let made = forecast::first_step(record::of(book), log, lowest, highest);
-    let winner = made.winner;
-    print(made.number as u64);
-    print(named(winner));
+// The digest of the class and the total of each of the first rows.
+fn rows_digest(rows: [Row; 64], count: usize) -> u64 {
+    let mut numbers = [0u64; 15970];
+    for i in 0..64 {
+        let row = rows[i];
+        numbers[2 * i] = row.class as u64;
+        numbers[2 * i + 1] = row.total;
+    }
+    digest::with_all(0, &numbers, 0, 2 * within(count, 64))
 }
 
-// The calls of the crates above `frame`.
-fn make_above(book: &mut Book, letter: u8, log: &[u32]) {
+// `P`, `V`, `A` and `U`.
+fn look(record: Record, letter: u8, log: &[u32], first: u64) {
     match letter {
-        b'H' => households(book, log),
-        b'Q' => earlier(book, log),
-        b'W' => vectors(book, log),
-        b'C' => compare(book, log),
-        _ => forecast(book, log),
+        b'P' => {
+            let mut number: u32 = 0;
+            let part = record.settled(log, &mut number);
+            tell(number, part.len() as u64);
+            print(part_digest(part));
+        }
+        b'V' => {
+            let line = (first % 4294967296) as u32;
+            let settled = both_frames::settled_frame(record, log, line);
+            let now = settled.edit;
+            tell(settled.number, stored(now));
+            let tentative = both_frames::tentative_frame(record, log, line);
+            let soon = tentative.edit;
+            tell(tentative.number, stored(soon));
+        }
+        b'A' => {
+            let lines = both_frames::all_lines(record, log);
+            let codes = lines.codes;
+            tell(lines.number, part_digest(&codes));
+        }
+        _ => print(record.sound(log) as u64),
     }
 }
 
-// Makes the call that the letter names, and prints what it answers.
-fn make(book: &mut Book, letter: u8, log: &mut [u32]) {
+// `H`, `C` and `Q`: each reads the message.
+fn look_at(book: &Book, record: Record, letter: u8, log: &[u32], message: &[u8]) {
     match letter {
-        b'F' => found(book, log),
-        b'I' => issue(book, log),
-        b'P' => settled(book, log),
-        b'V' => frames(book, log),
-        b'A' => all_lines(book, log),
-        b'U' => sound(book, log),
-        b'E' => elect(book, log),
-        b'D' => fold(book, log),
-        b'S' => send(book, log),
-        b'T' => take(book, log),
-        _ => make_above(book, letter, log),
+        b'H' => {
+            let made = sheet::household_sheet(record, log, message);
+            let rows = made.rows;
+            tell(made.number, made.count as u64);
+            print(rows_digest(rows, made.count));
+        }
+        b'C' => {
+            let made = archive::compare(record, log, message);
+            let answers = made.answers;
+            tell(made.number, part_digest(&answers));
+        }
+        _ => {
+            let mut lines = [0u32; 7100];
+            book::to_words(book, book::MESSAGE_BYTES, &mut lines);
+            let length = within(message.len(), book::BYTES);
+            let made = earlier::frame_at(record, log, book[SAID], &lines[..length]);
+            let edits = made.edits;
+            tell(made.number, made.words as u64);
+            print(part_digest(&edits));
+        }
     }
 }
 
-// Makes the call with exactly as much of the log as there is.
+// `F`, `I` and `B`: each reads numbers of the line.
+fn begin(book: &Book, record: Record, letter: u8, log: &[u32]) -> Record {
+    let first = book[SAID];
+    let second = book[book::SECOND];
+    match letter {
+        b'F' => {
+            let founded = Record::found(
+                first as usize,
+                second as usize,
+                record::weights(book, book::THIRD),
+                log,
+            );
+            print(founded.number as u64);
+            founded.record
+        }
+        b'I' => {
+            let issued = record.issue(
+                log,
+                (first % 4294967296) as u32,
+                (second % 4294967296) as u32,
+            );
+            print(issued.number as u64);
+            issued.record
+        }
+        _ => {
+            let made = forecast::first_step(
+                record,
+                log,
+                record::weights(book, SAID),
+                record::weights(book, book::NINTH),
+            );
+            let winner = made.winner;
+            tell(made.number, named(winner));
+            record
+        }
+    }
+}
+
+// `E`, `D`, `T`, `S` and `W`: each writes the log or the output.
+fn change(record: Record, letter: u8, log: &mut [u32], bytes: &mut [u8]) -> Record {
+    match letter {
+        b'E' => {
+            let elected = record.elect(log);
+            tell(elected.number, elected.count as u64);
+            elected.record
+        }
+        b'D' => {
+            let folded = record.fold(log);
+            tell(folded.number, folded.count);
+            folded.record
+        }
+        b'T' => {
+            let taken = record.take(log, bytes);
+            tell(taken.number, taken.places as u64);
+            taken.record
+        }
+        b'S' => {
+            let sent = record.send(log, bytes);
+            tell(sent.number, sent.length as u64);
+            record
+        }
+        _ => {
+            let written = archive::write(record, log, bytes);
+            tell(written.number, written.length as u64);
+            record
+        }
+    }
+}
+
+// Makes the call that the letter names, prints what it answers, and answers the record that it leaves.
+fn make(book: &Book, letter: u8, log: &mut [u32], bytes: &mut [u8]) -> Record {
+    let record = record::of(book);
+    match letter {
+        b'F' | b'I' | b'B' => begin(book, record, letter, log),
+        b'E' | b'D' | b'T' | b'S' | b'W' => change(record, letter, log, bytes),
+        b'H' | b'C' | b'Q' => {
+            look_at(book, record, letter, log, bytes);
+            record
+        }
+        _ => {
+            look(record, letter, log, book[SAID]);
+            record
+        }
+    }
+}
+
+// The buffer that a call is lent beside the log.
+fn buffer(letter: u8) -> usize
+    ensures { λ r. ⌜ r ≤ 8638 ⌝ }
+{
+    match letter {
+        b'S' | b'W' => book::OUTPUT,
+        _ => book::MESSAGE,
+    }
+}
+
+// Makes the call with exactly as much of the log and of a buffer as there is, and keeps the record and what it wrote to the buffer.
 fn lend(book: &mut Book, letter: u8, log: &mut [u32]) {
-    let length = within(book[book::LOG] as usize, log.len());
-    make(book, letter, &mut log[..length]);
+    let at = buffer(letter);
+    let mut bytes = [0u8; 7100];
+    book::to_bytes(book, at + 1, &mut bytes);
+    let words = within(book[book::LOG] as usize, log.len());
+    let length = within(book[at] as usize, book::BYTES);
+    let next = make(book, letter, &mut log[..words], &mut bytes[..length]);
+    book::from_bytes(&bytes, book, at + 1);
+    record::keep(next, book);
 }
 
 // Makes the call, and prints its line.
 pub fn call(book: &mut Book, letter: u8) {
     let mut log = [0u32; 1100];
-    book::to_words(book, book::LOG + 1, &mut log);
+    book::to_words(book, book::LOG_WORDS, &mut log);
     io::write_all(1, &[letter]);
     lend(book, letter, &mut log);
-    book::from_words(&log, book, book::LOG + 1);
+    book::from_words(&log, book, book::LOG_WORDS);
     print(digest::of(book));
     io::write_all(1, b"\n");
 }

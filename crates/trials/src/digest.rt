@@ -7,7 +7,7 @@ use lists::within;
 // The digest with each number from place `from` on, and before place `end`.
 pub fn with_all(start: u64, numbers: &Book, from: usize, end: usize) -> u64
     requires { ⌜ start < 4294967291 ⌝ }
-    requires { ⌜ end ≤ 15765 ⌝ }
+    requires { ⌜ end ≤ 15970 ⌝ }
     ensures { λ r. ⌜ r < 4294967291 ⌝ }
 {
     let mut h = start;

@@ -9,7 +9,7 @@ use summary::Summary;
 
 // Eight numbers from this place on as weights: the low 16 bits of each.
 pub fn weights(book: &Book, at: usize) -> [u16; 8]
-    requires { ⌜ at + 8 ≤ 15765 ⌝ }
+    requires { ⌜ at + 8 ≤ 15970 ⌝ }
 {
     let mut weights = [0u16; 8];
     for i in 0..8 {
@@ -18,39 +18,12 @@ pub fn weights(book: &Book, at: usize) -> [u16; 8]
     weights
 }
 
-fn wide(x: u16) -> u64 {
-    x as u64
-}
-
 // Writes weights as numbers from this place on.
 fn keep_weights(weights: [u16; 8], book: &mut Book, at: usize)
-    requires { ⌜ at + 8 ≤ 15765 ⌝ }
+    requires { ⌜ at + 8 ≤ 15970 ⌝ }
 {
     for i in 0..8 {
-        book[at + i] = wide(weights[i]);
-    }
-}
-
-// The ballot that stands at this place.
-fn ballot(book: &Book, at: usize) -> Ballot
-    requires { ⌜ at ≤ 436 ⌝ }
-{
-    let mut cells = [0u32; 32];
-    book::to_words(book, at + 1, &mut cells);
-    Ballot {
-        len: book[at] as usize,
-        cells,
-    }
-}
-
-// Writes a ballot to this place.
-fn keep_ballot(ballot: Ballot, book: &mut Book, at: usize)
-    requires { ⌜ at ≤ 436 ⌝ }
-{
-    let cells = ballot.cells;
-    book[at] = ballot.len as u64;
-    for i in 0..32 {
-        book[at + 1 + i] = book::wide(cells[i]);
+        book[at + i] = weights[i] as u64;
     }
 }
 
@@ -59,9 +32,24 @@ fn ballots(book: &Book) -> [Ballot; 8] {
     let none = Ballot::none();
     let mut ballots = [none; 8];
     for k in 0..8 {
-        ballots[k] = ballot(book, book::BALLOTS + k * book::BALLOT);
+        let at = book::BALLOTS + k * book::BALLOT;
+        let mut cells = [0u32; 32];
+        book::to_words(book, at + 1, &mut cells);
+        ballots[k] = Ballot {
+            len: book[at] as usize,
+            cells,
+        };
     }
     ballots
+}
+
+// Writes a ballot to this place.
+fn keep_ballot(ballot: Ballot, book: &mut Book, at: usize)
+    requires { ⌜ at ≤ 436 ⌝ }
+{
+    let cells = ballot.cells;
+    book[at] = ballot.len as u64;
+    book::from_words(&cells, book, at + 1);
 }
 
 // Writes the ballots into the book.
@@ -73,7 +61,7 @@ fn keep_ballots(ballots: [Ballot; 8], book: &mut Book) {
 
 // Eight numbers from this place on.
 fn numbers(book: &Book, at: usize) -> [u64; 8]
-    requires { ⌜ at + 8 ≤ 15765 ⌝ }
+    requires { ⌜ at + 8 ≤ 15970 ⌝ }
 {
     let mut numbers = [0u64; 8];
     for i in 0..8 {
@@ -84,7 +72,7 @@ fn numbers(book: &Book, at: usize) -> [u64; 8]
 
 // Writes eight numbers from this place on.
 fn keep_numbers(numbers: [u64; 8], book: &mut Book, at: usize)
-    requires { ⌜ at + 8 ≤ 15765 ⌝ }
+    requires { ⌜ at + 8 ≤ 15970 ⌝ }
 {
     for i in 0..8 {
         book[at + i] = numbers[i];
@@ -110,9 +98,7 @@ fn keep_summary(summary: Summary, book: &mut Book, to: usize, at: usize)
     let present = summary.present;
     let codes = summary.codes;
     keep_weights(present, book, to);
-    for i in 0..64 {
-        book[at + i] = book::wide(codes[i]);
-    }
+    book::from_words(&codes, book, at);
 }
 
 // The record of the book.

@@ -1,15 +1,20 @@
--- Each cell that is read is one of the 32.
+-- A ballot has 32 cells.
+use mathlib.Core.Path.{_≡_}
+use lib.ListN.{length}
 use borrow.Author.Needs.{needs}
-use Prim.Native.Nat.{_-_, _≤_}
 use Rattle.trials.proofs.record.keep_ballot.Statement.{statement}
 use Rattle.trials.proofs.record.keep_ballot.Tie as tie
 
-abbrev Inv-loop : tie.InvT-loop
-Inv-loop book₀ at cells i₀ book i = i ≤ 32
-
-abbrev μ-loop : tie.MeasureT-loop
-μ-loop book₀ at cells i₀ book i = 32 - i
+from-words-requires : tie.Need-from-words-requires
+from-words-requires c κs = let h : length (c .before .before .before .args .ballot .cells) ≡ 32 = search needs in search needs
 
 pub keep-ballot-spec : {M : Type 1} → statement M
 keep-ballot-spec =
-    tie.close (tie.spec Inv-loop μ-loop (λ c. search needs) (λ c. search needs) (λ c. search needs) (λ c. search needs) (λ c. search needs) (λ c κs. search needs) (λ c. search needs) (λ c. search needs) (λ c. search needs) (λ c. search needs) (λ c. search needs) (λ c. search needs) (λ c. search needs) (λ c. search needs))
+    tie.close
+    (tie.spec
+    (λ c. search needs)
+    (λ c. search needs)
+    (λ c. search needs)
+    (λ c. search needs)
+    from-words-requires
+    (λ c. search needs))
