@@ -3,13 +3,13 @@
 use std::io::{Error, ErrorKind, Result};
 use std::process::ExitCode;
 
-mod alike;
+use compare::{alike, engine};
+
 mod benchmark;
 mod breaks;
 mod by_value;
 mod calls;
 mod earlier;
-mod engine;
 mod folded;
 mod forecasts;
 mod forge;
