@@ -211,8 +211,9 @@ fn break_word(random: &mut Random, record: &mut Record, log: &mut [u32], wrong: 
     if log.is_empty() {
         return;
     }
-    hold(record, record.held().clamp(1, LOG.min(log.len())));
-    log[place(random, 0, record.held())] = wrong;
+    let held = record.held().clamp(1, LOG.min(log.len()));
+    hold(record, held);
+    log[place(random, 0, held)] = wrong;
 }
 
 /// Makes the settled length and the tail of one ballot 1,025, each within its own limit.
