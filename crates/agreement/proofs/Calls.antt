@@ -30,7 +30,7 @@ use Rattle.protocol.proofs.Moves.{weights-total, weights-most, weights-zero}
 use Rattle.protocol.proofs.Folding as Folding
 use Rattle.protocol.proofs.Folding.{take-found}
 use Rattle.protocol.proofs.FoldedWorld as F
-use Rattle.protocol.proofs.FoldedSound as S
+use Rattle.one_order.proofs.FoldedSound as S
 use Rattle.kept.specs.declared.Kept.{Kept}
 use Rattle.summary.specs.Summary.{startWith, summaryAfter}
 use Rattle.summary.specs.declared.Summary.{Summary}

@@ -12,14 +12,14 @@ use Rattle.protocol.specs.Beginning.{_⊑_}
 use Rattle.protocol.specs.Office.{Office, path}
 use Rattle.protocol.specs.Longest.{longest}
 use Rattle.protocol.proofs.World as P
-use Rattle.protocol.proofs.OneOrder.{settledLogs, settled-alike}
-use Rattle.protocol.proofs.Machine.{reached, IssuedBy, OneOrderOf}
+use Rattle.one_order.proofs.OneOrder.{settledLogs, settled-alike}
+use Rattle.one_order.proofs.Machine.{reached, IssuedBy, OneOrderOf}
 use Rattle.protocol.proofs.Issue.{issue-never}
 use Rattle.protocol.proofs.Kept.{effectOf}
 use Rattle.protocol.proofs.FoldedWorld as F
-use Rattle.protocol.proofs.FoldedSound as S
-use Rattle.protocol.proofs.FoldedOrder as O
-use Rattle.protocol.proofs.FoldedMachine.{wholly, one-order-folder}
+use Rattle.one_order.proofs.FoldedSound as S
+use Rattle.one_order.proofs.FoldedOrder as O
+use Rattle.one_order.proofs.FoldedMachine.{wholly, one-order-folder}
 use Rattle.kept.specs.Kept.{keptNothing, keptAfter}
 use Rattle.frame.specs.Issuing.{issueOf}
 use Rattle.frame.specs.State.{foldedBy}
@@ -164,7 +164,7 @@ module _ (n : ℕ) (ws : List ℕ) (pos : 0 < n) (w : World) (s : SoundWorld n w
     shared : (j : ℕ) → j < n → d .former ⊑ logAt w j
     shared j b =
         subst (λ (l : List ℕ). d .former ⊑ l) (ap (λ (o : Office). o .log) (sym (S.view-at (shape w) j)) ∙ log-at w j)
-        (subst (λ (x : F.Desk). x .former ⊑ O.logAt (shape w) j) at (O.shared ws n pos (shape w) t k j b))
+        (subst (λ (x : F.Desk). x .former ⊑ F.logAt (shape w) j) at (O.shared ws n pos (shape w) t k j b))
 
 -- (iii) "every office that decides at that log decides alike": what two offices, at whatever moments of the list, have settled behind equal
 -- logs is the same entry

@@ -16,12 +16,12 @@ use Rattle.protocol.specs.Entry.{value}
 use Rattle.protocol.specs.SettledRule.{bySettled}
 use Rattle.protocol.specs.Folding.{Packet, packet, withFold, withFoldedIssue, refuseFoldedIssue, withFoldedElect, withFoldedTake, refuseFoldedTake}
 use Rattle.protocol.proofs.World as P
-use Rattle.protocol.proofs.History as H
+use Rattle.one_order.proofs.History as H
 use Rattle.protocol.proofs.Kept.{ruleBehind}
-use Rattle.protocol.proofs.Machine.{runs, reached}
+use Rattle.one_order.proofs.Machine.{runs, reached}
 use Rattle.protocol.proofs.FoldedWorld as F
 use Rattle.protocol.proofs.FoldedWorld.{names, done, number as numberF, step as stepF}
-use Rattle.protocol.proofs.FoldedMachine.{Folder, wholly, Both, both-at}
+use Rattle.one_order.proofs.FoldedMachine.{Folder, wholly, Both, both-at}
 use Rattle.frame.specs.Electing.{electedOf}
 use Rattle.frame.specs.State.{foldedBy}
 use Rattle.frame.specs.Sending.{sendOf}

@@ -14,8 +14,8 @@ use Rattle.lists.proofs.Tests.{and-of}
 use Rattle.protocol.specs.Folding.{refuseFoldedIssue}
 use Rattle.protocol.proofs.FoldedWorld as F
 use Rattle.protocol.proofs.FoldedWorld.{names, number as numberF}
-use Rattle.protocol.proofs.FoldedSound as S
-use Rattle.protocol.proofs.FoldedOrder as O
+use Rattle.one_order.proofs.FoldedSound as S
+use Rattle.one_order.proofs.FoldedOrder as O
 use Rattle.spelling.specs.Reading.{senderAt}
 use Rattle.frame.specs.Issuing.{issueOf}
 use Rattle.frame.specs.Sending.{sendOf}

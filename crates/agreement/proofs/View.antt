@@ -20,7 +20,7 @@ use Rattle.protocol.specs.Folding.{Folded, Packet}
 use Rattle.protocol.proofs.World as P
 use Rattle.protocol.proofs.Kept.{Effect}
 use Rattle.protocol.proofs.FoldedWorld as F
-use Rattle.protocol.proofs.FoldedSound as S
+use Rattle.one_order.proofs.FoldedSound as S
 use Rattle.kept.specs.declared.Kept.{Kept}
 use Rattle.spelling.specs.Content.{Content, asPacket}
 use Rattle.spelling.specs.Reading.{senderAt, contentAt, reading}

@@ -22,3 +22,7 @@ checkedBy number dropped log other theirs = record {
   number = number;
   places = pick (compares number) (placesFromEnd (drop (other - dropped) log) (drop (dropped - other) theirs)) 0;
 }
+
+-- both of them by the logs alone
+abbrev pub checkedLogs : ℕ → List ℕ → ℕ → List ℕ → Checked
+checkedLogs dropped log other theirs = checkedBy (logsRefusal dropped log other theirs) dropped log other theirs

@@ -6,7 +6,7 @@ ghost use lib.ListN.{length, take};
 ghost use Rattle.numbers.specs.Numbers.{runAt};
 ghost use Rattle.spelling.specs.Reading.{recordAt};
 ghost use Rattle.comparing.specs.FromEnd.{comparedBelow, comparedOf};
-ghost use Rattle.comparing.specs.Checking.{logsRefusal, checkedBy};
+ghost use Rattle.comparing.specs.Checking.{checkedLogs};
 use reader::read_entry;
 
 // Whether a shared place differs, and how many places that needed.
@@ -74,7 +74,7 @@ pub fn later(dropped: u64, other: u64) -> usize
 // message's k log records, behind `other` entries. Public only for the crate above, which proves what it requires.
 pub fn check(dropped: u64, log: &[u32], held: usize, other: u64, rest: &[u8], k: usize) -> Checked
     requires { ⌜ (held ≤ length (now log)) × (6 * k ≤ length (now rest)) ⌝ }
-    ensures { λ r. ⌜ r ≡ checkedBy (logsRefusal dropped (take held (now (log .entry))) other (runAt 6 recordAt k (now (rest .entry)))) dropped (take held (now (log .entry))) other (runAt 6 recordAt k (now (rest .entry))) ⌝ }
+    ensures { λ r. ⌜ r ≡ checkedLogs dropped (take held (now (log .entry))) other (runAt 6 recordAt k (now (rest .entry))) ⌝ }
 {
     let ahead = later(other, dropped);
     if ahead > held {

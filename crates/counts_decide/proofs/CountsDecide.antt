@@ -18,11 +18,11 @@ use Rattle.protocol.specs.Office.{Office, tail, path}
 use Rattle.protocol.proofs.World.{Call}
 use Rattle.protocol.proofs.Beginning.{⊑-trans, ⊏-⊑, ⊑-refl, ⊑-cases, ⊑-comparable, ⊑-append, ⊑-rest, ⊏-next, snoc-⊏, snoc-same}
 use Rattle.protocol.proofs.Counts.{count-append}
-use Rattle.protocol.proofs.Lawful.{Lawful}
-use Rattle.protocol.proofs.History.{before, past-refl, past-trans, officeAt, logAt}
-use Rattle.protocol.proofs.Steady.{Voted, voted-unique}
-use Rattle.protocol.proofs.Issued.{Issued, EachIssued}
-use Rattle.protocol.proofs.Held.{issued-office, issued-voted, held-issued}
+use Rattle.one_order.proofs.Lawful.{Lawful}
+use Rattle.one_order.proofs.History.{before, past-refl, past-trans, officeAt, logAt}
+use Rattle.one_order.proofs.Steady.{Voted, voted-unique}
+use Rattle.one_order.proofs.Issued.{Issued, EachIssued}
+use Rattle.one_order.proofs.Held.{issued-office, issued-voted, held-issued}
 use Rattle.counts_decide.specs.CountsDecide.{countsLeq, Holds}
 
 abbrev pub CountsDecide : ℕ → Office → Type 0

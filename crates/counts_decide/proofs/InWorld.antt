@@ -13,7 +13,7 @@ use Rattle.protocol.specs.Office.{Office, tail}
 use Rattle.protocol.specs.SettledRule.{bySettled}
 use Rattle.protocol.proofs.Beginning.{⊑-refl, ⊑-cases, ⊑-antisym, ⊏-⊑, ⊏-⊑-trans, ⊏-irrefl}
 use Rattle.protocol.proofs.Counts.{count-of, no-count, none-length}
-use Rattle.protocol.proofs.Lawful.{settled-lawful}
+use Rattle.one_order.proofs.Lawful.{settled-lawful}
 use Rattle.protocol.proofs.World as P
 use Rattle.kept.specs.declared.Kept.{Kept}
 use Rattle.frame.specs.State.{heldBy}

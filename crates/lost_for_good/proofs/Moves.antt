@@ -13,13 +13,12 @@ use Rattle.protocol.specs.Entry.{value}
 use Rattle.protocol.specs.Issue.{withIssue}
 use Rattle.protocol.specs.Office.{Office, fresh, tail, path}
 use Rattle.protocol.specs.SettledRule.{bySettled}
-use Rattle.protocol.proofs.Office.{OfficeMoves, moves-refl, moves-trans}
+use Rattle.protocol.proofs.Office.{OfficeMoves, moves-refl, moves-trans, fresh-path}
 use Rattle.protocol.proofs.World as P
-use Rattle.protocol.proofs.History.{fresh-path}
-use Rattle.protocol.proofs.Steady.{step-moves}
+use Rattle.one_order.proofs.Steady.{step-moves}
 use Rattle.protocol.proofs.FoldedWorld as F
-use Rattle.protocol.proofs.FoldedSound as S
-use Rattle.protocol.proofs.FoldedMoves.{moves}
+use Rattle.one_order.proofs.FoldedSound as S
+use Rattle.one_order.proofs.FoldedMoves.{moves}
 use Rattle.agreement.specs.World.{Replica, World, Call, issue, replicaAt, onSome, number, issued, put, step, after}
 use Rattle.agreement.specs.Demand.{Founded, says, logAt, viewAt}
 use Rattle.agreement.proofs.Places.{there, not-there, find}

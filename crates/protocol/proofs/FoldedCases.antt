@@ -19,21 +19,20 @@ use Rattle.protocol.specs.Take.{rebase, catchUp, withTake, refuseTake}
 use Rattle.protocol.specs.Elect.{settle, electing, withElect}
 use Rattle.protocol.specs.Folding.{Folded, Packet, leastKnown, foldCount, withFold, withFoldedIssue, refuseFoldedIssue, withFoldedElect, withFoldedTake, refuseFoldedTake}
 use Rattle.protocol.proofs.Cases.{a, b, d, three, state, behind}
-use Rattle.protocol.proofs.FoldedWorld.{World, Call, issue, send, take, elect, fold, deskAt, names, number, done, step}
-use Rattle.protocol.proofs.FoldedOrder.{world, logAt}
+use Rattle.protocol.proofs.FoldedWorld.{World, Call, issue, send, take, elect, fold, founded, deskAt, names, number, done, step, run, logAt}
 
 -- ── a history ──
 -- office 0 decides alone
 abbrev after : List Call → World
-after cs = world (three 1 0 0) 2 cs
+after cs = run (founded (three 1 0 0) 2) cs
 
--- office 0 settles a and d, office 1 takes them, office 0 hears of it. The oldest message is of office 0's founding
+-- office 0 settles a and d, office 1 takes them, office 0 hears of it. The oldest message has them in office 0's ballot
 abbrev heard : List Call
-heard = send 0 true ∷ issue 0 5 120 ∷ issue 0 6 7 ∷ elect 0 ∷ send 0 true ∷ take 1 0 ∷ send 1 true ∷ take 0 0 ∷ []
+heard = issue 0 5 120 ∷ issue 0 6 7 ∷ send 0 true ∷ elect 0 ∷ send 0 true ∷ take 1 0 ∷ send 1 true ∷ take 0 0 ∷ []
 
 -- then office 0 drops both, and office 1 takes its message
 abbrev folded : List Call
-folded = send 0 true ∷ issue 0 5 120 ∷ issue 0 6 7 ∷ elect 0 ∷ send 0 true ∷ take 1 0 ∷ send 1 true ∷ take 0 0 ∷ fold 0 ∷ send 0 true ∷ take 1 0 ∷ []
+folded = issue 0 5 120 ∷ issue 0 6 7 ∷ send 0 true ∷ elect 0 ∷ send 0 true ∷ take 1 0 ∷ send 1 true ∷ take 0 0 ∷ fold 0 ∷ send 0 true ∷ take 1 0 ∷ []
 
 pub history :
     -- fold drops both, and answers 2: each office has heard from the other that it has them
@@ -42,21 +41,29 @@ pub history :
     (deskAt (after folded) 1 .now .dropped ≡ 2) × (deskAt (after folded) 1 .now .held .log ≡ []) ×
     -- the whole logs are as they were
     (logAt (after folded) 0 ≡ a ∷ d ∷ []) × (logAt (after folded) 1 ≡ a ∷ d ∷ []) ×
-    -- office 0's message of its founding ends inside office 1's dropped part; its message of both entries does not
-    (number (after folded) (take 1 3) ≡ 17) × (number (after folded) (take 1 2) ≡ 0)
+    -- office 0's oldest message ends inside office 1's dropped part, and changes nothing; its message of both entries does not
+    (number (after folded) (take 1 3) ≡ 17) × (step (after folded) (take 1 3) ≡ after folded) × (number (after folded) (take 1 2) ≡ 0)
 unfolding both pick proper countIn isMove move weightsAfter countsAfter codesAfter quieterBy begins extends tally unheard supported wins winner withIssue rebase catchUp withTake refuseTake settle electing withElect lengthLimit refusalAt leastKnown foldCount withFold withFoldedIssue refuseFoldedIssue withFoldedElect withFoldedTake refuseFoldedTake names number done step
-history = (refl, refl, refl, refl, refl, refl, refl, refl, refl, refl)
+history = (refl, refl, refl, refl, refl, refl, refl, refl, refl, refl, refl)
 
 -- with 60 of 100 office 0 settles its move of 20 to office 1, office 1 takes it, office 0 hears of it and drops it. Its next entry is 40 against 60
 -- then, and office 1 settles its own
 abbrev moved : World
-moved = world (three 60 40 0) 2 (issue 0 65 20 ∷ elect 0 ∷ send 0 true ∷ take 1 0 ∷ send 1 true ∷ take 0 0 ∷ fold 0 ∷ issue 0 5 120 ∷ elect 0 ∷ issue 1 5 130 ∷ elect 1 ∷ [])
+moved = run (founded (three 60 40 0) 2) (issue 0 65 20 ∷ elect 0 ∷ send 0 true ∷ take 1 0 ∷ send 1 true ∷ take 0 0 ∷ fold 0 ∷ issue 0 5 120 ∷ elect 0 ∷ issue 1 5 130 ∷ elect 1 ∷ [])
 
 pub kept-moves :
     (deskAt moved 0 .former ≡ value 0 65 20 ∷ []) × (deskAt moved 0 .kept .weights ≡ three 40 60 0) × (deskAt moved 0 .kept .counts ≡ three 1 0 0) ×
     (deskAt moved 0 .now .held .log ≡ []) × (logAt moved 1 ≡ value 0 65 20 ∷ b ∷ [])
 unfolding both pick proper countIn isWeight isMove canShift move weightsAfter countsAfter codesAfter quieterBy begins extends tally unheard supported wins winner withIssue rebase catchUp withTake refuseTake settle electing withElect lengthLimit refusalAt leastKnown foldCount withFold withFoldedIssue refuseFoldedIssue withFoldedElect withFoldedTake refuseFoldedTake names number done step
 kept-moves = (refl, refl, refl, refl, refl)
+
+-- offices 0 and 1 of one weight settle a, and office 0 drops it. Their next entries are level, and office 1's wins: of office 0 one has been settled
+abbrev level : World
+level = run (founded (three 1 1 0) 2) (issue 0 5 120 ∷ send 0 true ∷ take 1 0 ∷ elect 1 ∷ send 1 true ∷ take 0 0 ∷ fold 0 ∷ issue 0 6 7 ∷ issue 1 6 8 ∷ send 1 true ∷ take 0 0 ∷ elect 0 ∷ [])
+
+pub kept-counts : (deskAt level 0 .former ≡ a ∷ []) × (logAt level 0 ≡ a ∷ value 1 6 8 ∷ [])
+unfolding both pick proper countIn isWeight isMove canShift move weightsAfter countsAfter codesAfter quieterBy begins extends tally unheard supported wins winner withIssue rebase catchUp withTake refuseTake settle electing withElect lengthLimit refusalAt leastKnown foldCount withFold withFoldedIssue refuseFoldedIssue withFoldedElect withFoldedTake refuseFoldedTake names number done step
+kept-counts = (refl, refl)
 
 -- ── one office ──
 -- so many entries dropped, this log behind them, no ballots

@@ -26,10 +26,9 @@ use Rattle.protocol.specs.Folding.{Folded, Packet, unfolded, settledLeng
 use Rattle.lists.proofs.Tests.{both-0, both-1, both-true, if-cases, all-getD, all-of, all-drop, all-mono, getD-replicate}
 use Rattle.protocol.proofs.Beginning.{⊏-⊑, ⊑-length, extends-true}
 use Rattle.protocol.proofs.Vote.{NamesVoted}
-use Rattle.protocol.proofs.Office.{Kept, Offered, set-cases, rebase-path, adopting-path, settle-path, issue-path, next-cases, take-moves, elect-moves}
+use Rattle.protocol.proofs.Office.{Kept, Offered, fresh-path, set-cases, rebase-path, adopting-path, settle-path, issue-path, next-cases, take-moves, elect-moves}
 use Rattle.protocol.proofs.Limits.{fine-tail, fine-tail-of, Fine, fine, fine-of, fresh-fine, elect-fine, catchUp-log, take-done, take-done-fine}
 use Rattle.protocol.proofs.Issue.{issue-done, issue-done-fine}
-use Rattle.protocol.proofs.History.{fresh-path}
 use Rattle.protocol.proofs.Folding.{fold-held, take-found}
 
 path-length : (o : Office) (j : ℕ) → length (path o j) ≡ length (o .log) + length (tail o j)

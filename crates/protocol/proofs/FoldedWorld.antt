@@ -99,6 +99,11 @@ done w idle = w
 unfoldable pub step : World → Call → World
 step w c = cond (names w c && eqb (number w c) 0) (done w c) w
 
+-- the world after the calls
+abbrev pub run : World → List Call → World
+run w [] = w
+run w (c ∷ cs) = run (step w c) cs
+
 -- ── whole logs ──
 -- the state with p before its log: the paths are whole paths then, since a path is the log followed by a tail
 abbrev pub whole : List ℕ → Office → Office
@@ -106,6 +111,10 @@ whole p o = record { log = p ++ o .log; tails = o .tails }
 
 abbrev pub wholeDesk : Desk → Office
 wholeDesk d = whole (d .former) (d .now .held)
+
+-- office k's settled log: it begins with what the office has dropped by now
+abbrev pub logAt : World → ℕ → List ℕ
+logAt w k = wholeDesk (deskAt w k) .log
 
 abbrev pub wholeMessage : Posted → Message
 wholeMessage m = record { sender = m .message .sender; state = whole (m .former) (m .message .state) }

@@ -10,11 +10,11 @@ use lib.ListN.{length, getD, set, drop}
 use borrow.Author.Tests.{eqb-true, eqb-false}
 use Rattle.protocol.specs.Beginning.{_⊑_, _⊏_, extends}
 use Rattle.protocol.specs.Vote.{Rule}
-use Rattle.protocol.specs.Office.{Office, Message, tail, path, votes}
+use Rattle.protocol.specs.Office.{Office, Message, tail, path, votes, fresh}
 use Rattle.protocol.specs.Issue.{withIssue}
 use Rattle.protocol.specs.Take.{rebased, rebase, catchUp, adopt, adopts, adopting, offers, withTake}
 use Rattle.protocol.specs.Elect.{lose, settle, next, electing, withElect}
-use Rattle.lists.proofs.Tests.{if-cases}
+use Rattle.lists.proofs.Tests.{if-cases, getD-replicate}
 use Rattle.protocol.proofs.Beginning.{⊑-refl, ⊑-trans, ⊏-⊑, ⊑-⊏-trans, ⊏-⊑-trans, ⊏-irrefl, ⊑-append, ⊑-rest, snoc-⊏, snoc-same, snoc-⊑, extends-true, extends-false}
 
 -- lists: an element after `set`, and after `map`
@@ -171,3 +171,7 @@ electing-moves rule (suc fuel) o j =
 pub elect-moves : (rule : Rule) (o : Office) (j : ℕ) → OfficeMoves j o (withElect rule o)
 unfolding withElect
 elect-moves rule o j = electing-moves rule _ o j
+
+-- a fresh office's paths are empty
+pub fresh-path : (j : ℕ) → path fresh j ≡ []
+fresh-path j = getD-replicate 8 [] j

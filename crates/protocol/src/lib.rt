@@ -1,4 +1,4 @@
-// Document 01 on lists: definitions in specs/, their laws and the one-order theorem in proofs/. A crate has at least one function.
+// Document 01 on lists: definitions in specs/, their laws in proofs/. A crate has at least one function.
 ghost use mathlib.Core.Path.{_≡_};
 
 // The number itself; nothing calls it.

@@ -1,5 +1,5 @@
 -- Request (vi) in the world of document 01: the world on records is shaped like the protocol's, where two sent messages that are accepted in both
--- orders may be swapped (`protocol/proofs/FoldedLaws`), and a sound record is known by what it keeps and holds. Behind another message the world is
+-- orders may be swapped (`one_order/proofs/FoldedLaws`), and a sound record is known by what it keeps and holds. Behind another message the world is
 -- one of the list still, so a message is refused there as anywhere in it. Assumes nothing.
 use mathlib.Core.Path.{_≡_, refl, sym, ap, ap₂, subst, _∙_}
 use mathlib.Core.List.{List, [], _∷_, _++_, map}
@@ -13,8 +13,8 @@ use Rattle.protocol.specs.Office.{tail}
 use Rattle.protocol.specs.Folding.{refuseFoldedTake}
 use Rattle.protocol.proofs.Folding.{take-found}
 use Rattle.protocol.proofs.FoldedWorld as F
-use Rattle.protocol.proofs.FoldedSound as S
-use Rattle.protocol.proofs.FoldedLaws.{takesAt, takesBoth, FoldedEitherOrder, AcceptedBoth, folded-either-order}
+use Rattle.one_order.proofs.FoldedSound as S
+use Rattle.one_order.proofs.FoldedLaws.{takesAt, takesBoth, FoldedEitherOrder, AcceptedBoth, folded-either-order}
 use Rattle.ballots.specs.Ballots.{ballotOf, noBallot}
 use Rattle.ballots.specs.declared.Ballot.{Ballot}
 use Rattle.kept.specs.declared.Kept.{Kept}

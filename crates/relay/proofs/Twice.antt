@@ -1,4 +1,4 @@
--- Request (vi) at one office, whatever its sound record: the protocol's laws (`protocol/proofs/FoldedLaws`) carried to records, words and bytes. What
+-- Request (vi) at one office, whatever its sound record: the protocol's laws (`one_order/proofs/FoldedLaws`) carried to records, words and bytes. What
 -- a replica holds after an accepted take is what the protocol's take makes of it; taken again, the message leaves that office as it is, and so all
 -- of the replica. Assumes nothing.
 use mathlib.Core.Path.{_≡_, refl, sym, ap, ap₂, subst, _∙_}
@@ -19,7 +19,7 @@ use Rattle.protocol.specs.Take.{withTake}
 use Rattle.protocol.specs.Folding.{Folded, Packet, shorn, caughtUp, fromThere, withFoldedElect, withFoldedTake, refuseFoldedTake}
 use Rattle.protocol.proofs.Office.{OfficeMoves, take-moves, moves-refl}
 use Rattle.protocol.proofs.FoldedWorld as F
-use Rattle.protocol.proofs.FoldedLaws.{folded-take-twice, folded-elect-twice}
+use Rattle.one_order.proofs.FoldedLaws.{folded-take-twice, folded-elect-twice}
 use Rattle.protocol.proofs.Whole.{wholeIn, take-whole}
 use Rattle.kept.specs.declared.Kept.{Kept}
 use Rattle.frame.specs.declared.Record.{Record}

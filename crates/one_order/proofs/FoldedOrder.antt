@@ -16,28 +16,28 @@ use native.Mathlib.Omega.{arith}
 use lib.Dec.{eqb}
 use lib.ListN.{length, getElem?}
 use borrow.Author.Tests.{eqb-true, ltb-true}
 use Rattle.protocol.specs.Beginning.{_⊑_}
 use Rattle.protocol.specs.Vote.{Rule}
 use Rattle.protocol.specs.SettledRule.{bySettled}
 use Rattle.protocol.specs.Office.{Office}
 use Rattle.protocol.specs.Take.{refuseTake}
 use Rattle.protocol.specs.Folding.{refuseFoldedTake}
 use Rattle.lists.proofs.Tests.{and-true}
 use Rattle.protocol.proofs.Beginning.{⊑-trans, ⊑-append}
 use Rattle.protocol.proofs.World as P
 use Rattle.protocol.proofs.World.{refusal}
-use Rattle.protocol.proofs.OneOrder as O
-use Rattle.protocol.proofs.Lawful.{Lawful, settled-lawful}
-use Rattle.protocol.proofs.EveryCall.{never-10}
+use Rattle.one_order.proofs.OneOrder as O
+use Rattle.one_order.proofs.Lawful.{Lawful, settled-lawful}
+use Rattle.one_order.proofs.EveryCall.{never-10}
 use Rattle.protocol.proofs.Issue.{issue-never}
-use Rattle.protocol.proofs.Machine as M
-use Rattle.protocol.proofs.Machine.{Machine, runs, Follows, reached, OneOrderOf, theirs, one-order-machine}
+use Rattle.one_order.proofs.Machine as M
+use Rattle.one_order.proofs.Machine.{Machine, runs, Follows, reached, OneOrderOf, theirs, one-order-machine}
 use Rattle.protocol.proofs.Kept.{effectOf}
-use Rattle.protocol.proofs.FoldedWorld.{Desk, Posted, World, Call, issue, send, take, elect, fold, idle, founded, deskAt, refuseTaking, names, number, step, wholeDesk, wholeMessage, view, callOf}
+use Rattle.protocol.proofs.FoldedWorld.{Desk, Posted, World, Call, issue, send, take, elect, fold, idle, founded, deskAt, refuseTaking, names, number, step, wholeDesk, wholeMessage, logAt, view, callOf}
 use Rattle.protocol.proofs.Folding.{⊑-shorter, take-values, take-nine, take-ten, take-sixteen, refuse-desk}
-use Rattle.protocol.proofs.FoldedSound.{Sound, view-at, view-sent, known, there, desk-in, message-in, own-length}
-use Rattle.protocol.proofs.FoldedMoves.{moves}
-use Rattle.protocol.proofs.FoldedKeeps.{keeps, starts, sound-start}
+use Rattle.one_order.proofs.FoldedSound.{Sound, view-at, view-sent, known, there, desk-in, message-in, own-length}
+use Rattle.one_order.proofs.FoldedMoves.{moves}
+use Rattle.one_order.proofs.FoldedKeeps.{keeps, starts, sound-start}
 
 -- ── the claim ──
 -- the world with folding, as a machine that is viewed as document 01's world of whole logs
@@ -47,10 +47,6 @@ folding founding n = record { W = World; C = Call; start = founded founding n; m
 -- the world after the calls
 abbrev pub world : List ℕ → ℕ → List Call → World
 world founding n cs = reached (folding founding n) cs
-
--- office k's settled log: it begins with what the office has dropped by now
-abbrev pub logAt : World → ℕ → List ℕ
-logAt w k = wholeDesk (deskAt w k) .log
 
 pub record FoldedOrder (founding : List ℕ) (n : ℕ) (cs : List Call) : Type 0 where
   -- demand 3 of whole logs and paths

@@ -7,26 +7,26 @@ use native.Mathlib.Omega.{arith}
 use lib.ListN as L
 use lib.ListN.{length, getD, length-map}
 use lib.Seq.{take-suc}
 use Rattle.protocol.specs.Entry.{value, officeOf, lineOf, codeOf}
 use Rattle.protocol.specs.Beginning.{_⊑_}
 use Rattle.protocol.specs.Vote.{Rule}
 use Rattle.protocol.specs.SettledRule.{bySettled}
 use Rattle.protocol.specs.Office.{Office, fresh, path}
 use Rattle.protocol.specs.Issue.{refuseEntry}
 use Rattle.protocol.specs.Longest.{longest}
 use Rattle.lists.proofs.Tests.{getD-map}
 use Rattle.protocol.proofs.Beginning.{⊑-trans, snoc-same, take-⊑}
-use Rattle.protocol.proofs.Longest.{longest-is}
+use Rattle.one_order.proofs.Longest.{longest-is}
 use Rattle.protocol.proofs.World.{World, Call, issue, at, founded, refusal, run}
 use Rattle.protocol.proofs.Issue.{entry-done}
 use Rattle.protocol.proofs.Moves.{proper-true, value-parts}
-use Rattle.protocol.proofs.Lawful.{Lawful, settled-lawful}
-use Rattle.protocol.proofs.History.{Past, now, before, past-refl, past-trans, past-cases, after, after-length, logAt}
-use Rattle.protocol.proofs.Steady.{past-moves}
-use Rattle.protocol.proofs.Issued.{Issued}
-use Rattle.protocol.proofs.Settled.{order-issued}
-use Rattle.protocol.proofs.Invariant.{Invariant}
-use Rattle.protocol.proofs.EveryCall.{invariant, never-10}
+use Rattle.one_order.proofs.Lawful.{Lawful, settled-lawful}
+use Rattle.one_order.proofs.History.{Past, now, before, past-refl, past-trans, past-cases, after, after-length, logAt}
+use Rattle.one_order.proofs.Steady.{past-moves}
+use Rattle.one_order.proofs.Issued.{Issued}
+use Rattle.one_order.proofs.Settled.{order-issued}
+use Rattle.one_order.proofs.Invariant.{Invariant}
+use Rattle.one_order.proofs.EveryCall.{invariant, never-10}
 
 -- ── the claim ──
 -- the world after the calls

@@ -3,19 +3,19 @@ use mathlib.Core.Path.{_≡_, refl, sym, subst, _∙_}
 use mathlib.Core.List.{List, [], _∷_, _++_}
 use mathlib.Core.Logic.{_⊎_, inl, inr}
 use Prim.Native.Nat.{ℕ, zero, suc}
 use Rattle.protocol.specs.Beginning.{_⊑_}
 use Rattle.protocol.specs.Vote.{Rule}
 use Rattle.protocol.specs.Office.{Office, votes}
 use Rattle.protocol.specs.Elect.{settle, electing, withElect}
 use Rattle.protocol.proofs.World.{Call}
 use Rattle.protocol.proofs.Beginning.{⊑-refl, ⊑-trans, ⊑-antisym, ⊑-append}
-use Rattle.protocol.proofs.Lawful.{Lawful}
+use Rattle.one_order.proofs.Lawful.{Lawful}
 use Rattle.protocol.proofs.Office.{settle-path, next-cases}
-use Rattle.protocol.proofs.History.{officeAt}
-use Rattle.protocol.proofs.Issued.{OwnIssued}
-use Rattle.protocol.proofs.Settled.{EachElected, Extended, extend, rule-elects, order-issued}
-use Rattle.protocol.proofs.Invariant.{Invariant, NextOffice}
-use Rattle.protocol.proofs.Passing.{Passing, now-passing, passing-left, kept-passing}
+use Rattle.one_order.proofs.History.{officeAt}
+use Rattle.one_order.proofs.Issued.{OwnIssued}
+use Rattle.one_order.proofs.Settled.{EachElected, Extended, extend, rule-elects, order-issued}
+use Rattle.one_order.proofs.Invariant.{Invariant, NextOffice}
+use Rattle.one_order.proofs.Passing.{Passing, now-passing, passing-left, kept-passing}
 
 module _ (rule : Rule) (n : ℕ) (law : Lawful rule) where
   -- steps that take office k from o to r, under the order q

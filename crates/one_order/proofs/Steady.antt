@@ -5,14 +5,14 @@ use mathlib.Core.Path.{_≡_, sym, subst}
 use mathlib.Core.List.{List, [], _∷_, _++_}
 use mathlib.Core.Logic.{_⊎_, inl, inr}
 use Prim.Native.Nat.{ℕ}
 use Rattle.protocol.specs.Beginning.{_⊑_}
 use Rattle.protocol.specs.Vote.{Rule}
 use Rattle.protocol.specs.Office.{path}
 use Rattle.protocol.proofs.World.{World, Call, at, step}
 use Rattle.protocol.proofs.Beginning.{⊑-trans, ⊑-⊏-trans, snoc-⊏, snoc-same}
 use Rattle.protocol.proofs.Office.{Moves, moves-refl, moves-trans, OfficeMoves, issue-moves, take-moves, elect-moves}
-use Rattle.protocol.proofs.OneCall.{step-relates}
-use Rattle.protocol.proofs.History.{Past, now, before, past-trans, past-comparable, after, logAt, ownAt}
+use Rattle.one_order.proofs.OneCall.{step-relates}
+use Rattle.one_order.proofs.History.{Past, now, before, past-trans, past-comparable, after, logAt, ownAt}
 
 -- ── one call ──
 pub step-moves : (rule : Rule) (w : World) (c : Call) (j : ℕ) → OfficeMoves j (at w j) (at (step rule w c) j)

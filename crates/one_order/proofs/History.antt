@@ -93,7 +93,3 @@ module _ (rule : Rule) (n : ℕ) where
       let there : k < length (after cs .offices) = omega (arith, after-length cs) in
       ap (λ (w : World). at w k) (step-done rule (after cs) (issue k line code) (lt-ltb k (length (after cs .offices)) there) r)
       ∙ getD-set-same (after cs .offices) k (withIssue k (value k line code) (officeAt k cs)) fresh there
-
--- a fresh office's paths are empty
-pub fresh-path : (j : ℕ) → path fresh j ≡ []
-fresh-path j = getD-replicate 8 [] j

@@ -5,17 +5,17 @@ use mathlib.Core.List.{List, [], _∷_, _++_}
 use mathlib.Core.Option.{Option, none, some, Option·some-injective, Option·none-ne-some}
 use mathlib.Core.Logic.{_⊎_, inl, inr}
 use Prim.Native.Nat.{ℕ}
 use Rattle.protocol.specs.Beginning.{_⊑_, _⊏_}
 use Rattle.protocol.specs.Vote.{Votes, Rule}
 use Rattle.protocol.specs.Office.{Office, tail, path, first, votes}
 use Rattle.protocol.proofs.World.{Call}
 use Rattle.protocol.proofs.Beginning.{⊑-refl, ⊑-trans, ⊏-⊑, ⊑-cases, ⊑-append, ⊏-next, ⊏-cons, snoc-⊏, snoc-⊑, snoc-cases}
 use Rattle.protocol.proofs.Vote.{Grows}
-use Rattle.protocol.proofs.Lawful.{Lawful}
-use Rattle.protocol.proofs.History.{Past, logAt, ownAt}
-use Rattle.protocol.proofs.Steady.{Voted, voted-unique, voted-later}
-use Rattle.protocol.proofs.Known.{Snapshot, BallotsKnown}
-use Rattle.protocol.proofs.Issued.{OwnIssued, EachIssued, issued-under, each-issued-wider, each-issued-self}
+use Rattle.one_order.proofs.Lawful.{Lawful}
+use Rattle.one_order.proofs.History.{Past, logAt, ownAt}
+use Rattle.one_order.proofs.Steady.{Voted, voted-unique, voted-later}
+use Rattle.one_order.proofs.Known.{Snapshot, BallotsKnown}
+use Rattle.one_order.proofs.Issued.{OwnIssued, EachIssued, issued-under, each-issued-wider, each-issued-self}
 
 or-else : Option ℕ → Option ℕ → Option ℕ
 or-else none b = b

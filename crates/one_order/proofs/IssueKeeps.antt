@@ -3,20 +3,20 @@ use mathlib.Core.Path.{_≡_, refl, sym, subst}
 use mathlib.Core.List.{List, [], _∷_, _++_}
 use mathlib.Core.Logic.{_⊎_, inl, inr}
 use Prim.Native.Nat.{ℕ, _<_}
 use Rattle.protocol.specs.Entry.{value}
 use Rattle.protocol.specs.Beginning.{_⊑_, _⊏_}
 use Rattle.protocol.specs.Vote.{Rule}
 use Rattle.protocol.specs.Office.{Office, tail, path}
 use Rattle.protocol.specs.Issue.{withIssue}
 use Rattle.protocol.proofs.World.{Call, issue, refusal}
 use Rattle.protocol.proofs.Beginning.{⊑-refl, ⊑-append, snoc-cases}
-use Rattle.protocol.proofs.Lawful.{Lawful}
+use Rattle.one_order.proofs.Lawful.{Lawful}
 use Rattle.protocol.proofs.Office.{issue-path}
-use Rattle.protocol.proofs.History.{before, past-refl, after, officeAt, issue-office}
-use Rattle.protocol.proofs.Steady.{Voted}
-use Rattle.protocol.proofs.Known.{Snapshot}
-use Rattle.protocol.proofs.Issued.{Issued, EachIssued, issued-later}
-use Rattle.protocol.proofs.Invariant.{Invariant, NextOffice}
+use Rattle.one_order.proofs.History.{before, past-refl, after, officeAt, issue-office}
+use Rattle.one_order.proofs.Steady.{Voted}
+use Rattle.one_order.proofs.Known.{Snapshot}
+use Rattle.one_order.proofs.Issued.{Issued, EachIssued, issued-later}
+use Rattle.one_order.proofs.Invariant.{Invariant, NextOffice}
 
 module _ (rule : Rule) (n : ℕ) (law : Lawful rule) where
   -- Known: the other offices' ballots stay

@@ -10,23 +10,23 @@ use lib.Dec.{eqb, ltb}
 use lib.ListN.{length, getElem?}
 use borrow.Author.Tests.{eqb-true, ltb-true}
 use Rattle.lists.specs.Tests.{pick}
 use Rattle.protocol.specs.Entry.{value, proper}
 use Rattle.protocol.specs.Beginning.{_⊑_, _⊏_, begins}
 use Rattle.protocol.specs.Vote.{Rule}
 use Rattle.protocol.specs.Office.{Message}
 use Rattle.protocol.specs.Issue.{withIssue, refuseEntry}
 use Rattle.protocol.specs.Take.{refuseTake}
 use Rattle.protocol.specs.Elect.{withElect}
 use Rattle.protocol.proofs.World.{World, Call, issue, send, take, elect, idle, names, taking, refuseTaking, refusal, done, step}
 use Rattle.lists.proofs.Tests.{and-true, or-right, if-cases}
 use Rattle.protocol.proofs.Beginning.{⊑-refl, ⊏-⊑, ⊑-comparable, begins-of}
-use Rattle.protocol.proofs.Lawful.{Lawful}
-use Rattle.protocol.proofs.History.{past-refl, after, after-length, officeAt, logAt}
-use Rattle.protocol.proofs.Known.{Sent}
-use Rattle.protocol.proofs.Invariant.{Invariant, NextWorld, advance, same-left, same-next, put-next, invariant-start}
-use Rattle.protocol.proofs.IssueKeeps.{issue-change}
-use Rattle.protocol.proofs.TakeKeeps.{known-message, taking-change}
-use Rattle.protocol.proofs.ElectKeeps.{elect-change}
+use Rattle.one_order.proofs.Lawful.{Lawful}
+use Rattle.one_order.proofs.History.{past-refl, after, after-length, officeAt, logAt}
+use Rattle.one_order.proofs.Known.{Sent}
+use Rattle.one_order.proofs.Invariant.{Invariant, NextWorld, advance, same-left, same-next, put-next, invariant-start}
+use Rattle.one_order.proofs.IssueKeeps.{issue-change}
+use Rattle.one_order.proofs.TakeKeeps.{known-message, taking-change}
+use Rattle.one_order.proofs.ElectKeeps.{elect-change}
 
 -- the refusals' numbers that are not 10
 ten-not : (t : Bool) → t ≡ true → _≡_ {A = ℕ} (cond t 0 10) 10 → ⊥

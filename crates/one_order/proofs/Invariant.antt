@@ -8,17 +8,18 @@ use native.Mathlib.Decide.{ℕ-discrete}
 use native.Mathlib.Omega.{arith}
 use lib.ListN.{getElem?}
 use lib.Seq.{getD-set-same, getD-set-other}
 use Rattle.protocol.specs.Beginning.{_⊑_, _⊏_}
 use Rattle.protocol.specs.Vote.{Rule}
 use Rattle.protocol.specs.Office.{Office, Message, fresh, path}
 use Rattle.protocol.proofs.World.{World, Call, at, put}
 use Rattle.protocol.proofs.Beginning.{⊑-refl, ⊑-trans, ⊑-antisym, ⊏-nil, snoc-⊏}
-use Rattle.protocol.proofs.Lawful.{Lawful}
-use Rattle.protocol.proofs.History.{Past, before, past-refl, past-trans, past-cases, past-nil, after, after-length, officeAt, logAt, ownAt, start, fresh-path}
-use Rattle.protocol.proofs.Steady.{past-moves}
-use Rattle.protocol.proofs.Known.{Sent, Snapshot, BallotsKnown, snapshot-later}
-use Rattle.protocol.proofs.Issued.{OwnIssued, EachIssued, issued-later, empty-issued}
-use Rattle.protocol.proofs.Settled.{EachElected, elected-later}
+use Rattle.one_order.proofs.Lawful.{Lawful}
+use Rattle.protocol.proofs.Office.{fresh-path}
+use Rattle.one_order.proofs.History.{Past, before, past-refl, past-trans, past-cases, past-nil, after, after-length, officeAt, logAt, ownAt, start}
+use Rattle.one_order.proofs.Steady.{past-moves}
+use Rattle.one_order.proofs.Known.{Sent, Snapshot, BallotsKnown, snapshot-later}
+use Rattle.one_order.proofs.Issued.{OwnIssued, EachIssued, issued-later, empty-issued}
+use Rattle.one_order.proofs.Settled.{EachElected, elected-later}
 
 module _ (rule : Rule) (n : ℕ) (law : Lawful rule) where
   -- after the calls cs, newest first; Steady holds of every call from every state, and needs no part here

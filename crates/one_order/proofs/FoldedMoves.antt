@@ -9,22 +9,22 @@ use lib.Dec.{eqb, ltb}
 use lib.ListN.{length, getElem?, length-map}
 use lib.Seq.{set-getD}
 use borrow.Author.Tests.{lt-ltb, le-ltb, ltb-true, eqb-true}
 use Rattle.protocol.specs.Entry.{value}
 use Rattle.protocol.specs.Beginning.{_⊑_}
 use Rattle.protocol.specs.Vote.{Rule}
 use Rattle.protocol.specs.SettledRule.{bySettled}
 use Rattle.protocol.specs.Office.{Office, fresh}
 use Rattle.protocol.specs.Issue.{withIssue, refuseEntry}
 use Rattle.protocol.specs.Elect.{withElect}
 use Rattle.protocol.proofs.World as P
 use Rattle.protocol.proofs.World.{names as namesP, refusal, done as doneP, step as stepP}
 use Rattle.protocol.proofs.Kept.{ruleBehind}
 use Rattle.protocol.specs.Folding.{Folded, packet, withFold, withFoldedIssue, refuseFoldedIssue, withFoldedElect, withFoldedTake, refuseFoldedTake}
 use Rattle.protocol.proofs.FoldedWorld.{Desk, Posted, World, Call, issue, send, take, elect, fold, idle, deskAt, leaving, put, isThere, names, refuseTaking, taking, number, done, step, wholeDesk, wholeMessage, view, callOf}
 use Rattle.lists.proofs.Tests.{map-set}
-use Rattle.protocol.proofs.History.{step-done}
+use Rattle.one_order.proofs.History.{step-done}
 use Rattle.protocol.proofs.Folding.{TakeFound, fold-desk, issue-desk, elect-desk, folded-issue-found, take-found, refuse-desk, take-desk}
-use Rattle.protocol.proofs.FoldedSound.{Sound, view-at, view-sent, known, there, desk-in, message-in}
+use Rattle.one_order.proofs.FoldedSound.{Sound, view-at, view-sent, known, there, desk-in, message-in}
 
 -- ── document 01's step ──
 step-unnamed : (rule : Rule) (v : P.World) (c : P.Call) → namesP v c ≡ false → v ≡ stepP rule v c

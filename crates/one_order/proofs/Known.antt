@@ -4,13 +4,13 @@ use mathlib.Core.Path.{_≡_, sym, subst}
 use mathlib.Core.List.{List}
 use mathlib.Core.Logic.{_⊎_, inl, inr}
 use Prim.Native.Nat.{ℕ}
 use Rattle.protocol.specs.Beginning.{_⊑_, _⊏_}
 use Rattle.protocol.specs.Vote.{Rule}
 use Rattle.protocol.specs.Office.{Office, Message, path}
 use Rattle.protocol.proofs.World.{Call}
 use Rattle.protocol.proofs.Beginning.{⊑-⊏-trans}
-use Rattle.protocol.proofs.History.{Past, past-trans, past-comparable, officeAt, logAt, ownAt}
-use Rattle.protocol.proofs.Steady.{past-moves}
+use Rattle.one_order.proofs.History.{Past, past-trans, past-comparable, officeAt, logAt, ownAt}
+use Rattle.one_order.proofs.Steady.{past-moves}
 
 module _ (rule : Rule) (n : ℕ) where
   -- at some moment up to cs, office k had a log within l, and the own path q

@@ -11,16 +11,16 @@ use Prim.Native.Nat.{ℕ}
 use native.Mathlib.Omega.{arith}
 use lib.ListN.{length, drop}
 use borrow.Author.Tests.{eq-eqb, ne-eqb}
 use Rattle.protocol.specs.Beginning.{_⊑_, comparable, extends}
 use Rattle.protocol.specs.Vote.{Rule}
 use Rattle.protocol.specs.Office.{Office, Message}
 use Rattle.protocol.specs.Take.{rebase, catchUp, adopt, adopts, adopting, offers, withTake, refuseTake}
 use Rattle.protocol.specs.Elect.{withElect, electCount}
 use Rattle.lists.proofs.Tests.{if-cases, or-right}
 use Rattle.protocol.proofs.Beginning.{begins-of}
 use Rattle.protocol.proofs.Elect.{elect-none, elect-stops}
 use Rattle.protocol.proofs.Limits.{catchUp-log, TakeDone, take-done}
-use Rattle.protocol.proofs.Lawful.{Lawful, lawful-voted}
+use Rattle.one_order.proofs.Lawful.{Lawful, lawful-voted}
 
 -- ── take ──
 -- no list extends itself

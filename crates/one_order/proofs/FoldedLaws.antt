@@ -11,24 +11,24 @@ use native.Mathlib.Omega.{arith}
 use lib.ListN.{length, getElem?, length-drop}
 use borrow.Author.Tests.{ne-eqb, le-ltb}
 use Rattle.lists.specs.Tests.{pick}
 use Rattle.protocol.specs.Beginning.{_⊑_, extends}
 use Rattle.protocol.specs.SettledRule.{ruleFrom, bySettled}
 use Rattle.protocol.specs.Office.{Office, Message, tail}
 use Rattle.protocol.specs.Take.{rebase, catchUp, withTake, refuseTake}
 use Rattle.protocol.specs.Elect.{electCount}
 use Rattle.protocol.specs.Folding.{Folded, Packet, settledLength, shorn, caughtUp, fromThere, note, withFoldedElect, withFoldedTake, refuseFoldedTake}
 use Rattle.lists.proofs.Tests.{if-cases}
 use Rattle.protocol.proofs.Beginning.{⊑-length}
-use Rattle.protocol.proofs.Lawful.{from-lawful, settled-lawful}
+use Rattle.one_order.proofs.Lawful.{from-lawful, settled-lawful}
 use Rattle.protocol.proofs.Office.{take-moves}
-use Rattle.protocol.proofs.Twice.{take-twice, elect-twice}
-use Rattle.protocol.proofs.Swap.{EitherOrder, Swaps, either-order}
+use Rattle.one_order.proofs.Twice.{take-twice, elect-twice}
+use Rattle.one_order.proofs.Swap.{EitherOrder, Swaps, either-order}
 use Rattle.protocol.proofs.Kept.{effectOf}
 use Rattle.protocol.proofs.Whole.{append-same}
 use Rattle.protocol.proofs.Folding.{TakeFound, take-found, take-desk}
 use Rattle.protocol.proofs.FoldedWorld.{Desk, Posted, World, deskAt, leaving, wholeDesk, wholeMessage}
-use Rattle.protocol.proofs.FoldedSound.{lengths, Fit, Sound, known, view-at, view-sent, desk-in, message-in, message-heard}
-use Rattle.protocol.proofs.FoldedKeeps.{leaving-kept, take-fit}
+use Rattle.one_order.proofs.FoldedSound.{lengths, Fit, Sound, known, view-at, view-sent, desk-in, message-in, message-heard}
+use Rattle.one_order.proofs.FoldedKeeps.{leaving-kept, take-fit}
 
 -- ── take twice ──
 -- a length that is noted already

@@ -7,19 +7,19 @@ use mathlib.Core.Path.{_≡_, subst}
 use mathlib.Core.List.{List, _∷_}
 use Prim.Native.Nat.{ℕ, _<_, _≤_}
 use lib.ListN.{length}
 use Rattle.protocol.specs.Entry.{officeOf}
 use Rattle.protocol.specs.Beginning.{_⊑_, _⊏_}
 use Rattle.protocol.specs.Vote.{Rule}
 use Rattle.protocol.specs.Office.{tail, path}
 use Rattle.protocol.proofs.World.{Call, issue, refusal}
 use Rattle.protocol.proofs.Beginning.{⊑-append, ⊑-⊏-trans, ⊏-irrefl, snoc-⊏}
-use Rattle.protocol.proofs.Lawful.{Lawful}
-use Rattle.protocol.proofs.History.{Past, past-refl, past-trans, after, after-length, officeAt, logAt, ownAt}
-use Rattle.protocol.proofs.Steady.{past-moves, Voted, voted-unique, voted-later}
-use Rattle.protocol.proofs.Issued.{Issued, EachIssued}
-use Rattle.protocol.proofs.Settled.{order-issued, ballot-issued}
-use Rattle.protocol.proofs.EveryCall.{invariant}
-use Rattle.protocol.proofs.OneOrder.{parts-of}
+use Rattle.one_order.proofs.Lawful.{Lawful}
+use Rattle.one_order.proofs.History.{Past, past-refl, past-trans, after, after-length, officeAt, logAt, ownAt}
+use Rattle.one_order.proofs.Steady.{past-moves, Voted, voted-unique, voted-later}
+use Rattle.one_order.proofs.Issued.{Issued, EachIssued}
+use Rattle.one_order.proofs.Settled.{order-issued, ballot-issued}
+use Rattle.one_order.proofs.EveryCall.{invariant}
+use Rattle.one_order.proofs.OneOrder.{parts-of}
 
 module _ (rule : Rule) (n : ℕ) where
   -- an entry's office is the one that issued it

@@ -9,18 +9,18 @@ use mathlib.Core.List.{List, [], _∷_}
 use mathlib.Core.Bool.{true}
 use mathlib.Core.Logic.{_⊎_}
 use Prim.Native.Nat.{ℕ, _<_, _≤_}
 use Rattle.protocol.specs.Beginning.{_⊑_}
 use Rattle.protocol.specs.Vote.{Rule}
 use Rattle.protocol.specs.SettledRule.{bySettled}
 use Rattle.protocol.proofs.World as P
-use Rattle.protocol.proofs.History as H
-use Rattle.protocol.proofs.Lawful.{settled-lawful}
-use Rattle.protocol.proofs.Machine.{Machine, runs, Follows, reached, OneOrderOf, one-order-machine}
+use Rattle.one_order.proofs.History as H
+use Rattle.one_order.proofs.Lawful.{settled-lawful}
+use Rattle.one_order.proofs.Machine.{Machine, runs, Follows, reached, OneOrderOf, one-order-machine}
 use Rattle.protocol.proofs.FoldedWorld as F
-use Rattle.protocol.proofs.FoldedSound as S
-use Rattle.protocol.proofs.FoldedMoves.{moves}
-use Rattle.protocol.proofs.FoldedKeeps.{keeps, starts, sound-start}
-use Rattle.protocol.proofs.FoldedOrder.{logAt, is-issue, never, meets, takes, shared}
+use Rattle.one_order.proofs.FoldedSound as S
+use Rattle.one_order.proofs.FoldedMoves.{moves}
+use Rattle.one_order.proofs.FoldedKeeps.{keeps, starts, sound-start}
+use Rattle.one_order.proofs.FoldedOrder.{is-issue, never, meets, takes, shared}
 
 pub record Folder (founding : List ℕ) (n : ℕ) : Type 1 where
   pub W : Type 0
@@ -110,7 +110,7 @@ module _ (founding : List ℕ) (n : ℕ) (pos : 0 < n) (m : Folder founding n) w
         → (F.number shaped (F.take k i) ≡ 0) ⊎ ((F.number shaped (F.take k i) ≡ 9) ⊎ (F.number shaped (F.take k i) ≡ 17))
     folder-takes k i = takes founding n pos shaped (both-at cs .there) k i
 
-    pub folder-shared : (k j : ℕ) → j < n → F.deskAt shaped k .former ⊑ logAt shaped j
+    pub folder-shared : (k j : ℕ) → j < n → F.deskAt shaped k .former ⊑ F.logAt shaped j
     folder-shared k j = shared founding n pos shaped (both-at cs .there) k j
 
 -- the world with folding is such a machine

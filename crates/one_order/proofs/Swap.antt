@@ -8,25 +8,25 @@ use mathlib.Core.Logic.{_⊎_, inl, inr}
 use Prim.Native.Nat.{ℕ, zero, suc, _<_}
 use native.Mathlib.Omega.{arith}
 use lib.ListN.{length, length-set, length-map, getElem?}
 use Rattle.protocol.specs.Beginning.{_⊑_, _⊏_}
 use Rattle.protocol.specs.Vote.{Rule}
 use Rattle.protocol.specs.Office.{Office, Message, tail, path, votes}
 use Rattle.protocol.specs.Issue.{withIssue}
 use Rattle.protocol.specs.Take.{catchUp, offers, withTake, refuseTake}
 use Rattle.protocol.specs.Elect.{lose, settle, electing, withElect}
 use Rattle.protocol.proofs.World.{World, Call, idle, at}
 use Rattle.protocol.proofs.Beginning.{⊑-trans, ⊏-⊑, ⊑-⊏-trans, ⊑-comparable}
 use Rattle.protocol.proofs.Limits.{adopts-length, take-done}
-use Rattle.protocol.proofs.Lawful.{Lawful}
+use Rattle.one_order.proofs.Lawful.{Lawful}
 use Rattle.protocol.proofs.Office.{OfficeMoves, take-moves, next-cases}
-use Rattle.protocol.proofs.History.{past-refl, after, officeAt, logAt, start}
-use Rattle.protocol.proofs.OneCall.{step-relates}
-use Rattle.protocol.proofs.Known.{Snapshot, snapshots-comparable}
-use Rattle.protocol.proofs.Invariant.{Invariant}
-use Rattle.protocol.proofs.TakeKeeps.{known-message, taking-change}
-use Rattle.protocol.proofs.EveryCall.{invariant}
-use Rattle.protocol.proofs.Join.{office-trans, catchUp-tails, Comparable, take-least, take-heard, moves-same}
-use Rattle.protocol.proofs.Twice.{accepts}
+use Rattle.one_order.proofs.History.{past-refl, after, officeAt, logAt, start}
+use Rattle.one_order.proofs.OneCall.{step-relates}
+use Rattle.one_order.proofs.Known.{Snapshot, snapshots-comparable}
+use Rattle.one_order.proofs.Invariant.{Invariant}
+use Rattle.one_order.proofs.TakeKeeps.{known-message, taking-change}
+use Rattle.one_order.proofs.EveryCall.{invariant}
+use Rattle.one_order.proofs.Join.{office-trans, catchUp-tails, Comparable, take-least, take-heard, moves-same}
+use Rattle.one_order.proofs.Twice.{accepts}
 
 -- office k's state o behind two messages, a taken first
 abbrev pub takesBoth : ℕ → Message → Message → Office → Office

@@ -4,17 +4,17 @@ use mathlib.Core.Path.{sym, subst, _∙_}
 use mathlib.Core.List.{List}
 use mathlib.Core.Logic.{inl, inr}
 use Prim.Native.Nat.{ℕ}
 use Rattle.protocol.specs.Beginning.{_⊑_, _⊏_}
 use Rattle.protocol.specs.Vote.{Rule}
 use Rattle.protocol.specs.Office.{Office, path}
 use Rattle.protocol.proofs.World.{Call}
 use Rattle.protocol.proofs.Beginning.{⊑-trans, ⊑-⊏-trans, ⊏-irrefl}
-use Rattle.protocol.proofs.Lawful.{Lawful}
+use Rattle.one_order.proofs.Lawful.{Lawful}
 use Rattle.protocol.proofs.Office.{Kept}
-use Rattle.protocol.proofs.History.{before, past-refl, officeAt, logAt}
-use Rattle.protocol.proofs.Known.{Snapshot, BallotsKnown}
-use Rattle.protocol.proofs.Issued.{EachIssued, issued-later, each-issued-wider, each-issued-self}
-use Rattle.protocol.proofs.Invariant.{Invariant, Left}
+use Rattle.one_order.proofs.History.{before, past-refl, officeAt, logAt}
+use Rattle.one_order.proofs.Known.{Snapshot, BallotsKnown}
+use Rattle.one_order.proofs.Issued.{EachIssued, issued-later, each-issued-wider, each-issued-self}
+use Rattle.one_order.proofs.Invariant.{Invariant, Left}
 
 module _ (rule : Rule) (n : ℕ) (law : Lawful rule) where
   -- a state that office k may pass through, under the order q

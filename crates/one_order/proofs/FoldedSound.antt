@@ -10,22 +10,22 @@ use mathlib.Core.Option.{some}
 use Prim.Native.Nat.{ℕ, zero, suc, _≤_, _<_}
 use native.Mathlib.Omega.{arith}
 use lib.ListN.{length, getD, getElem?, length-append, length-map}
 use Rattle.protocol.specs.Beginning.{_⊑_}
 use Rattle.protocol.specs.Vote.{Rule}
 use Rattle.protocol.specs.SettledRule.{bySettled}
 use Rattle.protocol.specs.Office.{Office}
 use Rattle.protocol.proofs.World as P
 use Rattle.protocol.proofs.Kept.{effectOf}
 use Rattle.protocol.specs.Folding.{settledLength}
 use Rattle.protocol.proofs.FoldedWorld.{Desk, Posted, World, newDesk, deskAt, wholeDesk, wholeMessage, view}
 use Rattle.lists.proofs.Tests.{getD-map}
 use Rattle.protocol.proofs.Beginning.{⊑-length}
-use Rattle.protocol.proofs.Lawful.{Lawful, settled-lawful}
-use Rattle.protocol.proofs.History as H
-use Rattle.protocol.proofs.Steady.{past-moves}
-use Rattle.protocol.proofs.Invariant.{Invariant}
-use Rattle.protocol.proofs.TakeKeeps.{known-message}
-use Rattle.protocol.proofs.EveryCall.{invariant}
+use Rattle.one_order.proofs.Lawful.{Lawful, settled-lawful}
+use Rattle.one_order.proofs.History as H
+use Rattle.one_order.proofs.Steady.{past-moves}
+use Rattle.one_order.proofs.Invariant.{Invariant}
+use Rattle.one_order.proofs.TakeKeeps.{known-message}
+use Rattle.one_order.proofs.EveryCall.{invariant}
 
 -- ── the view ──
 pub view-at : (w : World) (k : ℕ) → P.at (view w) k ≡ wholeDesk (deskAt w k)

@@ -3,14 +3,14 @@
 use mathlib.Core.Path.{_≡_}
 use mathlib.Core.List.{List, [], _∷_, _++_}
 use Prim.Native.Nat.{ℕ, _<_}
 use Rattle.protocol.specs.Entry.{value}
 use Rattle.protocol.specs.Beginning.{_⊑_}
 use Rattle.protocol.specs.Vote.{Rule}
 use Rattle.protocol.specs.Office.{tail}
 use Rattle.protocol.proofs.World.{Call, issue, refusal}
 use Rattle.protocol.proofs.Beginning.{⊑-trans, ⊏-⊑, ⊑-append, ⊏-nil, snoc-⊏}
-use Rattle.protocol.proofs.History.{Past, past-refl, past-trans, after, officeAt, logAt, ownAt}
-use Rattle.protocol.proofs.Steady.{Voted}
+use Rattle.one_order.proofs.History.{Past, past-refl, past-trans, after, officeAt, logAt, ownAt}
+use Rattle.one_order.proofs.Steady.{Voted}
 
 module _ (rule : Rule) (n : ℕ) where
   -- a done issue of e, at its office and with exactly p in view, under a log within l

@@ -13,19 +13,19 @@ use lib.Dec.{ltb}
 use lib.ListN.{length, getD}
 use borrow.Author.Tests.{lt-ltb}
 use Rattle.lists.specs.Tests.{allB}
 use Rattle.protocol.specs.Entry.{officeOf}
 use Rattle.protocol.specs.Beginning.{_⊑_}
 use Rattle.protocol.specs.Limits.{total}
 use Rattle.protocol.specs.Counts.{noCounts}
 use Rattle.protocol.specs.Office.{Office}
 use Rattle.lists.proofs.Tests.{both-0, both-1, both-true, all-of}
 use Rattle.protocol.proofs.Beginning.{⊑-trans, ⊑-append}
 use Rattle.protocol.proofs.Moves.{weights-total}
 use Rattle.protocol.proofs.Counts.{counts-total}
 use Rattle.protocol.proofs.Kept.{Effect, noEffect, effectAfter, effectOf, kept-append}
-use Rattle.protocol.proofs.FoldedWorld.{Desk, World, Call, deskAt, wholeDesk}
-use Rattle.protocol.proofs.FoldedSound.{Sound, view-at}
-use Rattle.protocol.proofs.FoldedOrder.{world, logAt, FoldedOrder, folded-one-order}
+use Rattle.protocol.proofs.FoldedWorld.{Desk, World, Call, deskAt, wholeDesk, logAt}
+use Rattle.one_order.proofs.FoldedSound.{Sound, view-at}
+use Rattle.one_order.proofs.FoldedOrder.{world, FoldedOrder, folded-one-order}
 
 -- a test of every entry, at a beginning
 all-⊑ : (t : ℕ → Bool) (a b : List ℕ) → a ⊑ b → allB t b ≡ true → allB t a ≡ true

@@ -5,22 +5,22 @@ use mathlib.Core.Option.{Option, none, some}
 use mathlib.Core.Logic.{_⊎_, inl, inr}
 use Prim.Native.Nat.{ℕ}
 use lib.ListN.{getD, getElem?}
 use Rattle.protocol.specs.Beginning.{_⊑_, _⊏_, extends}
 use Rattle.protocol.specs.Vote.{Rule}
 use Rattle.protocol.specs.Office.{Office, Message, tail, path}
 use Rattle.protocol.specs.Take.{rebase, catchUp, adopting, offers, withTake}
 use Rattle.protocol.proofs.World.{Call, taking}
 use Rattle.lists.proofs.Tests.{if-cases}
 use Rattle.protocol.proofs.Beginning.{⊑-refl, ⊑-trans, ⊏-⊑, ⊑-⊏-trans, ⊑-comparable, extends-true, extends-false}
-use Rattle.protocol.proofs.Lawful.{Lawful}
+use Rattle.one_order.proofs.Lawful.{Lawful}
 use Rattle.protocol.proofs.Office.{Offered, SetCases, set-cases, rebase-path, adopting-path}
-use Rattle.protocol.proofs.History.{before, past-refl, after, officeAt, logAt}
-use Rattle.protocol.proofs.Steady.{past-moves}
-use Rattle.protocol.proofs.Known.{Sent, Snapshot, BallotsKnown}
-use Rattle.protocol.proofs.Issued.{EachIssued, issued-later, each-issued-wider}
-use Rattle.protocol.proofs.Settled.{order-issued, ballot-issued}
-use Rattle.protocol.proofs.Invariant.{Invariant, Left, NextOffice, same-left}
-use Rattle.protocol.proofs.Passing.{Passing, now-passing, kept-passing}
+use Rattle.one_order.proofs.History.{before, past-refl, after, officeAt, logAt}
+use Rattle.one_order.proofs.Steady.{past-moves}
+use Rattle.one_order.proofs.Known.{Sent, Snapshot, BallotsKnown}
+use Rattle.one_order.proofs.Issued.{EachIssued, issued-later, each-issued-wider}
+use Rattle.one_order.proofs.Settled.{order-issued, ballot-issued}
+use Rattle.one_order.proofs.Invariant.{Invariant, Left, NextOffice, same-left}
+use Rattle.one_order.proofs.Passing.{Passing, now-passing, kept-passing}
 
 module _ (rule : Rule) (n : ℕ) (law : Lawful rule) where
   -- step 1

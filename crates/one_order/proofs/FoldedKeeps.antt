@@ -11,23 +11,23 @@ use lib.Dec.{eqb}
 use lib.ListN as L
 use lib.ListN.{length, getD, set, getElem?, replicate, length-append, length-take}
 use borrow.Author.Tests.{eqb-true}
 use Rattle.protocol.specs.Entry.{value}
 use Rattle.protocol.specs.Vote.{Rule}
 use Rattle.protocol.specs.SettledRule.{bySettled}
 use Rattle.protocol.specs.Office.{Office}
 use Rattle.protocol.proofs.World as P
 use Rattle.protocol.proofs.World.{step as stepP}
 use Rattle.protocol.proofs.Kept.{Effect, effectAfter, effectOf, noEffect, ruleBehind, kept-nil, kept-append}
 use Rattle.protocol.specs.Folding.{Folded, settledLength, leastKnown, withFold, withFoldedIssue, withFoldedElect, withFoldedTake}
 use Rattle.protocol.proofs.FoldedWorld.{Desk, Posted, World, Call, issue, send, take, elect, fold, idle, newDesk, founded, deskAt, goes, leaving, put, names, refuseTaking, taking, number, done, step, wholeDesk, view, callOf}
 use Rattle.lists.proofs.Tests.{if-cases, and-true, getD-replicate}
 use Rattle.protocol.proofs.Beginning.{⊑-length}
 use Rattle.protocol.proofs.Office.{SetCases, set-cases}
-use Rattle.protocol.proofs.History as H
-use Rattle.protocol.proofs.Steady.{step-moves}
+use Rattle.one_order.proofs.History as H
+use Rattle.one_order.proofs.Steady.{step-moves}
 use Rattle.protocol.proofs.Folding.{TakeFound, fold-held, fold-dropped, least-own, least-noted, take-found}
-use Rattle.protocol.proofs.FoldedSound.{lengths, Fit, FitSent, Sound, fit-grows, fit-sent-grows, there, message-heard, own-length}
-use Rattle.protocol.proofs.FoldedMoves.{moves}
+use Rattle.one_order.proofs.FoldedSound.{lengths, Fit, FitSent, Sound, fit-grows, fit-sent-grows, there, message-heard, own-length}
+use Rattle.one_order.proofs.FoldedMoves.{moves}
 
 map-replicate : {A B : Type 0} (f : A → B) (n : ℕ) (a : A) → map f (replicate n a) ≡ replicate n (f a)
 map-replicate f zero a = refl

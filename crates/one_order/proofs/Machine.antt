@@ -6,13 +6,13 @@ use Prim.Native.Nat.{ℕ, _<_, _≤_}
 use native.Mathlib.Omega.{arith}
 use lib.ListN as L
 use lib.ListN.{getD}
 use Rattle.protocol.specs.Entry.{value, officeOf, lineOf, codeOf}
 use Rattle.protocol.specs.Vote.{Rule}
 use Rattle.protocol.specs.Office.{path}
 use Rattle.protocol.specs.Longest.{longest}
-use Rattle.protocol.proofs.Lawful.{Lawful}
+use Rattle.one_order.proofs.Lawful.{Lawful}
 use Rattle.protocol.proofs.World.{World, Call, issue, at, founded, refusal, step, run}
-use Rattle.protocol.proofs.OneOrder.{world, settledLogs, IssuedIn, OrderBehind, OneOrder, one-order-of}
+use Rattle.one_order.proofs.OneOrder.{world, settledLogs, IssuedIn, OrderBehind, OneOrder, one-order-of}
 
 pub record Machine : Type 1 where
   pub W : Type 0
