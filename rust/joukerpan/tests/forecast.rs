@@ -184,6 +184,7 @@ fn a_total_of_zero_is_a_choice() {
 }
 
 #[test]
+#[allow(clippy::reversed_empty_ranges)] // bounds that do not fit are what is tried
 fn bounds_past_the_last_office_are_not_looked_at() {
     let agreed = office(&WEIGHTS, &[Some(A); 3], &[]);
     assert_eq!(agreed.forecast(&[1..=2, 0..=2, 0..=2, 9..=0]), Ok(Some(A)));
