@@ -129,33 +129,25 @@ module _ (before after : Record) (words rest : List ℕ) where
         leaves = λ z. absurd (z (number q));
       }
 
-  -- a count is 0 where there are none
-  none-pending : pendingPart t l p ≡ [] → answer .pending ≡ 0
+  -- a count of the entries of a part is 0 where the part is empty, and where the call is refused
+  none-of : (count : Outcome → ℕ) (part : List ℕ) → ((k : ℕ) → count (outcomeIs (toldRefused k)) ≡ 0)
+      → count (outcomeIs (toldDone own t l p)) ≡ length (entriesOf own part) → part ≡ [] → count answer ≡ 0
   unfolding entriesOf
-  none-pending n = go way
+  none-of count part zero counted n = go way
     where
-      go : Way → answer .pending ≡ 0
-      go (stray e q w) = ap (λ (x : Outcome). x .pending) q
-      go (short e h q w) = ap (λ (x : Outcome). x .pending) q
-      go (done e h q w) = ap (λ (x : Outcome). x .pending) q ∙ ap (λ (x : List ℕ). length (entriesOf own x)) n
+      go : Way → count answer ≡ 0
+      go (stray e q w) = ap count q ∙ zero 1
+      go (short e h q w) = ap count q ∙ zero 6
+      go (done e h q w) = ap count q ∙ counted ∙ ap (λ (x : List ℕ). length (entriesOf own x)) n
+
+  none-pending : pendingPart t l p ≡ [] → answer .pending ≡ 0
+  none-pending = none-of (λ (x : Outcome). x .pending) (pendingPart t l p) (λ k. refl) refl
 
   none-lost : lostPart t p ≡ [] → answer .lost ≡ 0
-  unfolding entriesOf
-  none-lost n = go way
-    where
-      go : Way → answer .lost ≡ 0
-      go (stray e q w) = ap (λ (x : Outcome). x .lost) q
-      go (short e h q w) = ap (λ (x : Outcome). x .lost) q
-      go (done e h q w) = ap (λ (x : Outcome). x .lost) q ∙ ap (λ (x : List ℕ). length (entriesOf own x)) n
+  none-lost = none-of (λ (x : Outcome). x .lost) (lostPart t p) (λ k. refl) refl
 
   none-settled : settledPart t l ≡ [] → answer .settled ≡ 0
-  unfolding entriesOf
-  none-settled n = go way
-    where
-      go : Way → answer .settled ≡ 0
-      go (stray e q w) = ap (λ (x : Outcome). x .settled) q
-      go (short e h q w) = ap (λ (x : Outcome). x .settled) q
-      go (done e h q w) = ap (λ (x : Outcome). x .settled) q ∙ ap (λ (x : List ℕ). length (entriesOf own x)) n
+  none-settled = none-of (λ (x : Outcome). x .settled) (settledPart t l) (λ k. refl) refl
 
   has-room : reportable before after words ≡ true → length (restOf own t l) ≤ length rest → answer .number ≡ 0
   has-room r h = go way
