@@ -1,5 +1,5 @@
-// The household sheet: household records turned into class totals by an office's settled frame. A library above `frame`, which uses only what
-// frame's calls promise.
+// The household sheet: household records turned into class totals by an office's settled frame. A library above `frame` and `both_frames`, which uses
+// only what their calls promise.
 ghost use mathlib.Core.Path.{_≡_};
 ghost use Rattle.sheet.specs.Sheet.{noSheet, sheetOf};
 use frame::Record;
