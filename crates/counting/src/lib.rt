@@ -69,20 +69,18 @@ pub fn counts_after(start: [u64; 8], words: &[u32]) -> [u64; 8]
     cells
 }
 
-// The counts after one entry more; an office of 8 or more has none. Public only for the crates above, which prove that the count has room:
-// it is at most the length of a log.
-pub fn counted(counts: [u64; 8], word: u32) -> [u64; 8]
-    requires { ⌜ countOf counts (officeOf word) < 18446744073709551615 ⌝ }
-    ensures { λ r. ⌜ r ≡ counted counts word ⌝ }
+// One entry more; an office of 8 or more has no count. The counts change where they stand: handed back by value they would be copied at every
+// step. Public only for the crates above, which prove that the count has room: it is at most the length of a log.
+pub fn count(counts: &mut [u64; 8], word: u32)
+    requires { ⌜ (length (now counts) ≡ 8) × (countOf (now counts) (officeOf word) < 18446744073709551615) ⌝ }
+    ensures { λ r. ⌜ now (counts .exit) ≡ counted (now (counts .entry)) word ⌝ }
 {
-    let mut next = counts;
     let office = office_of(word);
     if office >= 8 {
-        return next;
+        return;
     }
     let has = counts[office];
-    next[office] = has + 1;
-    next
+    counts[office] = has + 1;
 }
 
 // Whether each byte of the number is below 128.
