@@ -22,20 +22,20 @@ impl State {
         requires { ⌜ Steppable n self (now log) ⌝ }
         ensures { λ r. ⌜ (r ≡ stepOf counts self (now (log .entry))) × (now (log .exit) ≡ stepWords counts self (now (log .entry))) ⌝ }
     {
-        let held = self.held;
-        let summary = self.summary;
+        let mut next = self;
+        let held = next.held;
+        let summary = next.summary;
         let present = summary.present;
         let none = tallies::NO_VOTE;
         let mut votes = [none; 8];
         for i in 0..n {
-            let b = self.ballots[i];
+            let b = next.ballots[i];
             votes[i] = tallies::vote(b);
         }
         let w = tallies::find_winner(votes, present, counts, n);
         match w {
-            Winner::Nobody => self,
+            Winner::Nobody => next,
             Winner::Entry(e) => {
-                let mut next = self;
                 log[held] = e;
                 next.held = held + 1;
                 let after = summary.next(e);
@@ -67,12 +67,11 @@ impl State {
         let mut now = self;
         loop {
             let before = now.held;
-            let next = now.step(n, counts, log);
-            if next.held == before {
+            now = now.step(n, counts, log);
+            if now.held == before {
                 break;
             }
             counting::count(&mut counts, log[before]);
-            now = next;
         }
         now
     }

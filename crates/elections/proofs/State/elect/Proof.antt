@@ -76,11 +76,7 @@ loop-again c kept E e =
     )
 
 returns : tie.Need-returns Inv-loop μ-loop
-returns c =
-    let x = stepped-last c in
-    let g = going x in
-    let m = run-end _ _ _ _ _ _ (g .0) _ (g .1) _ (x .step .ensures .0) _ (x .step .ensures .1) (c .if1 .taken) in
-    (sym (last c .0) ∙ m .0, m .1)
+returns c = let x = stepped-last c in let g = going x in run-end _ _ _ _ _ _ (g .0) _ (g .1) _ (x .step .ensures .0) _ (x .step .ensures .1) (c .if1 .taken)
 
 pub elect-spec : {M : Type 1} → statement M
 elect-spec =

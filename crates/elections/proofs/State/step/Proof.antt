@@ -14,16 +14,16 @@ use Rattle.elections.proofs.State.step.Statement.{statement}
 use Rattle.elections.proofs.State.step.Tie as tie
 
 abbrev Inv-loop : tie.InvT-loop
-Inv-loop n counts log self held summary present none votes₀ i₀ votes i = (i ≤ n) × Gathered (self .ballots) votes i
+Inv-loop n counts log next held summary present none votes₀ i₀ votes i = (i ≤ n) × Gathered (next .ballots) votes i
 
 abbrev μ-loop : tie.MeasureT-loop
-μ-loop n counts log self held summary present none votes₀ i₀ votes i = n - i
+μ-loop n counts log next held summary present none votes₀ i₀ votes i = n - i
 
 abbrev Inv-loop2 : tie.InvT-loop2
-Inv-loop2 n log held none e next₀ i₀ next i = (i ≤ n) × (next ≡ withBallots next₀ (next .ballots)) × Settling e (next₀ .ballots) (next .ballots) i
+Inv-loop2 n log next₀ held none e i₀ next i = (i ≤ n) × (next ≡ withBallots next₀ (next .ballots)) × Settling e (next₀ .ballots) (next .ballots) i
 
 abbrev μ-loop2 : tie.MeasureT-loop2
-μ-loop2 n log held none e next₀ i₀ next i = n - i
+μ-loop2 n log next₀ held none e i₀ next i = n - i
 
 -- the places of the code: the start, from a turn of the first walk, from its end, and from the winner; the winner, from a turn of the second walk and from its end
 abbrev from-turn : tie.In-loop Inv-loop μ-loop Inv-loop2 μ-loop2 → tie.Start Inv-loop μ-loop Inv-loop2 μ-loop2
@@ -43,7 +43,7 @@ few2 : (c : tie.In-loop2 Inv-loop μ-loop Inv-loop2 μ-loop2) → from-winner (w
 few2 c = few (from-winner (winner2 c))
 
 -- the gathered votes have a winner
-won : (c : tie.After-w Inv-loop μ-loop Inv-loop2 μ-loop2) → let a = from-winner c .args in winnerIn (a .counts) (a .t1) (a .log .now) ≡ some (c .w .given .0 .0)
+won : (c : tie.After-w Inv-loop μ-loop Inv-loop2 μ-loop2) → let a = from-winner c .args in winnerIn (a .counts) (a .self) (a .log .now) ≡ some (c .w .given .0 .0)
 won c = let s = from-winner c in let l = c .before .before .before .before .loop in won-by _ _ _ (s .pre) _ (l .votes) (l .i) (l .inv .1) (omega arith) _ (c .before .before .find-winner .ensures) _ (c .w .given .1)
 
 loop-again : tie.Need-loop-again Inv-loop μ-loop Inv-loop2 μ-loop2
@@ -66,7 +66,7 @@ loop2-again c =
     let t = c .before .before .before in
     let w = winner2 t in
     let S = from-winner w .pre in
-    let s = from-winner w .args .t1 in
+    let s = from-winner w .args .self in
     let e = w .w .given .0 .0 in
     let l = t .before .loop2 in
     let bs = l .next .ballots in
