@@ -1,37 +1,37 @@
 -- What the walks for counts make.
---     count-next, count-done       a walk that counts the entries of one office, one word more, and its end
---     counts-fit, counts-next, counts-done     a walk over the offices that raises their counts, one office more, and its end
+--     one-entry, after-one         a log of one entry: an office's, and the counts after it
+--     counts-here, counts-fit, counts-next, counts-done     a walk over the offices that raises their counts, one office more, and its end
 --     counted-in, counted-far      one entry more, of an office that has a count, and of one that has none
 -- Assumes nothing.
-use mathlib.Core.Path.{_≡_, sym, ap, ap₂, _∙_}
+use mathlib.Core.Path.{_≡_, refl, sym, ap, ap₂, _∙_}
 use mathlib.Core.Bool.{cond}
-use mathlib.Core.List.{List}
+use mathlib.Core.List.{List, [], _∷_}
 use Prim.Native.Nat.{ℕ, _+_, _<_, _≤_}
 use native.Mathlib.Omega.{arith}
 use lib.Dec.{eqb}
-use lib.ListN.{length, getD, drop, set, drop-of-length-le}
+use lib.ListN.{length, getD, set}
 use lib.Seq.{set-out}
-use Rattle.lists.proofs.Walk.{rest-step}
 use Rattle.lists.proofs.Fill.{filled, fill-here, fill-step, fill-end}
 use Rattle.protocol.specs.Entry.{officeOf}
 use Rattle.protocol.specs.Counts.{countIn, countOf, counted, countsAfter}
 use Rattle.protocol.proofs.Counts.{counts-length, counts-at, count-of, count-most}
 use Rattle.counting.specs.Room.{Room}
 
-pub count-next : (office : ℕ) (xs : List ℕ) (i : ℕ) → i < length xs → countIn office (drop i xs) ≡ cond (eqb (officeOf (getD xs i 0)) office) 1 0 + countIn office (drop (i + 1) xs)
+-- a log of one entry
+pub one-entry : (k e : ℕ) → cond (eqb (officeOf e) k) 1 0 ≡ countIn k (e ∷ [])
 unfolding countIn
-count-next office xs i h = rw (rest-step 0 xs i h)
+one-entry k e = omega arith
 
-pub count-done : (office : ℕ) (xs : List ℕ) (i : ℕ) → length xs ≤ i → countIn office (drop i xs) ≡ 0
-unfolding countIn
-count-done office xs i h = rw (drop-of-length-le xs h)
+pub after-one : (counts : List ℕ) (e : ℕ) → countsAfter counts (e ∷ []) ≡ counted counts e
+unfolding countsAfter
+after-one counts e = refl
 
 module _ (start log cells : List ℕ) (k : ℕ) (eight : length start ≡ 8) (inv : cells ≡ filled (countsAfter start log) start k) where
   -- as many counts, and the next is still that of the start
   same : length (countsAfter start log) ≡ length start
   same = counts-length start log
 
-  counts-here : k < 8 → getD cells k 0 ≡ countOf start k
+  pub counts-here : k < 8 → getD cells k 0 ≡ countOf start k
   counts-here h = ap (λ (c : List ℕ). getD c k 0) inv ∙ fill-here 0 (countsAfter start log) start k (omega (arith, same)) (omega arith)
 
   pub counts-fit : k < 8 → (count : ℕ) → count ≡ countIn k log → Room start (length log) → getD cells k 0 + count < 18446744073709551616

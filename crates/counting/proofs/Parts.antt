@@ -30,17 +30,10 @@ module _ (tail cells : List ℕ) (i : ℕ) (inv : Counting tail cells i) where
   pub tail-room : (k : ℕ) → countOf cells k ≤ i
   tail-room k = omega (arith, ap (λ (c : List ℕ). countOf c k) inv, count-most 8 (take i tail) k, length-take i tail)
 
-  module _ (h : i < length tail) (k : ℕ) (q : k ≡ officeOf (getD tail i 0)) where
-    next : counted cells (getD tail i 0) ≡ countsAfter (noCounts 8) (take (i + 1) tail)
-    next =
-        ap (λ (c : List ℕ). counted c (getD tail i 0)) inv ∙ sym (counts-next (noCounts 8) (take i tail) (getD tail i 0)) ∙
-        ap (countsAfter (noCounts 8)) (sym (ap (λ (j : ℕ). take j tail) (add-one i) ∙ take-suc tail i 0 h))
-
-    pub tail-next : Counting tail (set cells k (countOf cells k + 1)) (i + 1)
-    tail-next = counted-in cells (getD tail i 0) k q ∙ next
-
-    pub tail-far : 8 ≤ k → Counting tail cells (i + 1)
-    tail-far f = counted-far cells (getD tail i 0) k q (omega (arith, ap length inv, none-length 8 (take i tail))) ∙ next
+  pub tail-next : i < length tail → (next : List ℕ) → next ≡ counted cells (getD tail i 0) → Counting tail next (i + 1)
+  tail-next h next q =
+      q ∙ ap (λ (c : List ℕ). counted c (getD tail i 0)) inv ∙ sym (counts-next (noCounts 8) (take i tail) (getD tail i 0)) ∙
+      ap (countsAfter (noCounts 8)) (sym (ap (λ (j : ℕ). take j tail) (add-one i) ∙ take-suc tail i 0 h))
 
   pub tail-done : length tail ≤ i → cells ≡ countsAfter (noCounts 8) tail
   tail-done h = inv ∙ ap (countsAfter (noCounts 8)) (take-all i tail h)

@@ -5,9 +5,9 @@ ghost use Prim.Native.Nat.{_<_, _≤_};
 ghost use lib.Dec.{eqb};
 ghost use lib.ListN.{length, take};
 ghost use Rattle.protocol.specs.Entry.{officeOf};
-ghost use Rattle.protocol.specs.Counts.{countIn, noCounts, countOf, counted, countsAfter};
+ghost use Rattle.protocol.specs.Counts.{noCounts, countOf, counted, countsAfter};
 ghost use Rattle.protocol.specs.Fair.{fair};
-ghost use Rattle.counting.specs.Room.{Room};
+ghost use Rattle.counting.specs.Room.{Room, MoreRoom};
 ghost use Rattle.counting.specs.Bytes.{Holding, lowBytes};
 
 // The office of a word.
@@ -27,64 +27,60 @@ fn one_of(word: u32, office: u32) -> u32
     0
 }
 
-// How many entries the office has.
-fn count_of(office: u32, words: &[u32]) -> u32
-    requires { ⌜ length (now words) < 4294967296 ⌝ }
-    ensures { λ r. ⌜ r ≡ countIn office (now (words .entry)) ⌝ }
+// The counts after one entry more: each office's is looked at, without a branch, so that the walk over words below runs on vectors.
+fn one_more(counts: [u32; 8], word: u32) -> [u32; 8]
+    requires { ⌜ MoreRoom counts ⌝ }
+    ensures { λ r. ⌜ r ≡ counted counts word ⌝ }
 {
-    let mut count: u32 = 0;
-    for i in 0..words.len() {
-        count = count + one_of(words[i], office);
+    let mut next = counts;
+    for k in 0..8 {
+        let has = next[k];
+        next[k] = has + one_of(word, k as u32);
     }
-    count
+    next
 }
 
-// The counts after the entries of a log: a walk for each office, since one that only counts runs on vectors, in 32 bits on more words at once.
-// Public only for the crates above, which prove that the counts have room: a log has at most 1024 entries, and a count is at most 2^63.
+// How many entries each office has in a log or a tail: one walk, in 32 bits on more words at once. An office of 8 or more has none. Public only
+// for the crates above, which prove what it requires.
+pub fn in_words(words: &[u32]) -> [u32; 8]
+    requires { ⌜ length (now words) < 4294967296 ⌝ }
+    ensures { λ r. ⌜ r ≡ countsAfter (noCounts 8) (now (words .entry)) ⌝ }
+{
+    let mut cells: [u32; 8] = [0; 8];
+    for i in 0..words.len() {
+        let next = one_more(cells, words[i]);
+        cells = next;
+    }
+    cells
+}
+
+// The counts after the entries of a log. Public only for the crates above, which prove that the counts have room: a log has at most 1024 entries,
+// and a count is at most 2^63.
 pub fn counts_after(start: [u64; 8], words: &[u32]) -> [u64; 8]
     requires { ⌜ Room start (length (now words)) ⌝ }
     ensures { λ r. ⌜ r ≡ countsAfter start (now (words .entry)) ⌝ }
 {
+    let more = in_words(words);
     let mut cells = start;
     for k in 0..8 {
         let has = cells[k];
-        let count = count_of(k as u32, words);
-        cells[k] = has + count as u64;
+        cells[k] = has + more[k] as u64;
     }
     cells
 }
 
-// The counts after one entry more; an office of 8 or more has none. Public only for the crates above, which prove that the count has room:
-// it is at most the length of a log.
-pub fn counted(counts: [u64; 8], word: u32) -> [u64; 8]
-    requires { ⌜ countOf counts (officeOf word) < 18446744073709551615 ⌝ }
-    ensures { λ r. ⌜ r ≡ counted counts word ⌝ }
+// One entry more; an office of 8 or more has no count. The counts change where they stand: handed back by value they would be copied at every
+// step. Public only for the crates above, which prove that the count has room: it is at most the length of a log.
+pub fn count(counts: &mut [u64; 8], word: u32)
+    requires { ⌜ (length (now counts) ≡ 8) × (countOf (now counts) (officeOf word) < 18446744073709551615) ⌝ }
+    ensures { λ r. ⌜ now (counts .exit) ≡ counted (now (counts .entry)) word ⌝ }
 {
-    let mut next = counts;
     let office = office_of(word);
     if office >= 8 {
-        return next;
+        return;
     }
     let has = counts[office];
-    next[office] = has + 1;
-    next
-}
-
-// How many entries each office has in a tail: one walk, since a tail is short. An office of 8 or more has none. Public only for the crates
-// above, which prove what it requires.
-pub fn in_tail(tail: &[u32]) -> [u32; 8]
-    requires { ⌜ length (now tail) ≤ 32 ⌝ }
-    ensures { λ r. ⌜ r ≡ countsAfter (noCounts 8) (now (tail .entry)) ⌝ }
-{
-    let mut cells: [u32; 8] = [0; 8];
-    for i in 0..tail.len() {
-        let office = office_of(tail[i]);
-        if office < 8 {
-            let has = cells[office];
-            cells[office] = has + 1;
-        }
-    }
-    cells
+    counts[office] = has + 1;
 }
 
 // Whether each byte of the number is below 128.

@@ -71,8 +71,7 @@ impl State {
             if now.held == before {
                 break;
             }
-            let next = counting::counted(counts, log[before]);
-            counts = next;
+            counting::count(&mut counts, log[before]);
         }
         now
     }

@@ -55,7 +55,7 @@ pub fn refusal(
         return 5;
     }
     let cells = b.cells;
-    let counts = counting::in_tail(&cells[..len]);
+    let counts = counting::in_words(&cells[..len]);
     if counts[own] as usize >= Ballot::CELLS / n {
         return 11;
     }

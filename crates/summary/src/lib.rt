@@ -43,17 +43,6 @@ fn cell_of(word: u32) -> u32
     word % 65536 + 1
 }
 
-// The code of the entry's line is its code. A move is for no line.
-fn settle_code(codes: &mut [u32; 64], word: u32)
-    requires { ⌜ length (now codes) ≡ 64 ⌝ }
-    ensures { λ r. ⌜ now (codes .exit) ≡ coded (now (codes .entry)) word ⌝ }
-{
-    let line = line_of(word);
-    if line < 64 {
-        codes[line] = cell_of(word);
-    }
-}
-
 // The codes with a cell for every number that a word's line can be, and back.
 fn widened(codes: [u32; 64]) -> [u32; 256]
     ensures { λ r. ⌜ r ≡ codes ++ replicate 192 0 ⌝ }
@@ -190,15 +179,18 @@ impl Summary {
         Summary { present, codes }
     }
 
-    // After one entry more.
+    // After one entry more: the code of its line is its code. A move is for no line.
     pub fn next(self, word: u32) -> Summary
         ensures { λ r. ⌜ r ≡ summaryNext self word ⌝ }
     {
         let weights = self.present;
-        let present = moved(weights, word);
-        let mut codes = self.codes;
-        settle_code(&mut codes, word);
-        Summary { present, codes }
+        let line = line_of(word);
+        let mut next = self;
+        next.present = moved(weights, word);
+        if line < 64 {
+            next.codes[line] = cell_of(word);
+        }
+        next
     }
 
     // Whether two are the same.

@@ -18,7 +18,7 @@ pub fn path_counts(base: [u64; 8], b: Ballot) -> [u64; 8]
 {
     let len = b.len;
     let cells = b.cells;
-    let tail = counting::in_tail(&cells[..len]);
+    let tail = counting::in_words(&cells[..len]);
     let mut counts = base;
     for k in 0..8 {
         let has = base[k];

@@ -58,14 +58,14 @@ returns-3 c =
     simp (limits (e .before), room e, eq-eqb (a .settled + a .b .len) 9223372036854775808 (c .if3 .taken))
 
 -- the places of the code: behind the tests of room, and the call's start
-abbrev roomy : tie.After-in-tail → tie.Else3
+abbrev roomy : tie.After-in-words → tie.Else3
 roomy c = c .before .before .before
 
-abbrev start : tie.After-in-tail → tie.Start
+abbrev start : tie.After-in-words → tie.Start
 start c = roomy c .before .before .before .before
 
 -- what the first tests found
-passed : (c : tie.After-in-tail) → let a = start c .args in (k : ℕ) → refusalAt (a .n) (a .line) (a .code) (a .settled) (a .held) (a .b .len) k ≡ pick (leb (part (a .n)) k) 11 0
+passed : (c : tie.After-in-words) → let a = start c .args in (k : ℕ) → refusalAt (a .n) (a .line) (a .code) (a .settled) (a .held) (a .b .len) k ≡ pick (leb (part (a .n)) k) 11 0
 unfolding refusalAt lengthLimit pick
 passed c k =
     let a = start c .args in
@@ -73,8 +73,8 @@ passed c k =
     simp (limits (e .before .before), room (e .before), ne-eqb (a .settled + a .b .len) 9223372036854775808 (e .if3 .left))
 
 -- the own office's count
-own-count : (c : tie.After-in-tail) → let a = start c .args in getD (c .in-tail .result) (a .own) 0 ≡ countIn (a .own) (tailOf (a .b))
-own-count c = let a = start c .args in ap (λ (l : List ℕ). getD l (a .own) 0) (c .in-tail .ensures) ∙ count-of 8 (tailOf (a .b)) (a .own) (start c .pre .1 .0)
+own-count : (c : tie.After-in-words) → let a = start c .args in getD (c .in-words .result) (a .own) 0 ≡ countIn (a .own) (tailOf (a .b))
+own-count c = let a = start c .args in ap (λ (l : List ℕ). getD l (a .own) 0) (c .in-words .ensures) ∙ count-of 8 (tailOf (a .b)) (a .own) (start c .pre .1 .0)
 
 returns-4 : tie.Need-returns-4
 unfolding pick

@@ -18,7 +18,7 @@ abbrev μ-loop : tie.MeasureT-loop
 μ-loop base len tail counts₀ k₀ counts k = 8 - k
 
 -- the places of the code: the start, and behind the tail's counts
-abbrev start : tie.After-in-tail Inv-loop μ-loop → tie.Start Inv-loop μ-loop
+abbrev start : tie.After-in-words Inv-loop μ-loop → tie.Start Inv-loop μ-loop
 start c = c .before .before .before
 
 full : (s : tie.Start Inv-loop μ-loop) → length (s .args .b .cells) ≡ 32
@@ -34,19 +34,19 @@ add-counts : tie.Need-add-counts Inv-loop μ-loop
 add-counts c =
     let t = c .before .before in
     let s = start t in
-    omega (arith, path-room (s .args .t1) (tailOf (s .args .b)) (mostKept + 1024) (s .pre .1) (t .in-tail .result) (t .in-tail .ensures) (c .before .loop .k), taken s, s .pre .0)
+    omega (arith, path-room (s .args .t1) (tailOf (s .args .b)) (mostKept + 1024) (s .pre .1) (t .in-words .result) (t .in-words .ensures) (c .before .loop .k), taken s, s .pre .0)
 
 loop-again : tie.Need-loop-again Inv-loop μ-loop
 loop-again c =
     let t = c .before .before in
     let l = c .before .loop in
-    path-next (start t .args .t1) (t .in-tail .result) (eight (start t)) (l .counts) (l .k) (l .inv) (omega (arith, c .loop-test .taken))
+    path-next (start t .args .t1) (t .in-words .result) (eight (start t)) (l .counts) (l .k) (l .inv) (omega (arith, c .loop-test .taken))
 
 returns : tie.Need-returns Inv-loop μ-loop
 returns c =
     let t = c .before .before in
     let l = c .before .loop in
-    path-done (start t .args .t1) (t .in-tail .result) (eight (start t)) (l .counts) (l .k) (l .inv) (tailOf (start t .args .b)) (t .in-tail .ensures) (c .loop-test .left)
+    path-done (start t .args .t1) (t .in-words .result) (eight (start t)) (l .counts) (l .k) (l .inv) (tailOf (start t .args .b)) (t .in-words .ensures) (c .loop-test .left)
 
 pub path-counts-spec : {M : Type 1} → statement M
 path-counts-spec =

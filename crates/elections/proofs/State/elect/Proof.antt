@@ -1,10 +1,12 @@
 -- A run of steps: the office that is left elects the same, the words behind the held part are as they were, and the counts are those of the
 -- settled log at each step. The loop does not name what is kept, so its invariant is for any from which the counts at its start follow.
+use borrow.Author.Needs.{needs}
 use native.Mathlib.Omega.{arith}
 use mathlib.Core.Path.{_≡_, sym, ap, _∙_}
 use Prim.Native.Nat.{_+_, _-_, _<_}
 use lib.ListN.{length, take}
 use Rattle.protocol.specs.Counts.{countsAfter}
+use Rattle.protocol.proofs.Counts.{counts-length}
 use Rattle.elections.proofs.Holding.{log-length}
 use Rattle.elections.proofs.Run.{Running, Going, run-start, run-more, run-counts, run-last, run-end, counts-room}
 use Rattle.elections.proofs.State.elect.Statement.{statement}
@@ -55,16 +57,22 @@ counts-after-requires c κs =
 step-requires : tie.Need-step-requires Inv-loop μ-loop
 step-requires c κs = let b = c .before .before in let s = start b in c .before .loop .inv (s .args .kept) (s .pre) (b .counts-after .ensures) .0 .sound .limits
 
-counted-requires : tie.Need-counted-requires Inv-loop μ-loop
-counted-requires c κs = let g = going (stepped (c .before)) in counts-room _ _ _ _ (g .0 .sound) _ (g .1) _
+eight : (s : tie.Start Inv-loop μ-loop) → length (s .args .kept .counts) ≡ 8
+eight s = search needs
+
+count-requires : tie.Need-count-requires Inv-loop μ-loop
+count-requires c κs =
+    let x = stepped (c .before .before) in
+    let g = going x in
+    (ap length (g .1) ∙ counts-length _ _ ∙ eight (start (counting x)), counts-room _ _ _ _ (g .0 .sound) _ (g .1) _)
 
 loop-again : tie.Need-loop-again Inv-loop μ-loop
 loop-again c kept E e =
-    let b = c .before .before in
+    let b = c .before .before .before in
     let x = stepped b in
     let g = x .before .before .loop .inv kept E e in (
       run-more _ _ _ _ _ _ (g .0) _ (g .1) _ (x .step .ensures .0) _ (x .step .ensures .1) (b .if1 .left) .0,
-      run-counts _ _ _ _ _ _ (g .0) _ (g .1) _ (x .step .ensures .0) _ (x .step .ensures .1) (b .if1 .left) _ (c .counted .ensures),
+      run-counts _ _ _ _ _ _ (g .0) _ (g .1) _ (x .step .ensures .0) _ (x .step .ensures .1) (b .if1 .left) _ (c .count .ensures),
     )
 
 returns : tie.Need-returns Inv-loop μ-loop
@@ -79,8 +87,8 @@ elect-spec =
     counts-after-requires
     (λ c kept E e. (run-start _ _ _ _ E, e))
     step-requires
-    (λ c. let m = more c in omega arith)
-    (λ c. let m = more (c .before) in let S = m .0 .sound .limits in omega arith)
-    counted-requires
-    (λ c. let m = more (c .before .before) in omega arith) loop-again
+    (λ c. let m = more (c .before) in omega arith)
+    (λ c. let m = more (c .before .before) in let S = m .0 .sound .limits in omega arith)
+    count-requires
+    (λ c. let m = more (c .before .before .before) in omega arith) loop-again
     (λ c. ap length (last c .1) ∙ going (stepped-last c) .0 .long) returns)
