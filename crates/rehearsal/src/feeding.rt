@@ -34,7 +34,7 @@ fn line_held(held: Held) -> Line
     ensures { λ r. ⌜ r ≡ lineOf (lineHeld held) ⌝ }
 {
     let bytes = held.bytes;
-    let size = within(held.length, 129);
+    let size = within(held.length, Held::SIZE);
     line_of(&bytes[..size])
 }
 
@@ -111,25 +111,25 @@ impl Rehearsal {
     // The eight logs and the four slots are lent; what is printed stands at the output's front.
     pub fn feed(
         self,
-        logs: &mut [u32; 8192],
-        slots: &mut [u8; 28184],
-        chunk: &[u8; 8192],
+        logs: &mut [u32; Rehearsal::LOGS],
+        slots: &mut [u8; Rehearsal::SLOTS],
+        chunk: &[u8; Rehearsal::CHUNK],
         used: usize,
-        out: &mut [u8; 532480],
+        out: &mut [u8; Rehearsal::OUTPUT],
     ) -> Fed
         ensures { λ f. ⌜ FedAs (feeds self (now (logs .entry)) (now (slots .entry)) (take used (now (chunk .entry)))) (now (out .entry)) f (now (logs .exit)) (now (slots .exit)) (now (out .exit)) ⌝ }
     {
         let bytes: &[u8] = chunk;
-        let size = within(used, 8192);
+        let size = within(used, Rehearsal::CHUNK);
         feed_all(self, logs, slots, &bytes[..size], out)
     }
 
     // The end of the input: a line that is held lacks its newline, and is answered.
     pub fn finish(
         self,
-        logs: &mut [u32; 8192],
-        slots: &mut [u8; 28184],
-        out: &mut [u8; 532480],
+        logs: &mut [u32; Rehearsal::LOGS],
+        slots: &mut [u8; Rehearsal::SLOTS],
+        out: &mut [u8; Rehearsal::OUTPUT],
     ) -> Fed
         ensures { λ f. ⌜ FedAs (finishes self (now (logs .entry)) (now (slots .entry))) (now (out .entry)) f (now (logs .exit)) (now (slots .exit)) (now (out .exit)) ⌝ }
     {
