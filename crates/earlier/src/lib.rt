@@ -4,9 +4,6 @@ ghost use Rattle.backward.specs.Runs.{ofFrame};
 ghost use Rattle.earlier.specs.Earlier.{earlierRefused, earlierOf};
 use frame::Record;
 
-// Lines in one call.
-const LINES: usize = 64;
-
 // The edits of the lines named, in their order, as they are stored: 0 for no edit yet, else the code + 1; past the lines 0. `words` of the log were read
 // for them. `number` is the paper's, 0 when it is done.
 #[repr(C)]
@@ -33,7 +30,7 @@ fn of_frame(lines: &[u32]) -> bool
 {
     let mut good = true;
     for i in 0..lines.len() {
-        good = good & (lines[i] <= 63);
+        good = good & (lines[i] < Record::LINES);
     }
     good
 }
@@ -56,7 +53,7 @@ pub fn frame_at(office: Record, log: &[u32], p: u64, lines: &[u32]) -> Earlier
     if p > office.settled {
         return refused(13);
     }
-    if lines.len() > LINES {
+    if lines.len() > Record::LINES as usize {
         return refused(13);
     }
     let end = (p - dropped) as usize;

@@ -5,7 +5,7 @@
 --     coding-entry     an entry that codes a line is an entry
 -- Assumes nothing.
 use mathlib.Core.Path.{_≡_, refl, sym, _∙_}
-use mathlib.Core.Bool.{Bool, true, false, _&&_}
+use mathlib.Core.Bool.{true}
 use Prim.Native.Nat.{ℕ, _+_, _<_, _≤_}
 use native.Mathlib.Omega.{arith}
 use lib.Dec.{leb, ltb}
@@ -24,25 +24,11 @@ few n x f up h =
     pick-cases (λ (m : ℕ). ltb x (f m) ≡ ltb x (f n)) (leb n 256) n 256 (λ _. refl)
     (λ e. lt-ltb x (f 256) (omega (arith, up 256)) ∙ sym (lt-ltb x (f n) (omega (arith, leb-false n 256 e, up n))))
 
--- the code's order of the tests: the office and the code first, then the line, and of a move the rest
-tests : (o c l t s : Bool) → both o (pick l c (both t (both s c))) ≡ pick (o && c) (pick l true (t && s)) false
-unfolding both pick
-tests false c l t s = refl
-tests true true true t s = refl
-tests true true false true true = refl
-tests true true false true false = refl
-tests true true false false s = refl
-tests true false true t s = refl
-tests true false false true true = refl
-tests true false false true false = refl
-tests true false false false s = refl
-
-pub entry-tests : (n m v : ℕ) → m ≡ pick (leb n 256) n 256 → v < 4294967296
-    → isEntry n v ≡ pick (ltb (officeOf v) m && leb (codeOf v) 9999) (pick (leb (lineOf v) 63) true (ltb (lineOf v) (64 + m) && leb 1 (codeOf v))) false
+-- the office, and what it may have
+pub entry-tests : (n m v : ℕ) → m ≡ pick (leb n 256) n 256 → v < 4294967296 → isEntry n v ≡ both (ltb (officeOf v) m) (proper m (lineOf v) (codeOf v))
 unfolding isEntry proper
 entry-tests n m v e h =
     rw (e, sym (few n (officeOf v) (λ (k : ℕ). k) (λ k. omega arith) (omega arith)), sym (few n (lineOf v) (λ (k : ℕ). 64 + k) (λ k. omega arith) (omega arith)))
-    (tests (ltb (officeOf v) (pick (leb n 256) n 256)) (leb (codeOf v) 9999) (leb (lineOf v) 63) (ltb (lineOf v) (64 + pick (leb n 256) n 256)) (leb 1 (codeOf v)))
 
 pub coding-entry : (n v : ℕ) → isCoding n v ≡ true → isEntry n v ≡ true
 unfolding isCoding isEntry proper

@@ -2,10 +2,15 @@
 ghost use mathlib.Core.Path.{_≡_};
 ghost use lib.Dec.{eqb, leb};
 ghost use Rattle.lists.specs.Tests.{allB, pick};
-ghost use Rattle.protocol.specs.Entry.{value, lineOf, isEntry};
+ghost use Rattle.protocol.specs.Entry.{value, lineOf, proper, isEntry};
 ghost use Rattle.protocol.specs.Codes.{cell, ofCell};
 ghost use Rattle.protocol.specs.Frames.{editAfter};
 ghost use Rattle.entries.specs.Carries.{isCoding, raised, noCarry};
+
+// The lines of the frame; lines from here on are those of moves. And the codes.
+pub const LINES: u32 = 64;
+
+pub const CODES: u32 = 10000;
 
 // The value of the entry (office, line, code).
 pub fn pack(office: u8, line: u8, code: u16) -> u32
@@ -24,21 +29,29 @@ fn offices(n: usize) -> u32
     n as u32
 }
 
-// Whether the word is the value of an entry for n offices: one that codes a line, or a move of weight. What both ask for is tested first. A walk
-// that leaves at the first word that is no entry is fast by these branches, and a walk over all words of a slice runs on vectors all the same.
+// Whether an entry of n offices may have this line and code: a code of a line, or a weight to move to an office.
+pub fn proper(n: u32, line: u32, code: u32) -> bool
+    ensures { λ r. ⌜ r ≡ proper n line code ⌝ }
+{
+    if code >= CODES {
+        return false;
+    }
+    if line < LINES {
+        return true;
+    }
+    (1 <= code) & (line - LINES < n)
+}
+
+// Whether the word is the value of an entry for n offices: one that codes a line, or a move of weight. A walk that leaves at the first word that is
+// no entry is fast by these branches, and a walk over all words of a slice runs on vectors all the same.
 pub fn is_entry(word: u32, n: usize) -> bool
     ensures { λ r. ⌜ r ≡ isEntry n word ⌝ }
 {
     let m = offices(n);
-    let line = word / 65536 % 256;
-    let code = word % 65536;
-    if !((word / 16777216 < m) & (code <= 9999)) {
+    if word / 16777216 >= m {
         return false;
     }
-    if line <= 63 {
-        return true;
-    }
-    (line < 64 + m) & (1 <= code)
+    proper(m, word / 65536 % 256, word % 65536)
 }
 
 // The word's office, the upper two bits of its line and half its code, each raised so that a number past its limit carries into a bit

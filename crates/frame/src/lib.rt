@@ -38,9 +38,9 @@ impl Record {
     // Entries in a tail.
     pub const TAIL: usize = Ballot::CELLS;
 
-    pub const LINES: u32 = issuance::LINES;
+    pub const LINES: u32 = entries::LINES;
 
-    pub const CODES: u32 = issuance::CODES;
+    pub const CODES: u32 = entries::CODES;
 
     // Entries in the undropped log, and words in the lent buffer at least.
     pub const LOG: usize = Ballot::PATH;

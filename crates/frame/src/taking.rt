@@ -26,19 +26,12 @@ impl Record {
         let m = reading::read(msg);
         let head = m.head;
         let rest = &msg[head..];
+        let n = self.n;
+        let own = self.own;
         let weights = self.weights;
         let kept = self.kept;
         let held = self.held();
-        let checked = intake::check(
-            self.n,
-            self.own,
-            weights,
-            kept.dropped,
-            &log[..],
-            held,
-            rest,
-            m,
-        );
+        let checked = intake::check(n, own, weights, kept.dropped, &log[..], held, rest, m);
         let number = checked.number;
         let places = checked.places;
         if number != 0 {
@@ -48,13 +41,10 @@ impl Record {
                 places,
             };
         }
-        let state = self.state();
-        let taken = intake::take_in(log, state, kept, self.own, rest, m);
-        let behind = taken.kept;
-        let after = taken.state;
+        let taken = intake::take_in(log, self.state(), kept, own, rest, m);
         let lengths = self.noted;
         let noted = noting::noted(lengths, m.sender, m.dropped + m.held as u64);
-        let mut next = self.with_state(behind, after);
+        let mut next = self.with_state(taken.kept, taken.state);
         next.noted = noted;
         Taken {
             record: next,

@@ -2,33 +2,12 @@
 // the entry. Public only for the crate above, which proves what the functions require.
 ghost use mathlib.Core.Path.{_≡_};
 ghost use Prim.Native.Nat.{_<_, _≤_};
-ghost use Rattle.protocol.specs.Entry.{proper, value};
+ghost use Rattle.protocol.specs.Entry.{value};
 ghost use Rattle.protocol.specs.Counts.{countIn};
 ghost use Rattle.protocol.specs.Issue.{refusalAt};
 ghost use Rattle.protocol.specs.Limits.{lengthLimit};
 ghost use Rattle.ballots.specs.Ballots.{tailOf, pushed};
 use ballots::Ballot;
-
-// The lines of the frame; lines from here on are those of moves. And the codes.
-pub const LINES: u32 = 64;
-
-pub const CODES: u32 = 10000;
-
-// Whether an entry of n offices may have this line and code: a code of a line, or a weight to move to an office.
-fn proper(n: usize, line: u32, code: u32) -> bool
-    ensures { λ r. ⌜ r ≡ proper n line code ⌝ }
-{
-    if code >= CODES {
-        return false;
-    }
-    if line < LINES {
-        return true;
-    }
-    if code < 1 {
-        return false;
-    }
-    ((line - LINES) as usize) < n
-}
 
 // The number of an issue by office `own` of n, on a sound record with this settled length, this length of the undropped part and this own
 // ballot.
@@ -41,10 +20,10 @@ pub fn refusal(
     held: usize,
     b: Ballot,
 ) -> u32
-    requires { ⌜ (1 ≤ n) × ((own < 8) × ((settled ≤ lengthLimit) × ((held ≤ 1024) × (b .len ≤ 32)))) ⌝ }
+    requires { ⌜ (1 ≤ n) × ((n ≤ 8) × ((own < 8) × ((settled ≤ lengthLimit) × ((held ≤ 1024) × (b .len ≤ 32))))) ⌝ }
     ensures { λ r. ⌜ r ≡ refusalAt n line code settled held (b .len) (countIn own (tailOf b)) ⌝ }
 {
-    if !proper(n, line, code) {
+    if !entries::proper(n as u32, line, code) {
         return 3;
     }
     let len = b.len;

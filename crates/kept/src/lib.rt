@@ -44,13 +44,13 @@ fn add_up(counts: [u64; 8], dropped: u64) -> bool
     left == 0
 }
 
-// Whether each code that is kept is a code of the frame. Every line is looked at, so that the walk runs on vectors.
+// Whether each code that is kept, stored as one more, is a code of the frame. Every line is looked at, so that the walk runs on vectors.
 fn codes_fine(codes: [u32; 64]) -> bool
     ensures { λ r. ⌜ r ≡ allB isKeptCode codes ⌝ }
 {
     let mut good = true;
     for i in 0..64 {
-        good = good & (codes[i] <= 10000);
+        good = good & (codes[i] <= entries::CODES);
     }
     good
 }

@@ -34,34 +34,41 @@ use Rattle.reading.specs.Read.{badReading, ballotsOf, eightWeights, head
 
 -- ---- the head
 
+-- an office of n: n is 1 to 8, and the office is below it
+pub office-facts : (n k : ℕ) → isOffice n k ≡ true → (1 ≤ n) × ((n ≤ 8) × (k < n))
+unfolding isOffice
+office-facts n k e = let p = both-1 (leb 1 n) _ e in (leb-true _ _ (both-0 _ _ e), (leb-true _ _ (both-0 _ _ p), ltb-true _ _ (both-1 (leb n 8) _ p)))
+
 pub record Within (s : List ℕ) : Type 0 where
   pub layout : Head s
+  pub office : isOffice (countAt s) (senderAt s) ≡ true
   pub some-office : 1 ≤ countAt s
   pub few-offices : countAt s ≤ 8
   pub sender-below : senderAt s < countAt s
   pub held-few : heldAt s ≤ 1024
 
 pub within-facts : (s : List ℕ) → headWithin s ≡ true → Within s
-unfolding headWithin isOffice
+unfolding headWithin
 within-facts s e =
     let t = both-1 (headOk s) _ e in
-    let o = both-0 (both (leb 1 (countAt s)) (both (leb (countAt s) 8) (ltb (senderAt s) (countAt s)))) _ t in
-    let p = both-1 (leb 1 (countAt s)) _ o in
+    let o = both-0 (isOffice (countAt s) (senderAt s)) _ t in
+    let f = office-facts (countAt s) (senderAt s) o in
     record {
       layout = head-facts s (both-0 _ _ e);
-      some-office = leb-true _ _ (both-0 _ _ o);
-      few-offices = leb-true _ _ (both-0 _ _ p);
-      sender-below = ltb-true _ _ (both-1 (leb (countAt s) 8) _ p);
-      held-few = leb-true (heldAt s) 1024 (both-1 (both (leb 1 (countAt s)) (both (leb (countAt s) 8) (ltb (senderAt s) (countAt s)))) _ t);
+      office = o;
+      some-office = f .0;
+      few-offices = f .1 .0;
+      sender-below = f .1 .1;
+      held-few = leb-true (heldAt s) 1024 (both-1 (isOffice (countAt s) (senderAt s)) _ t);
     }
 
 -- the test fails where a fact does not hold; where all but the last hold, that one decides
 pub within-not : (s : List ℕ) → (Within s → ⊥) → false ≡ headWithin s
 within-not s f = by-test _ (headWithin s) (λ e. absurd (f (within-facts s e))) sym
 
-pub within-last : (s : List ℕ) → Head s → 1 ≤ countAt s → countAt s ≤ 8 → senderAt s < countAt s → leb (heldAt s) 1024 ≡ headWithin s
-unfolding headWithin isOffice both
-within-last s h one few below = rw (head-test s h, le-leb 1 (countAt s) one, le-leb (countAt s) 8 few, lt-ltb (senderAt s) (countAt s) below)
+pub within-last : (s : List ℕ) → Head s → isOffice (countAt s) (senderAt s) ≡ true → leb (heldAt s) 1024 ≡ headWithin s
+unfolding headWithin both
+within-last s h office = rw (head-test s h, office)
 
 -- the numbers of eight bytes that the code reads
 pub settled-is : (s : List ℕ) (m p v : ℕ) → m ≡ countAt s → p ≡ lengthPlace m → v ≡ be64 (drop p s) → v ≡ settledAt s

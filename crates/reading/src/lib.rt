@@ -8,7 +8,6 @@ use reader::read_ballot;
 use reader::read_end;
 use reader::read_entry;
 use reader::read_log;
-use spelling::OFFICES;
 use spelling::dropped_place;
 use spelling::head_size;
 use spelling::length_place;
@@ -79,14 +78,8 @@ fn head_within(s: &[u8]) -> bool
         return false;
     }
     let n = wide(s[3]) as usize;
-    if n < 1 {
-        return false;
-    }
-    if n > OFFICES {
-        return false;
-    }
     let sender = wide(s[2]) as usize;
-    if sender >= n {
+    if !limits::is_office(n, sender) {
         return false;
     }
     if s.len() < head_size(n) {

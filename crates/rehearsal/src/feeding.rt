@@ -4,6 +4,7 @@ ghost use Prim.Native.Nat.{_*_, _≤_};
 ghost use lib.ListN.{length, take};
 ghost use Rattle.rehearsal_lines.specs.Held.{lineHeld};
 ghost use Rattle.rehearsal_commands.specs.Command.{lineOf};
+ghost use Rattle.rehearsal.specs.Lines.{worldAt, answeredBy, answerLine};
 ghost use Rattle.rehearsal.specs.Feeding.{atFirst, feeds, finishes, FedAs};
 use crate::Rehearsal;
 use decimal::part_end;
@@ -14,6 +15,8 @@ use rehearsal_commands::Line;
 use rehearsal_commands::line_of;
 use rehearsal_lines::Held;
 use rehearsal_offices::Addressee;
+use rehearsal_offices::Offices;
+use rehearsal_offices::Reply;
 use rehearsal_offices::addressee_of;
 use rehearsal_offices::found_offices;
 use rehearsal_offices::no_offices;
@@ -31,8 +34,41 @@ fn line_held(held: Held) -> Line
     ensures { λ r. ⌜ r ≡ lineOf (lineHeld held) ⌝ }
 {
     let bytes = held.bytes;
-    let size = within(held.length, 129);
+    let size = within(held.length, Held::SIZE);
     line_of(&bytes[..size])
+}
+
+// Answers a line: a founding, an office's turn, or a question mark.
+fn answer_line(offices: Offices, line: Line, logs: &mut [u32], slots: &mut [u8]) -> Reply
+    requires { ⌜ (length (now logs) ≡ 8192) × (length (now slots) ≡ 28184) ⌝ }
+    ensures { λ r. ⌜ answeredBy r (now (logs .exit)) (now (slots .exit)) ≡ answerLine (worldAt offices (now (logs .entry)) (now (slots .entry))) line ⌝ }
+{
+    let parsed = line.parsed;
+    let addressee = addressee_of(offices.count, parsed);
+    match addressee {
+        Addressee::All(n) => {
+            let weights = line.weights;
+            found_offices(offices, n, weights, logs)
+        }
+        Addressee::One(k, command) => {
+            let from = k * Record::LOG;
+            let to = from + Record::LOG;
+            let record = offices.records[k];
+            let lengths = offices.lengths;
+            let turn = turn_at(record, lengths, &mut logs[from..to], slots, command);
+            let answer = turn.answer;
+            let next = turn.record;
+            let left = turn.lengths;
+            let mut offices = offices;
+            offices.records[k] = next;
+            offices.lengths = left;
+            Reply { offices, answer }
+        }
+        Addressee::Nobody => {
+            let answer = question();
+            Reply { offices, answer }
+        }
+    }
 }
 
 // Answers each whole line, and holds what is left. Each byte of the chunk has room for an answer.
@@ -54,31 +90,10 @@ fn feed_all(r: Rehearsal, logs: &mut [u32], slots: &mut [u8], chunk: &[u8], out:
         let line = line_held(held);
         held = Held::none();
         at = end + 1;
-        let parsed = line.parsed;
-        let addressee = addressee_of(offices.count, parsed);
-        match addressee {
-            Addressee::All(n) => {
-                let weights = line.weights;
-                let founding = found_offices(offices, n, weights, logs);
-                offices = founding.offices;
-                let answer = founding.answer;
-                printed = print(out, printed, answer);
-            }
-            Addressee::One(k, command) => {
-                let from = k * Record::LOG;
-                let to = from + Record::LOG;
-                let record = offices.records[k];
-                let lengths = offices.lengths;
-                let turn = turn_at(record, lengths, &mut logs[from..to], slots, command);
-                let next = turn.record;
-                let left = turn.lengths;
-                offices.records[k] = next;
-                offices.lengths = left;
-                let answer = turn.answer;
-                printed = print(out, printed, answer);
-            }
-            Addressee::Nobody => printed = print(out, printed, question()),
-        }
+        let reply = answer_line(offices, line, logs, slots);
+        offices = reply.offices;
+        let answer = reply.answer;
+        printed = print(out, printed, answer);
     }
 }
 
@@ -96,25 +111,25 @@ impl Rehearsal {
     // The eight logs and the four slots are lent; what is printed stands at the output's front.
     pub fn feed(
         self,
-        logs: &mut [u32; 8192],
-        slots: &mut [u8; 28184],
-        chunk: &[u8; 8192],
+        logs: &mut [u32; Rehearsal::LOGS],
+        slots: &mut [u8; Rehearsal::SLOTS],
+        chunk: &[u8; Rehearsal::CHUNK],
         used: usize,
-        out: &mut [u8; 532480],
+        out: &mut [u8; Rehearsal::OUTPUT],
     ) -> Fed
         ensures { λ f. ⌜ FedAs (feeds self (now (logs .entry)) (now (slots .entry)) (take used (now (chunk .entry)))) (now (out .entry)) f (now (logs .exit)) (now (slots .exit)) (now (out .exit)) ⌝ }
     {
         let bytes: &[u8] = chunk;
-        let size = within(used, 8192);
+        let size = within(used, Rehearsal::CHUNK);
         feed_all(self, logs, slots, &bytes[..size], out)
     }
 
     // The end of the input: a line that is held lacks its newline, and is answered.
     pub fn finish(
         self,
-        logs: &mut [u32; 8192],
-        slots: &mut [u8; 28184],
-        out: &mut [u8; 532480],
+        logs: &mut [u32; Rehearsal::LOGS],
+        slots: &mut [u8; Rehearsal::SLOTS],
+        out: &mut [u8; Rehearsal::OUTPUT],
     ) -> Fed
         ensures { λ f. ⌜ FedAs (finishes self (now (logs .entry)) (now (slots .entry))) (now (out .entry)) f (now (logs .exit)) (now (slots .exit)) (now (out .exit)) ⌝ }
     {

@@ -11,3 +11,14 @@ pub struct Rehearsal {
     pub offices: Offices,
     pub held: Held,
 }
+
+impl Rehearsal {
+    // Words of the eight logs; bytes of the four slots, of a piece of input and of the output, which has room for the answer to each byte.
+    pub const LOGS: usize = 8192;
+
+    pub const SLOTS: usize = 28184;
+
+    pub const CHUNK: usize = 8192;
+
+    pub const OUTPUT: usize = 532480;
+}

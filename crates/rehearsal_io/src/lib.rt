@@ -12,19 +12,19 @@ struct Next {
 }
 
 // Writes the output's first bytes. No more are printed than it has (`feeds-short`, `finishes-short`), so `within` takes none away.
-fn show(out: &[u8; 532480], count: usize) {
+fn show(out: &[u8; Rehearsal::OUTPUT], count: usize) {
     let all: &[u8] = out;
-    let size = within(count, 532480);
+    let size = within(count, Rehearsal::OUTPUT);
     io::write_all(STDOUT_FILENO, &all[..size]);
 }
 
 // Reads once and answers what came; at the input's end, or where a read fails, what is held.
 fn serve(
     rehearsal: Rehearsal,
-    logs: &mut [u32; 8192],
-    slots: &mut [u8; 28184],
-    chunk: &mut [u8; 8192],
-    out: &mut [u8; 532480],
+    logs: &mut [u32; Rehearsal::LOGS],
+    slots: &mut [u8; Rehearsal::SLOTS],
+    chunk: &mut [u8; Rehearsal::CHUNK],
+    out: &mut [u8; Rehearsal::OUTPUT],
 ) -> Next {
     let got = libc::read(STDIN_FILENO, chunk);
     if got <= 0 {
@@ -49,10 +49,10 @@ fn serve(
 // Answers a rehearsal from standard input, to its end. A proved loop has to end, and nothing says that an input does: the loop counts its
 // turns down, from a number that no run uses up.
 pub fn rehearse() {
-    let mut logs = [0u32; 8192];
-    let mut slots = [0u8; 28184];
-    let mut chunk = [0u8; 8192];
-    let mut out = [0u8; 532480];
+    let mut logs = [0u32; Rehearsal::LOGS];
+    let mut slots = [0u8; Rehearsal::SLOTS];
+    let mut chunk = [0u8; Rehearsal::CHUNK];
+    let mut out = [0u8; Rehearsal::OUTPUT];
     let mut rehearsal = Rehearsal::new();
     let mut turns = u64::MAX;
     while turns > 0 {

@@ -7,17 +7,20 @@ use lists::within;
 // A line as far as it was read, or its first 129 bytes: one of 129 bytes is too long, as any longer one is.
 pub struct Held {
     pub length: usize,
-    pub bytes: [u8; 129],
+    pub bytes: [u8; Held::SIZE],
 }
 
 impl Held {
+    // Bytes that are held at most.
+    pub const SIZE: usize = 129;
+
     // Nothing is held yet.
     pub fn none() -> Held
         ensures { λ r. ⌜ r ≡ nothing ⌝ }
     {
         Held {
             length: 0,
-            bytes: [0; 129],
+            bytes: [0; Held::SIZE],
         }
     }
 
@@ -27,9 +30,9 @@ impl Held {
         ensures { λ r. ⌜ r ≡ heldOf (lineHeld self ++ now (more .entry)) ⌝ }
     {
         let mut bytes = self.bytes;
-        let mut length = within(self.length, 129);
+        let mut length = within(self.length, Held::SIZE);
         for i in 0..more.len() {
-            if length == 129 {
+            if length == Held::SIZE {
                 return Held { length, bytes };
             }
             bytes[length] = more[i];
@@ -43,7 +46,7 @@ impl Held {
         ensures { λ r. ⌜ r ≡ heldOf (lineHeld self ++ now (more .entry)) ⌝ }
     {
         let bytes = self.bytes;
-        let size = within(self.length, 129);
+        let size = within(self.length, Held::SIZE);
         let line = Held::none().with_behind(&bytes[..size]);
         line.with_behind(more)
     }

@@ -4,9 +4,6 @@ ghost use mathlib.Core.Path.{_≡_};
 ghost use Prim.Native.Nat.{_≤_};
 ghost use Rattle.spelling.specs.Spelling.{lengthPlace, droppedPlace, headSize};
 
-// The most offices.
-pub const OFFICES: usize = 8;
-
 // Where the settled length stands in the head of n offices. The three are public only for the crates above, which prove that n is at most 8.
 pub fn length_place(n: usize) -> usize
     requires { ⌜ n ≤ 8 ⌝ }

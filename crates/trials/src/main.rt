@@ -14,7 +14,7 @@ use rehearsal_lines::Held;
 // Answers a line. Of the letters that set the state only `d` has no number: everything is as at the start.
 fn answer(book: &mut Book, held: Held) {
     let bytes = held.bytes;
-    let size = within(held.length, 129);
+    let size = within(held.length, Held::SIZE);
     let count = script::read(&bytes[..size], book);
     let letter = bytes[0];
     if count > script::NUMBERS {

@@ -86,4 +86,4 @@ returns-6 c =
 pub frame-at-spec : {M : Type 1} → statement M
 frame-at-spec =
     tie.close (tie.spec (λ c κs. search needs) (λ c κs. search needs) returns (λ c κs. search needs) (λ c κs. search needs) returns-2
-    (λ c κs. search needs) returns-3 (λ c κs. search needs) returns-4 (λ c κs. search needs) returns-5 slice-aggregate-walk walk-requires returns-6)
+    (λ c κs. search needs) returns-3 (λ c κs. search needs) returns-4 (λ c. search needs) (λ c κs. search needs) returns-5 slice-aggregate-walk walk-requires returns-6)

@@ -24,7 +24,7 @@ full : (s : tie.Start) → length (s .args .b .cells) ≡ 32
 full s = search needs
 
 taken : (s : tie.Start) → length (tailOf (s .args .b)) ≡ s .args .b .len
-taken s = length-take-le (s .args .b .len) (s .args .b .cells) (omega (arith, full s, s .pre .1 .1 .1 .1))
+taken s = length-take-le (s .args .b .len) (s .args .b .cells) (omega (arith, full s, s .pre .1 .1 .1 .1 .1))
 
 returns : tie.Need-returns
 unfolding refusalAt pick
@@ -74,7 +74,7 @@ passed c k =
 
 -- the own office's count
 own-count : (c : tie.After-in-words) → let a = start c .args in getD (c .in-words .result) (a .own) 0 ≡ countIn (a .own) (tailOf (a .b))
-own-count c = let a = start c .args in ap (λ (l : List ℕ). getD l (a .own) 0) (c .in-words .ensures) ∙ count-of 8 (tailOf (a .b)) (a .own) (start c .pre .1 .0)
+own-count c = let a = start c .args in ap (λ (l : List ℕ). getD l (a .own) 0) (c .in-words .ensures) ∙ count-of 8 (tailOf (a .b)) (a .own) (start c .pre .1 .1 .0)
 
 returns-4 : tie.Need-returns-4
 unfolding pick
@@ -93,8 +93,8 @@ returns-5 c =
 pub refusal-spec : {M : Type 1} → statement M
 refusal-spec =
     tie.close
-    (tie.spec (λ c κs. search needs) returns (λ c. search needs) returns-2 add-if3 returns-3
-    (λ c. let s = c .before .before .before .before .before in omega (arith, full s, s .pre .1 .1 .1 .1))
+    (tie.spec (λ c. omega (arith, c .pre .1 .0)) (λ c κs. search needs) returns (λ c. search needs) returns-2 add-if3 returns-3
+    (λ c. let s = c .before .before .before .before .before in omega (arith, full s, s .pre .1 .1 .1 .1 .1))
     (λ c. sym (taken (c .before .before .before .before .before .before)))
-    (λ c κs. let s = c .before .before .before .before .before .before in omega (arith, taken s, s .pre .1 .1 .1 .1))
+    (λ c κs. let s = c .before .before .before .before .before .before in omega (arith, taken s, s .pre .1 .1 .1 .1 .1))
     (λ c. search needs) (λ c. search needs) (λ c. search needs) (λ c. search needs) returns-4 returns-5)

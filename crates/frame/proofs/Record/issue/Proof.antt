@@ -30,7 +30,8 @@ may : (c : tie.Else2) → let a = start (owned c .before) .args in Allowed (a .s
 may c = allowed _ _ _ _ (sym (numbered (c .before)) ∙ c .if2 .left)
 
 refusal-requires : tie.Need-refusal-requires
-refusal-requires c κs = let s = sounds (c .before .before) in let F = own-fine _ _ s _ (c .before .own-ballot .ensures) in (omega arith, (omega arith, (within-limit _ _ s, (omega (arith, c .held .ensures, s .most), omega arith))))
+refusal-requires c κs = let s = sounds (c .before .before) in let F = own-fine _ _ s _ (c .before .own-ballot .ensures) in
+    (omega arith, (s .head .most, (omega arith, (within-limit _ _ s, (omega (arith, c .held .ensures, s .most), omega arith)))))
 
 returns-3 : tie.Need-returns-3
 returns-3 c =

@@ -65,11 +65,11 @@ done : (c : tie.Else2) → let a = start (tested (read (c .before .before))) .ar
 done c = sym (numbered (c .before)) ∙ c .if2 .left
 
 take-in-requires : tie.Need-take-in-requires
-take-in-requires c κs = let e = c .before .before in ready-in _ _ _ _ (done e) (read (e .before .before) .read .ensures) _ (c .before .state .ensures)
+take-in-requires c κs = let e = c .before .before in ready-in _ _ _ _ (done e) (read (e .before .before) .read .ensures) _ (c .state .ensures)
 
 -- behind the work on the message, and behind the number
 abbrev worked : tie.After-struct-known → tie.After-take-in
-worked c = c .before .before .before .before .before .before
+worked c = c .before .before .before .before
 
 abbrev accepted : tie.After-take-in → tie.Else2
 accepted c = c .before .before .before
@@ -84,18 +84,18 @@ with-state-requires : tie.Need-with-state-requires
 with-state-requires c κs =
     let w = worked (c .before) in
     let e = accepted w in
-    state-fits _ _ _ _ (done e) (read (e .before .before) .read .ensures) _ (w .before .before .state .ensures) _ _ (w .take-in .ensures .0) (w .take-in .ensures .1)
+    state-fits _ _ _ _ (done e) (read (e .before .before) .read .ensures) _ (w .before .state .ensures) _ _ (w .take-in .ensures .0) (w .take-in .ensures .1)
 
 returns-3 : tie.Need-returns-3
 returns-3 c =
     let w = worked (c .before .before) in
     let e = accepted w in
-    take-made _ _ _ _ (done e) (read (e .before .before) .read .ensures) _ (w .before .before .state .ensures) _ _ (w .take-in .ensures .0) (w .take-in .ensures .1) _ (placed (e .before)) _ (c .before .noted .ensures) _ (c .with-state .ensures)
+    take-made _ _ _ _ (done e) (read (e .before .before) .read .ensures) _ (w .before .state .ensures) _ _ (w .take-in .ensures .0) (w .take-in .ensures .1) _ (placed (e .before)) _ (c .before .noted .ensures) _ (c .with-state .ensures)
 
 pub take-spec : {M : Type 1} → statement M
 take-spec =
     tie.close
     (tie.spec (λ c κs. search needs) (λ c. search needs) returns (λ c κs. search needs) (λ c. omega (arith, within c)) (λ c. let h = within c in search needs) (λ c. search needs)
     (λ c κs. sounds (tested (c .before .before .before)) .within) check-requires (λ c. search needs)
-    (λ c. take-refused _ _ _ _ _ (numbered (c .before)) (placed (c .before)) (c .if2 .taken)) (λ c κs. sounds (tested (read (c .before .before))) .within) take-in-requires add-noted
+    (λ c. take-refused _ _ _ _ _ (numbered (c .before)) (placed (c .before)) (c .if2 .taken)) (λ c κs. sounds (tested (read (c .before .before .before))) .within) take-in-requires add-noted
     noted-requires with-state-requires (λ c. search needs) returns-3)
