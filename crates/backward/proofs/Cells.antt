@@ -22,11 +22,11 @@ use Rattle.lists.specs.Tests.{pick}
 use Rattle.lists.proofs.Tests.{pick-true, pick-false, pick-cases, all-mapped}
 use Rattle.lists.proofs.Fold.{Folded, fold-next, fold-done}
 use Rattle.protocol.specs.Entry.{lineOf, codeOf}
-use Rattle.protocol.specs.Codes.{cell, ofCell}
+use Rattle.protocol.specs.Codes.{cell, ofCell, editIn}
 use Rattle.protocol.specs.Vote.{isNone}
 use Rattle.protocol.specs.Frames.{orElse, editBy}
 use Rattle.protocol.proofs.Codes.{cell-of}
-use Rattle.backward.specs.Runs.{Named, keptEdit}
+use Rattle.backward.specs.Runs.{Named}
 use Rattle.backward.specs.Walk.{Reading, orOther, noting, answered, behind, walk, walkBack}
 use Rattle.backward.specs.Cells.{isLacking, lacking, naming, namedCells, isFirst, noted, newEdits, orKept, placed, cellsAt, askedOf, walkedOf}
 use Rattle.backward.specs.declared.Asked.{Asked}
@@ -361,8 +361,8 @@ module _ (lines entries : List ℕ) (named : Named lines) where
         words : length entries - end ≡ walkBack lines entries .words
         words = omega (arith, ap (λ (r : Reading). r .words) read)
 
-        shown : edits ≡ placed (map cell (orOther (keptEdit codes) lines (walkBack lines entries .frame)))
-        shown = q ∙ ap placed (sym (ap (λ (r : Reading). map cell (orOther (keptEdit codes) lines (r .frame))) read
-            ∙ ap (map cell) (other-map (keptEdit codes) (λ (line : ℕ). ofCell (getD cells line 0)) lines)
-            ∙ map-map cell (λ (line : ℕ). orElse (ofCell (getD cells line 0)) (keptEdit codes line)) lines
+        shown : edits ≡ placed (map cell (orOther (editIn codes) lines (walkBack lines entries .frame)))
+        shown = q ∙ ap placed (sym (ap (λ (r : Reading). map cell (orOther (editIn codes) lines (r .frame))) read
+            ∙ ap (map cell) (other-map (editIn codes) (λ (line : ℕ). ofCell (getD cells line 0)) lines)
+            ∙ map-map cell (λ (line : ℕ). orElse (ofCell (getD cells line 0)) (editIn codes line)) lines
             ∙ ap (λ (f : ℕ → ℕ). map f lines) (fun-ext (λ line. kept-cell (getD cells line 0) (getD codes line 0)))))

@@ -20,11 +20,11 @@ use lib.Seq.{drop-cons}
 use borrow.Author.Tests.{leb-true}
 use Rattle.lists.specs.Tests.{pick, allB}
 use Rattle.lists.proofs.Tests.{all-mapped, getD-replicate, pick-cases}
-use Rattle.protocol.specs.Codes.{cell, ofCell, noCodes, codesAfter}
+use Rattle.protocol.specs.Codes.{cell, ofCell, editIn, noCodes, codesAfter}
 use Rattle.protocol.specs.Frames.{editAfter, lastEdit, orElse, editBy}
 use Rattle.protocol.proofs.Codes.{cell-back, codes-at}
 use Rattle.protocol.proofs.Frames.{edit-append, edit-behind, edit-cons}
-use Rattle.backward.specs.Runs.{ofFrame, keptEdit, editsOf, editsAll, runHas, shortestRun, Shortest}
+use Rattle.backward.specs.Runs.{ofFrame, editsOf, editsAll, runHas, shortestRun, Shortest}
 use Rattle.backward.specs.Walk.{Reading, orOther, noting, answered, behind, walk, walkBack}
 use Rattle.backward.specs.Cells.{placed, walkedOf}
 use Rattle.backward.proofs.Members.{all-mem, map-each}
@@ -125,20 +125,20 @@ module _ (lines entries : List ℕ) where
   unfolding walkedOf
   walked-is codes = λ i. record { words = words-read i; edits = placed (shown i) }
     where
-      found : orOther (keptEdit codes) lines (walkBack lines entries .frame) ≡ map (λ (line : ℕ). editAfter line (keptEdit codes line) entries) lines
+      found : orOther (editIn codes) lines (walkBack lines entries .frame) ≡ map (λ (line : ℕ). editAfter line (editIn codes line) entries) lines
       found =
-          ap (orOther (keptEdit codes) lines) frame-read ∙ other-map (keptEdit codes) (λ (line : ℕ). lastEdit line entries) lines
-          ∙ ap (λ (f : ℕ → Option ℕ). map f lines) (fun-ext (λ line. sym (edit-behind line (keptEdit codes line) entries)))
+          ap (orOther (editIn codes) lines) frame-read ∙ other-map (editIn codes) (λ (line : ℕ). lastEdit line entries) lines
+          ∙ ap (λ (f : ℕ → Option ℕ). map f lines) (fun-ext (λ line. sym (edit-behind line (editIn codes line) entries)))
 
-      shown : map cell (orOther (keptEdit codes) lines (walkBack lines entries .frame)) ≡ editsOf lines codes entries
-      shown = ap (map cell) found ∙ map-map cell (λ (line : ℕ). editAfter line (keptEdit codes line) entries) lines
+      shown : map cell (orOther (editIn codes) lines (walkBack lines entries .frame)) ≡ editsOf lines codes entries
+      shown = ap (map cell) found ∙ map-map cell (λ (line : ℕ). editAfter line (editIn codes line) entries) lines
 
 -- ── entries in front, of which the codes are kept ──
 pub kept-front : (lines codes x y : List ℕ) → ofFrame lines ≡ true → length codes ≡ 64 → editsOf lines (codesAfter codes x) y ≡ editsOf lines codes (x ++ y)
 kept-front lines codes x y each long = map-each _ _ lines (λ line m.
     let l : line < length codes = omega (arith, leb-true line 63 (all-mem (λ (k : ℕ). leb k 63) m each)) in
-    ap (λ (o : Option ℕ). cell (editAfter line o y)) (ap ofCell (codes-at codes x line l) ∙ cell-back (editAfter line (keptEdit codes line) x))
-    ∙ ap cell (sym (edit-append line (keptEdit codes line) x y)))
+    ap (λ (o : Option ℕ). cell (editAfter line o y)) (ap ofCell (codes-at codes x line l) ∙ cell-back (editAfter line (editIn codes line) x))
+    ∙ ap cell (sym (edit-append line (editIn codes line) x y)))
 
 pub none-kept : (lines entries : List ℕ) → editsOf lines noCodes entries ≡ map (λ (line : ℕ). cell (lastEdit line entries)) lines
 none-kept lines entries =

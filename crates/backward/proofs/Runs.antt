@@ -15,10 +15,10 @@ use native.Mathlib.Omega.{arith}
 use lib.ListN.{length}
 use Rattle.lists.specs.Tests.{allB}
 use Rattle.lists.proofs.Tests.{alike, pick-cases}
-use Rattle.protocol.specs.Codes.{cell}
+use Rattle.protocol.specs.Codes.{cell, editIn}
 use Rattle.protocol.specs.Frames.{editAfter}
 use Rattle.backward.proofs.Members.{all-mem, all-each}
-use Rattle.backward.specs.Runs.{keptEdit, editsOf, runHas, leastUpTo, shortestRun, Shortest, SameLines}
+use Rattle.backward.specs.Runs.{editsOf, runHas, leastUpTo, shortestRun, Shortest, SameLines}
 
 pub shortest-one : (p : ℕ) (has : ℕ → Bool) (r s : ℕ) → Shortest p has r → Shortest p has s → r ≡ s
 shortest-one p has r s a b =
@@ -81,7 +81,7 @@ same-lines lines others entries same = ap (leastUpTo (length entries)) (fun-ext 
     test r = alike _ _ (all-within _ others lines (λ x. same x .1)) (all-within _ lines others (λ x. same x .0))
 
 pub named-twice : (line : ℕ) (lines codes entries : List ℕ) → List·Memᴰ line lines
-    → (shortestRun (line ∷ lines) entries ≡ shortestRun lines entries) × (editsOf (line ∷ lines) codes entries ≡ cell (editAfter line (keptEdit codes line) entries) ∷ editsOf lines codes entries)
+    → (shortestRun (line ∷ lines) entries ≡ shortestRun lines entries) × (editsOf (line ∷ lines) codes entries ≡ cell (editAfter line (editIn codes line) entries) ∷ editsOf lines codes entries)
 named-twice line lines codes entries m = (same-lines (line ∷ lines) lines entries (λ x. (λ k. go x (List·Memᴰ·cases-cons k), List·Memᴰ·tail)), refl)
   where
     go : (x : ℕ) → (x ≡ line) ⊎ List·Memᴰ x lines → List·Memᴰ x lines

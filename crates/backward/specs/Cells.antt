@@ -8,8 +8,7 @@ use lib.Dec.{eqb}
 use lib.ListN.{length, getD, set, replicate}
 use Rattle.lists.specs.Tests.{pick}
 use Rattle.protocol.specs.Entry.{lineOf, codeOf}
-use Rattle.protocol.specs.Codes.{cell}
-use Rattle.backward.specs.Runs.{keptEdit}
+use Rattle.protocol.specs.Codes.{cell, editIn}
 use Rattle.backward.specs.Walk.{orOther, walkBack}
 use Rattle.backward.specs.declared.Asked.{Asked}
 use Rattle.backward.specs.declared.Walked.{Walked}
@@ -58,4 +57,4 @@ cellsAt codes cells lines = map (λ (line : ℕ). orKept (getD cells line 0) (ge
 
 -- the answer of the walk: a line with no edit then has its kept code
 unfoldable pub walkedOf : List ℕ → List ℕ → List ℕ → Walked
-walkedOf entries lines codes = record { words = walkBack lines entries .words; edits = placed (map cell (orOther (keptEdit codes) lines (walkBack lines entries .frame))) }
+walkedOf entries lines codes = record { words = walkBack lines entries .words; edits = placed (map cell (orOther (editIn codes) lines (walkBack lines entries .frame))) }

@@ -2,15 +2,14 @@
 -- first p entries that are not dropped (xiv) are the list `entries` here, so a run that ends at p is its end. Assumes nothing.
 use mathlib.Core.Path.{_≡_}
 use mathlib.Core.List.{List, [], _∷_, map, List·Memᴰ}
-use mathlib.Core.Option.{Option}
 use mathlib.Core.Bool.{Bool, true, false, _||_}
 use mathlib.Core.Logic.{_⊎_, _↔_}
 use Prim.Native.Nat.{ℕ, zero, suc, _-_, _≤_, _<_}
 use lib.Dec.{eqb, leb}
-use lib.ListN.{length, getD, drop}
+use lib.ListN.{length, drop}
 use Rattle.lists.specs.Tests.{pick, allB}
 use Rattle.protocol.specs.Entry.{lineOf}
-use Rattle.protocol.specs.Codes.{cell, ofCell}
+use Rattle.protocol.specs.Codes.{cell, editIn}
 use Rattle.protocol.specs.Frames.{editAfter}
 
 -- up to 64 lines of the frame
@@ -21,14 +20,10 @@ pub record Named (lines : List ℕ) : Type 0 where
   pub few : length lines ≤ 64
   pub each : ofFrame lines ≡ true
 
--- what the codes kept of dropped entries say of a line
-abbrev pub keptEdit : List ℕ → ℕ → Option ℕ
-keptEdit codes line = ofCell (getD codes line 0)
-
 -- "reads the frame as it stood": the last edit of each line named, in their order, as it is stored; (xiv) it "uses the kept codes" where the entries
 -- have none
 abbrev pub editsOf : List ℕ → List ℕ → List ℕ → List ℕ
-editsOf lines codes entries = map (λ (line : ℕ). cell (editAfter line (keptEdit codes line) entries)) lines
+editsOf lines codes entries = map (λ (line : ℕ). cell (editAfter line (editIn codes line) entries)) lines
 
 -- the run of length r
 abbrev pub runOf : ℕ → List ℕ → List ℕ

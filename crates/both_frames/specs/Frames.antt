@@ -5,11 +5,10 @@ use Prim.Native.Nat.{ℕ}
 use mathlib.Core.List.{List}
 use mathlib.Core.Option.{Option, none, some}
 use lib.Dec.{leb}
-use lib.ListN.{getD}
 use Rattle.lists.specs.Tests.{pick}
 use Rattle.protocol.specs.Office.{path}
 use Rattle.protocol.specs.Frames.{editAfter}
-use Rattle.protocol.specs.Codes.{ofCell, noCodes, codesAfter}
+use Rattle.protocol.specs.Codes.{ofCell, editIn, noCodes, codesAfter}
 use Rattle.frame.specs.State.{heldBy}
 use Rattle.frame.specs.Soundness.{soundB}
 use Rattle.frame.specs.declared.Record.{Record}
@@ -33,7 +32,7 @@ refusedFrame number = record { number = number; edit = NotYet }
 
 -- the last edit of a line among the dropped entries
 abbrev pub keptEdit : Record → ℕ → Option ℕ
-keptEdit r line = ofCell (getD (r .kept .summary .codes) line 0)
+keptEdit r line = editIn (r .kept .summary .codes) line
 
 -- of the entries p, behind what stood before them
 unfoldable pub shownIn : ℕ → Option ℕ → List ℕ → Framed

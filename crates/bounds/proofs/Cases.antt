@@ -9,7 +9,7 @@ use Rattle.protocol.specs.Vote.{Votes, tally, unheard, supported, wins}
 use Rattle.protocol.specs.Office.{votesOf}
 use Rattle.protocol.specs.Counts.{noCounts, countsAfter, quieterBy, quieter}
 use Rattle.protocol.proofs.Cases.{a, b, c, d, three}
-use Rattle.bounds.specs.Bounds.{fits, worst, winsWorst, firstThat, sureWinner}
+use Rattle.bounds.specs.Bounds.{fits, worst, winsWorst, sureWinner}
 
 -- the votes of three offices
 abbrev voted : List ℕ → List ℕ → List ℕ → Votes
@@ -47,5 +47,5 @@ pub cases :
     (named [] (three 40 35 25) (three 40 35 25) (voted [] [] []) ≡ none) ×
     -- no lowest exceeds its highest
     (fits (three 40 35 25) (three 40 35 25) ≡ true) × (fits (three 40 36 25) (three 40 35 65535) ≡ false)
-unfolding both countsAfter quieterBy tally unheard supported wins fits worst winsWorst firstThat sureWinner
+unfolding both countsAfter quieterBy tally unheard supported wins fits worst winsWorst sureWinner
 cases = (refl, refl, refl, refl, refl, refl, refl, refl, refl, refl, refl, refl, refl, refl, refl, refl, refl)

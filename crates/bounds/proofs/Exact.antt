@@ -19,15 +19,14 @@ use lib.ListN.{length}
 use borrow.Author.Tests.{eqb-true}
 use Rattle.lists.specs.Tests.{allB}
 use Rattle.lists.proofs.Tests.{both-0, both-1}
-use Rattle.protocol.specs.Vote.{Votes, later, isFor, tally, unheard, and-also, supported, wins, firstWinner, winner}
+use Rattle.protocol.specs.Vote.{Votes, later, isFor, tally, unheard, and-also, supported, wins, winner, firstThat}
 use Rattle.protocol.specs.Winning.{Supported, Beats, Wins, Asymmetric}
 use Rattle.protocol.proofs.Vote.{wins-unique, wins-voted, wins-true, wins-of}
-use Rattle.bounds.specs.Bounds.{_≼_, WinsSurely, worst, winsWorst, firstThat, sureWinner}
+use Rattle.bounds.specs.Bounds.{_≼_, WinsSurely, worst, winsWorst, sureWinner}
 use Rattle.bounds.proofs.Choices.{≼-refl, ≼-length, worst-low, worst-high, worst-met, Worse, worst-worse}
 
 -- ── the first entry of which a test holds ──
 first-holds : (t : ℕ → Bool) (fs : List ℕ) (e : ℕ) → firstThat t fs ≡ some e → t e ≡ true
-unfolding firstThat
 first-holds t [] e h = absurd (Option·none-ne-some e h)
 first-holds t (f ∷ fs) e h = go (t f) refl h (first-holds t fs e)
   where
@@ -37,7 +36,7 @@ first-holds t (f ∷ fs) e h = go (t f) refl h (first-holds t fs e)
 
 -- where there is none, the test fails of every entry that is supported
 first-none : (t : ℕ → Bool) (us : List ℕ) (u : Votes) (e : ℕ) → Supported us u e → firstThat t (supported us u) ≡ none → t e ≡ false
-unfolding firstThat supported
+unfolding supported
 first-none t [] u e s h = absurd (not-suc-le-zero (s .1))
 first-none t (w ∷ us) u e s h = go (first-none t us (later u) e) (u 0) refl (s .0) (s .1) (s .2) h
   where
@@ -132,12 +131,7 @@ module _ (before : ℕ → ℕ → Bool) where
     pub sure-zero : allB (eqb 0) low ≡ true → sureWinner low high before v ≡ none
     sure-zero z = sure-none .1 (λ e s. not-suc-le-zero (rw (nothing-told low v e z) at (surely-at-low e s .above)))
 
-  first-winner : (ws : List ℕ) (v : Votes) (fs : List ℕ) → firstThat (wins ws before v) fs ≡ firstWinner ws before v fs
-  unfolding firstThat
-  first-winner ws v [] = refl
-  first-winner ws v (f ∷ fs) = ap (λ (r : Option ℕ). cond (wins ws before v f) (some f) r) (first-winner ws v fs)
-
   -- bounds that meet leave one choice
   pub sure-met : (ws : List ℕ) (v : Votes) → sureWinner ws ws before v ≡ winner ws before v
   unfolding sureWinner winsWorst winner
-  sure-met ws v = first-same (winsWorst ws ws before v) (wins ws before v) (supported ws v) (λ e. ap (λ (x : List ℕ). wins x before v e) (worst-met ws v e)) ∙ first-winner ws v (supported ws v)
+  sure-met ws v = first-same (winsWorst ws ws before v) (wins ws before v) (supported ws v) (λ e. ap (λ (x : List ℕ). wins x before v e) (worst-met ws v e))

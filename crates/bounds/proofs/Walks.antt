@@ -20,7 +20,7 @@ use Rattle.lists.specs.Tests.{both}
 use Rattle.lists.proofs.Tests.{alike, getD-map}
 use Rattle.lists.proofs.Walk.{rest-step}
 use Rattle.lists.proofs.Fill.{filled, front-step, fill-end}
-use Rattle.protocol.specs.Vote.{Votes, later, isFor, and-also, supported, winner}
+use Rattle.protocol.specs.Vote.{Votes, later, isFor, and-also, supported, winner, firstThat}
 use Rattle.protocol.specs.Counts.{quieterBy}
 use Rattle.protocol.proofs.Quieter.{quieter-asymmetric}
 use Rattle.protocol.proofs.Vote as vote
@@ -30,7 +30,7 @@ use Rattle.tallies.specs.Tallies.{winnerIs, noVote, cast, voteIn, votesIn, Sile
 use Rattle.tallies.specs.declared.Winner.{Winner}
 use Rattle.tallies.specs.declared.Winner.the-variants.{Entry, Nobody}
 use Rattle.tallies.proofs.Walks.{at-vote, winner-some, winner-none}
-use Rattle.bounds.specs.Bounds.{fits, worst, winsWorst, firstThat, voteThat, inEight}
+use Rattle.bounds.specs.Bounds.{fits, worst, winsWorst, voteThat, inEight}
 use Rattle.bounds.proofs.Eight.{silent-votes, winner-eight}
 
 -- ── the votes of eight ballots ──
@@ -180,7 +180,6 @@ module _ (n : ℕ) (few : n ≤ 8) (lo hi : List ℕ) (lo8 : length lo ≡ 8) (h
         ap (λ (y : ℕ). winnerIs (firstThat t (and-also (voteIn y) rest))) (sym (at-vote xs i (omega arith)))
 
     pub sure-next : i < n → (b : Bool) → b ≡ voteThat t (voteIn (getD xs i 0)) → b ≡ false → who ≡ winnerIs (firstThat t rest)
-    unfolding firstThat
     sure-next h b q f = sure-step h ∙ go (voteIn (getD xs i 0)) (sym q ∙ f)
       where
         go : (x : Option ℕ) → voteThat t x ≡ false → winnerIs (firstThat t (and-also x rest)) ≡ winnerIs (firstThat t rest)
@@ -188,7 +187,6 @@ module _ (n : ℕ) (few : n ≤ 8) (lo hi : List ℕ) (lo8 : length lo ≡ 8) (h
         go (some e) p = rw p
 
     pub sure-stop : i < n → (b : Bool) → b ≡ voteThat t (voteIn (getD xs i 0)) → b ≡ true → Entry (getD xs i 0) ≡ who
-    unfolding firstThat
     sure-stop h b q f = sym (sure-step h ∙ go (getD xs i 0) (eqb (getD xs i 0) noVote) refl (sym q ∙ f))
       where
         go : (x : ℕ) (b : Bool) → eqb x noVote ≡ b → voteThat t (voteIn x) ≡ true → winnerIs (firstThat t (and-also (voteIn x) rest)) ≡ Entry x
@@ -198,7 +196,7 @@ module _ (n : ℕ) (few : n ≤ 8) (lo hi : List ℕ) (lo8 : length lo ≡ 8) (h
             ap (λ (y : Option ℕ). winnerIs (firstThat t (and-also y rest))) here ∙ ap (λ (b : Bool). winnerIs (cond b (some x) (firstThat t rest))) (sym (ap (voteThat t) here) ∙ p)
 
     pub sure-done : n ≤ i → Nobody ≡ who
-    unfolding firstThat supported
+    unfolding supported
     sure-done h =
         let l : length (take n lo) ≤ i = omega (arith, low-length) in
         sym (inv ∙ ap (λ (w : List ℕ). winnerIs (firstThat t (supported w (votesIn (drop i xs))))) (drop-of-length-le (take n lo) l))

@@ -8,7 +8,7 @@ use Prim.Native.Nat.{ℕ, _-_, _≤_}
 use lib.Dec.{leb}
 use lib.ListN.{length, replicate}
 use Rattle.lists.specs.Tests.{both}
-use Rattle.protocol.specs.Vote.{Votes, later, isFor, supported, wins}
+use Rattle.protocol.specs.Vote.{Votes, later, isFor, supported, wins, firstThat}
 use Rattle.protocol.specs.Winning.{Wins}
 
 -- as many numbers, each at most the one at its place
@@ -39,11 +39,6 @@ worst (l ∷ low) (h ∷ high) v e = cond (isFor e (v 0)) l h ∷ worst low high
 -- e wins under its worst choice
 unfoldable pub winsWorst : List ℕ → List ℕ → (ℕ → ℕ → Bool) → Votes → ℕ → Bool
 winsWorst low high before v e = wins (worst low high v e) before v e
-
--- the first of some entries of which the test holds
-unfoldable pub firstThat : (ℕ → Bool) → List ℕ → Option ℕ
-firstThat t [] = none
-firstThat t (f ∷ fs) = cond (t f) (some f) (firstThat t fs)
 
 -- the supported entry that wins under its worst choice, if any. It is the one that wins under every choice (laws `sure-some`, `sure-none`)
 unfoldable pub sureWinner : List ℕ → List ℕ → (ℕ → ℕ → Bool) → Votes → Option ℕ

@@ -13,7 +13,7 @@ use lib.ListN.{length, take, drop, length-append, length-map, length-drop, take-
 use lib.Seq.{length-take-le, take-append-seam}
 use Rattle.protocol.specs.Counts.{countOf}
 use Rattle.protocol.specs.Office.{Office}
-use Rattle.protocol.specs.Limits.{isEmpty, tailFine}
+use Rattle.protocol.specs.Limits.{isEmpty, lengthLimit, tailFine}
 use Rattle.lists.proofs.Tests.{all-map, drop-map}
 use Rattle.protocol.proofs.Limits as Limits
 use Rattle.ballots.specs.Ballots.{ballotFine, isNoBallot, tailOf, ballotOf, wordsWith}
@@ -66,7 +66,7 @@ module _ (n : ℕ) (kept : Kept) (o : Office) (words : List ℕ) (few : n ≤ 8)
     rest = rw (drop-map ballotOf n (o .tails)) (all-map isEmpty isNoBallot ballotOf B.empty-none (drop n (o .tails)) (F .rest));
   }
 
-  pub electable-of : ((k : ℕ) → countOf (kept .counts) k ≤ 9223372036854775808) → Electable n kept (stateOf kept o) (wordsWith (o .log) words)
+  pub electable-of : ((k : ℕ) → countOf (kept .counts) k ≤ lengthLimit) → Electable n kept (stateOf kept o) (wordsWith (o .log) words)
   electable-of countable = record {
     limits = steppable-of;
     done = ap (summaryAfter (kept .summary)) (sym (take-append-seam (o .log) (drop (length (o .log)) words)));

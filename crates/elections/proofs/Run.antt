@@ -13,6 +13,7 @@ use native.Mathlib.Numerals.{add-one}
 use native.Mathlib.Omega.{arith}
 use lib.ListN.{length, getD, take, drop, set, length-append}
 use lib.Seq.{set-split, drop-append-add, drop-drop, getD-at, take-append-seam}
+use Rattle.protocol.specs.Limits.{lengthLimit}
 use Rattle.protocol.specs.Entry.{isEntry}
 use Rattle.protocol.specs.Counts.{countOf, counted, countsAfter, quieterBy, quieter}
 use Rattle.protocol.specs.Moves.{weightsAfter}
@@ -71,6 +72,7 @@ rule-voted kept = byLog-voted (weightsAfter (kept .summary .present)) (quieter (
 module _ (n : ℕ) (kept : Kept) (s : State) (words : List ℕ) (E : Electable n kept s words) where
   -- the counts of the settled log, dropped entries included, may grow by one
   pub counts-room : (cs : List ℕ) → cs ≡ countsAfter (kept .counts) (take (s .held) words) → (k : ℕ) → countOf cs k < 18446744073709551615
+  unfolding lengthLimit
   counts-room cs c k =
       let m = counts-most (kept .counts) (take (s .held) words) k in
       rw c (omega (arith, m, log-length n s words (E .limits), E .limits .most, E .countable k))

@@ -7,6 +7,7 @@ use mathlib.Core.List.{List, map}
 use mathlib.Core.Option.{Option}
 use lib.ListN.{length, take, drop, set}
 use Rattle.lists.specs.Tests.{allB}
+use Rattle.protocol.specs.Limits.{lengthLimit}
 use Rattle.protocol.specs.Entry.{isEntry}
 use Rattle.protocol.specs.Counts.{countOf, quieterBy}
 use Rattle.protocol.specs.Vote.{winner}
@@ -40,7 +41,7 @@ pub record Steppable (n : ℕ) (s : State) (words : List ℕ) : Type 0 where
 pub record Electable (n : ℕ) (kept : Kept) (s : State) (words : List ℕ) : Type 0 where
   pub limits : Steppable n s words
   pub done : s .summary ≡ summaryAfter (kept .summary) (take (s .held) words)
-  pub countable : (k : ℕ) → countOf (kept .counts) k ≤ 9223372036854775808
+  pub countable : (k : ℕ) → countOf (kept .counts) k ≤ lengthLimit
 
 -- "until no entry wins"
 abbrev pub electedIn : Kept → State → List ℕ → Office

@@ -67,7 +67,7 @@ module _ (r : Record) (words : List ℕ) (S : Sound r words) where
   limits = record { room = S .room; few = S .head .most; most = S .most; entries = S .entries; eight = S .eight; fine = S .fine; rest = S .rest }
 
   pub electable : Electable (r .n) (r .kept) (stateIn r) words
-  electable = record { limits = limits; done = S .done; countable = λ k. omega (arith, count-within (r .n) (r .weights) (r .kept) (S .kept) k, S .within, longest) }
+  electable = record { limits = limits; done = S .done; countable = λ k. omega (arith, count-within (r .n) (r .weights) (r .kept) (S .kept) k, S .within, within-limit) }
 
   -- the same of the state that the code makes, and of the own ballot
   pub electable-in : (s : State) → s ≡ stateIn r → Electable (r .n) (r .kept) s words

@@ -12,12 +12,13 @@ use Rattle.summary.specs.Summary.{startWith, summaryAfter}
 use Rattle.summary.specs.declared.Summary.{Summary}
 use Rattle.kept.specs.Kept.{keptNothing, keptAfter}
 use Rattle.kept.specs.declared.Kept.{Kept}
+use Rattle.soundness.specs.Soundness as S
 use Rattle.elections.specs.declared.State.{State}
 use Rattle.frame.specs.declared.Record.{Record}
 
 -- how many entries the record's log still holds: its settled length, less what was dropped
 abbrev pub heldLength : Record → ℕ
-heldLength r = r .settled - r .kept .dropped
+heldLength r = S.heldLength (r .settled) (r .kept .dropped)
 
 -- the undropped log and the tails that the record and its log hold
 abbrev pub heldBy : Record → List ℕ → Office

@@ -1,15 +1,14 @@
 -- Take's number and the places of its comparison, each way out in the order of the definitions.
 --     not-read, other-count, other-weights, own-message     7, 8 and 9
 --     by-logs                                               else it is the logs' (`comparing`)
---     refusal-folded, accepted                              the number is the protocol's; what is known where it is 0
+--     refusal-folded                                        the number is the protocol's
 -- Assumes nothing.
-use mathlib.Core.Path.{_≡_, refl, sym, ap, _∙_}
+use mathlib.Core.Path.{_≡_, refl, ap, _∙_}
 use mathlib.Core.Bool.{Bool, true, false, not, cond}
 use mathlib.Core.List.{List}
-use Prim.Native.Nat.{ℕ, _+_, _-_, _≤_}
-use native.Mathlib.Omega.{arith}
+use Prim.Native.Nat.{ℕ, _+_, _-_}
 use lib.Dec.{eqb, ltb}
-use lib.ListN.{length, take, drop, length-take}
+use lib.ListN.{length, take, drop}
 use borrow.Author.Tests.{eq-eqb, ne-eqb}
 use Rattle.lists.specs.Tests.{both, pick, same}
 use Rattle.protocol.specs.Beginning.{comparable}
@@ -17,13 +16,11 @@ use Rattle.protocol.specs.Take.{refuseTake}
 use Rattle.protocol.specs.Folding.{refuseFoldedTake}
 use Rattle.ballots.specs.declared.Ballot.{Ballot}
 use Rattle.ballots.specs.Ballots.{officeIn}
-use Rattle.numbers.proofs.Runs.{runAt-length}
-use Rattle.spelling.specs.Reading.{recordAt}
 use Rattle.reading.specs.declared.Reading.{Reading}
 use Rattle.comparing.specs.FromEnd.{compares}
 use Rattle.comparing.specs.Checking.{logsRefusal, checkedBy}
 use Rattle.comparing.specs.declared.Checked.{Checked}
-use Rattle.comparing.proofs.Checking.{by-none, Meeting, meeting}
+use Rattle.comparing.proofs.Checking.{by-none}
 use Rattle.intake.specs.Intake.{packetIn, refusalOf, checkedOf}
 
 -- a message that was read, of these offices and weights
@@ -85,17 +82,3 @@ module _ (n own : ℕ) (weights : List ℕ) (dropped : ℕ) (words : List ℕ) (
   refusal-folded ballots noted =
       ap (λ (k : ℕ). pick (not (m .ok)) 7 (pick (not (both (eqb (m .n) n) (same (m .weights) weights))) 8 k))
       (own-first (eqb (m .sender) own) (ltb (dropped + length own-log) (m .dropped)) (ltb (m .dropped + length message-log) dropped) (comparable (drop (m .dropped - dropped) own-log) (drop (dropped - m .dropped) message-log)))
-
-  -- what is known of a message that is accepted
-  pub accepted : refusalOf n own weights dropped words held rest m ≡ 0
-      → (m .dropped ≤ dropped + held) × ((dropped ≤ m .dropped + m .held) × (comparable (drop (m .dropped - dropped) own-log) (drop (dropped - m .dropped) message-log) ≡ true))
-  unfolding refusalOf pick
-  accepted e =
-      let k = go (m .ok) (both (eqb (m .n) n) (same (m .weights) weights)) (eqb (m .sender) own) e in
-      (omega (arith, k .0, length-take held words), (omega (arith, k .1 .0, runAt-length 6 recordAt (m .held) rest), k .1 .1))
-    where
-      go : (a b c : Bool) → _≡_ {A = ℕ} (pick (not a) 7 (pick (not b) 8 (pick c 9 (logsRefusal dropped own-log (m .dropped) message-log)))) 0 → Meeting dropped own-log (m .dropped) message-log
-      go false b c z = absurd (omega arith)
-      go true false c z = absurd (omega arith)
-      go true true true z = absurd (omega arith)
-      go true true false z = meeting dropped own-log (m .dropped) message-log z

@@ -22,7 +22,7 @@ use Rattle.outcome.proofs.Claims.{after-call, refusals}
 use Rattle.agreement.specs.World as W
 use Rattle.agreement.specs.World.{Replica, Posted, World, Call, take, elect, fold, replicaAt, messageAt, onSome, put, step, after}
 use Rattle.agreement.specs.Demand.{Founded, says, viewAt}
-use Rattle.agreement.proofs.Places.{there, nothing}
+use Rattle.agreement.proofs.Places.{there}
 use Rattle.lost_for_good.specs.LostForGood.{Settled, LostBy, LostIn, CalledAt, ToldLost}
 use Rattle.lost_for_good.proofs.Moves.{after-one, set-at, sound}
 use Rattle.lost_for_good.proofs.LostForGood.{lost-for-good}

@@ -5,9 +5,8 @@
 use mathlib.Core.Path.{_≡_, refl, sym, ap, _∙_}
 use mathlib.Core.Bool.{Bool, true, false, true≢false}
 use Prim.Native.Nat.{_≤_}
-use lib.Dec.{eqb, leb}
 use borrow.Author.Tests.{eqb-true, eq-eqb, leb-true, le-leb}
-use Rattle.lists.specs.Tests.{both, same}
+use Rattle.lists.specs.Tests.{same}
 use Rattle.lists.proofs.Tests.{both-0, both-1, both-true}
 use Rattle.lists.proofs.Same.{same-true, same-refl}
 use Rattle.ballots.specs.Ballots.{ballotsFine}

@@ -33,12 +33,12 @@ module _ (r : Record) (words : List ℕ) (q : soundB r words ≡ true) where
       omega (arith, within-parts (r .own) (r .own) (S .head .member), Issue.never-4 (r .n) (r .own) (heldBy r words) (folded-fine r words S .held) (S .head .member) e)
 
   pub stopped-by-5 : StoppedBy5 r words
-  unfolding issueNumber lengthLimit
+  unfolding issueNumber
   stopped-by-5 line code p h =
       let own : ℕ = length (tail (heldBy r words) (r .own)) in
       pick-true (soundB r words) (refuseFoldedIssue (r .n) (r .own) line code (foldedBy r words)) 1 q ∙
       Issue.below-stopped (r .n) (r .own) line code (foldedBy r words) p h ∙
-      ap₂ (λ (held settled : ℕ). pick (eqb (held + own) 1024) 5 (pick (eqb (settled + own) 9223372036854775808) 5 0)) (log-length r words (sound r words q)) (whole-length r words (sound r words q))
+      ap₂ (λ (held settled : ℕ). pick (eqb (held + own) 1024) 5 (pick (eqb (settled + own) lengthLimit) 5 0)) (log-length r words (sound r words q)) (whole-length r words (sound r words q))
 
 pub never-4 : (r : Record) (words : List ℕ) (line code : ℕ) → issueNumber r words line code ≡ 4 → ⊥
 unfolding issueNumber pick

@@ -14,6 +14,7 @@ use lib.ListN.{length}
 use Rattle.lists.specs.Tests.{pick}
 use Rattle.protocol.specs.Entry.{proper}
 use Rattle.protocol.specs.Counts.{countIn}
+use Rattle.protocol.specs.Limits.{lengthLimit}
 use Rattle.protocol.specs.Office.{tail}
 use Rattle.frame.specs.State.{heldLength, heldBy}
 use Rattle.frame.specs.Issuing.{issueNumber}
@@ -32,4 +33,4 @@ FullHasPart r words = length (tail (heldBy r words) (r .own)) ≡ 32 → countIn
 abbrev pub StoppedBy5 : Record → List ℕ → Type 0
 StoppedBy5 r words = (line code : ℕ) → proper (r .n) line code ≡ true → countIn (r .own) (tail (heldBy r words) (r .own)) < 32 / r .n
     → issueNumber r words line code
-    ≡ pick (eqb (heldLength r + length (tail (heldBy r words) (r .own))) 1024) 5 (pick (eqb (r .settled + length (tail (heldBy r words) (r .own))) 9223372036854775808) 5 0)
+    ≡ pick (eqb (heldLength r + length (tail (heldBy r words) (r .own))) 1024) 5 (pick (eqb (r .settled + length (tail (heldBy r words) (r .own))) lengthLimit) 5 0)

@@ -3,7 +3,7 @@
 use mathlib.Core.List.{List, foldl}
 use mathlib.Core.Option.{Option, none, some}
 use Prim.Native.Nat.{ℕ, zero, suc}
-use lib.ListN.{set, replicate}
+use lib.ListN.{getD, set, replicate}
 use Rattle.protocol.specs.Entry.{lineOf, codeOf}
 
 -- the number that is stored: 0 for no edit yet, else the code + 1, so that a record of zeros has no edits
@@ -15,6 +15,10 @@ cell (some code) = suc code
 abbrev pub ofCell : ℕ → Option ℕ
 ofCell zero = none
 ofCell (suc code) = some code
+
+-- the edit of a line that codes tell, as they are stored
+abbrev pub editIn : List ℕ → ℕ → Option ℕ
+editIn codes line = ofCell (getD codes line 0)
 
 -- no line has an edit yet
 abbrev pub noCodes : List ℕ

@@ -54,9 +54,13 @@ beatsAll ws before v e (f ∷ fs) = (eqb f e || beats ws before v e f) && beatsA
 unfoldable pub wins : List ℕ → (ℕ → ℕ → Bool) → Votes → ℕ → Bool
 wins ws before v e = ltb (unheard ws v) (tally ws v e) && beatsAll ws before v e (supported ws v)
 
+-- the first entry that passes a test, and the first that wins, if any
+abbrev pub firstThat : (ℕ → Bool) → List ℕ → Option ℕ
+firstThat t [] = none
+firstThat t (f ∷ fs) = cond (t f) (some f) (firstThat t fs)
+
 abbrev pub firstWinner : List ℕ → (ℕ → ℕ → Bool) → Votes → List ℕ → Option ℕ
-firstWinner ws before v [] = none
-firstWinner ws before v (f ∷ fs) = cond (wins ws before v f) (some f) (firstWinner ws before v fs)
+firstWinner ws before v fs = firstThat (wins ws before v) fs
 
 -- the supported entry that wins, if any
 unfoldable pub winner : List ℕ → (ℕ → ℕ → Bool) → Votes → Option ℕ

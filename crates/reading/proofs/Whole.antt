@@ -10,10 +10,10 @@ use mathlib.Core.List.{List, map}
 use mathlib.Core.Option.{none, some}
 use mathlib.Core.Path.{_∙_, _≡_, ap, refl, sym}
 use native.Mathlib.Omega.{arith}
-use lib.Dec.{eqb, leb, ltb}
+use lib.Dec.{eqb, leb}
 use lib.ListN.{drop, length, length-drop, replicate, take}
 use lib.Seq.{take-all}
-use borrow.Author.Tests.{leb-true, le-leb, lt-ltb, ltb-true, eq-eqb}
+use borrow.Author.Tests.{leb-true, lt-ltb, ltb-true, eq-eqb}
 use Rattle.lists.specs.Tests.{allB, both, pick}
 use Rattle.lists.proofs.Tests.{alike, all-map, both-0, both-1, both-assoc, both-comm, both-false-0, both-false-1, both-swap, both-true, pick-false, pick-true}
 use Rattle.protocol.specs.Entry.{isEntry}

@@ -6,7 +6,7 @@ use Prim.Native.Nat.{ℕ, _+_, _-_, _*_, _≤_, _<_}
 use mathlib.Core.Bool.{Bool, false, true}
 use mathlib.Core.List.{List}
 use mathlib.Core.Option.{some}
-use mathlib.Core.Path.{_∙_, _≡_, refl, sym, ap}
+use mathlib.Core.Path.{_∙_, _≡_, sym, ap}
 use native.Mathlib.Nat.{add-zero}
 use native.Mathlib.Omega.{arith}
 use lib.Dec.{eqb, leb}
@@ -145,6 +145,3 @@ module _ (at : ℕ) (s : List ℕ) where
 module _ (at : ℕ) (s : List ℕ) (r : LogStep) (h : at + 6 ≤ length s) (e : r ≡ entryAt s at) where
   pub entry-step : (r .value ≡ recordAt (drop at s)) × (r .next ≡ at + 6)
   entry-step = (ap (λ (x : LogStep). x .value) (e ∙ sym (entry-good at s h)), ap (λ (x : LogStep). x .next) (e ∙ sym (entry-good at s h)))
-
-  pub entry-there : r .ok ≡ true
-  entry-there = ap (λ (x : LogStep). x .ok) (e ∙ sym (entry-good at s h))

@@ -1,5 +1,5 @@
 -- Feeding the rehearsal.
---     FeedsRest, LineRead, feeds-next      the loop over the lines of a chunk; beside the generic invariant it keeps the lengths of the lent buffers
+--     FeedsRest, Addressed, feeds-next      the loop over the lines of a chunk; beside the generic invariant it keeps the lengths of the lent buffers
 --     feed-answers, finish-answers      what the calls answer
 --     feeds-short, finishes-short      how much they print
 -- Assumes nothing.
@@ -20,10 +20,12 @@ use Rattle.rehearsal_lines.proofs.Feeding.{FeedRest, FedTo, feed-next, feed-sho
 use Rattle.rehearsal_commands.specs.declared.Line.{Line}
 use Rattle.rehearsal_commands.specs.Command.{lineOf}
 use Rattle.rehearsal_answers.specs.Answer.{printedOf}
+use Rattle.rehearsal_offices.specs.declared.addressees.Addressee.{Addressee}
+use Rattle.rehearsal_offices.specs.Addressees.{addresseeOf}
 use Rattle.rehearsal_offices.specs.World.{World}
 use Rattle.rehearsal_offices.specs.declared.Offices.{Offices}
 use Rattle.rehearsal.specs.declared.Rehearsal.{Rehearsal}
-use Rattle.rehearsal.specs.Lines.{Answered, answerLine, sayLine, finishOf}
+use Rattle.rehearsal.specs.Lines.{Answered, answerTo, sayLine, finishOf}
 use Rattle.rehearsal.specs.Feeding.{worldOf, feeds, finishes, FedAs}
 use Rattle.rehearsal.proofs.Says.{say-short, says-as}
 
@@ -32,18 +34,19 @@ pub record FeedsRest (w₀ : World) (h₀ s out₀ : List ℕ) (w : World) (h ou
   pub logs : length (w .logs) ≡ 8192
   pub slots : length (w .slots) ≡ 28184
 
--- the line that ends at `end`, and what it says
-pub record LineRead (w₀ : World) (h₀ s out₀ : List ℕ) (w : World) (h out : List ℕ) (at printed end : ℕ) (h′ : List ℕ) (line : Line) : Type 0 where
+-- the line that ends at `end`: what it says, and whom it is for
+pub record Addressed (w₀ : World) (h₀ s out₀ : List ℕ) (w : World) (h out : List ℕ) (at printed end : ℕ) (h′ : List ℕ) (line : Line) (a : Addressee) : Type 0 where
   pub inv : FeedsRest w₀ h₀ s out₀ w h out at printed
   pub there : end ≡ at + partLength 10 (drop at s)
   pub inside : end < length s
   pub empty : h′ ≡ []
   pub read : line ≡ lineOf (cut (h ++ take (end - at) (drop at s)))
+  pub whom : a ≡ addresseeOf (w .offices .count) (line .parsed)
 
 -- and its answer x
-module _ {w₀ : World} {h₀ s out₀ : List ℕ} {w : World} {h out : List ℕ} {at printed end : ℕ} {h′ : List ℕ} {line : Line} (A : LineRead w₀ h₀ s out₀ w h out at printed end h′ line) (x : Answered) (e : x ≡ answerLine w line) where
+module _ {w₀ : World} {h₀ s out₀ : List ℕ} {w : World} {h out : List ℕ} {at printed end : ℕ} {h′ : List ℕ} {line : Line} {a : Addressee} (A : Addressed w₀ h₀ s out₀ w h out at printed end h′ line a) (x : Answered) (e : x ≡ answerTo w (line .weights) a) where
   says : sayLine w (cut (h ++ take (end - at) (drop at s))) ≡ record { world = x .world; printed = printedOf (x .answer) }
-  says = says-as w _ line (A .read) x e
+  says = says-as w _ line a (A .read) (A .whom) x e
 
   printed-by : sayLine w (cut (h ++ take (end - at) (drop at s))) .printed ≡ printedOf (x .answer)
   printed-by = ap (λ (f : Said World). f .printed) says

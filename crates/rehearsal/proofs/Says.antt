@@ -1,7 +1,6 @@
 -- What a line says, put together from what the calls promise.
 --     say-short      an answer takes at most 65 bytes
---     says-as      a line and its answer
---     answer-by, say-found, say-turn, say-nobody      the answer by the line's addressee
+--     says-as, say-found, say-turn, say-nobody      a line by its addressee
 -- Assumes nothing.
 use mathlib.Core.Path.{_≡_}
 use mathlib.Core.List.{List, _++_}
@@ -18,11 +17,11 @@ use Rattle.rehearsal_turns.specs.Answers.{question}
 use Rattle.rehearsal_turns.specs.Turns.{turnAt, turnWords, turnSlots}
 use Rattle.rehearsal_offices.specs.declared.addressees.Addressee.{Addressee}
 use Rattle.rehearsal_offices.specs.declared.addressees.Addressee.the-variants.{All, One, Nobody}
-use Rattle.rehearsal_offices.specs.declared.founding.Reply.{Reply}
+use Rattle.rehearsal_offices.specs.declared.founding.Founding.{Founding}
 use Rattle.rehearsal_offices.specs.Addressees.{addresseeOf}
 use Rattle.rehearsal_offices.specs.World.{World}
 use Rattle.rehearsal_offices.specs.Founding.{foundOffices}
-use Rattle.rehearsal.specs.Lines.{Answered, answeredBy, turned, recordAt, answerTo, answerLine, sayLine}
+use Rattle.rehearsal.specs.Lines.{Answered, foundAnswer, turned, recordAt, answerTo, answerLine, sayLine}
 
 pub say-short : (w : World) (bytes : List ℕ) → length (sayLine w bytes .printed) ≤ 65
 unfolding sayLine answerLine
@@ -42,18 +41,14 @@ lentAnswer w k size t words slots =
       answer = t .answer;
     }
 
--- a line and its answer
-pub says-as : (w : World) (bytes : List ℕ) (line : Line) → line ≡ lineOf bytes → (x : Answered) → x ≡ answerLine w line → sayLine w bytes ≡ record { world = x .world; printed = printedOf (x .answer) }
-unfolding sayLine
-says-as w bytes line el x e = rw (e, el)
-
--- the answer by the line's addressee
-pub answer-by : (w : World) (line : Line) (a : Addressee) → a ≡ addresseeOf (w .offices .count) (line .parsed) → answerTo w (line .weights) a ≡ answerLine w line
-unfolding answerLine
-answer-by w line a e = rw e
+-- a line by its addressee
+pub says-as : (w : World) (bytes : List ℕ) (line : Line) (a : Addressee) → line ≡ lineOf bytes → a ≡ addresseeOf (w .offices .count) (line .parsed) → (x : Answered) → x ≡ answerTo w (line .weights) a
+    → sayLine w bytes ≡ record { world = x .world; printed = printedOf (x .answer) }
+unfolding sayLine answerLine
+says-as w bytes line a el ea x e = rw (e, ea, el)
 
 module _ (w : World) (ws : List ℕ) (a : Addressee) where
-  pub say-found : (n : ℕ) (f : Reply) → a ≡ All n → f ≡ foundOffices (w .offices) n ws (w .logs) → answeredBy f (w .logs) (w .slots) ≡ answerTo w ws a
+  pub say-found : (n : ℕ) (f : Founding) → a ≡ All n → f ≡ foundOffices (w .offices) n ws (w .logs) → foundAnswer w f ≡ answerTo w ws a
   unfolding answerTo
   say-found n f e ef = rw (ef, e)
 

@@ -9,8 +9,8 @@ use frame::Record;
 use rehearsal_answers::Answer;
 use rehearsal_turns::says_one;
 
-// The offices after a line, and its answer.
-pub struct Reply {
+// The offices after it, and the answer.
+pub struct Founding {
     pub offices: Offices,
     pub answer: Answer,
 }
@@ -54,18 +54,18 @@ pub fn no_offices() -> Offices
 }
 
 // A founding of n offices; where it is refused, all stays as it was. Public for the rehearsal, which lends the eight logs.
-pub fn found_offices(offices: Offices, n: usize, weights: [u16; 8], logs: &[u32]) -> Reply
+pub fn found_offices(offices: Offices, n: usize, weights: [u16; 8], logs: &[u32]) -> Founding
     requires { ⌜ length (now logs) ≡ 8192 ⌝ }
     ensures { λ r. ⌜ r ≡ foundOffices offices n weights (now (logs .entry)) ⌝ }
 {
     let first = Record::found(n, 0, weights, &logs[..Record::LOG]);
     let answer = says_one(b'f', first.number);
     if first.number != 0 {
-        return Reply { offices, answer };
+        return Founding { offices, answer };
     }
     let records = offices.records;
     let fresh = fresh_all(n, weights, logs, records);
-    Reply {
+    Founding {
         offices: Offices {
             count: n,
             records: fresh,

@@ -3,7 +3,7 @@
 --     made-table, made-last      three tails of a table, and those past the end
 -- Assumes nothing.
 use mathlib.Core.Path.{_≡_, refl, sym, ap, _∙_}
-use mathlib.Core.List.{List, [], _∷_, map, flatMap}
+use mathlib.Core.List.{[], _∷_, map, flatMap}
 use Prim.Native.Nat.{ℕ, _-_, _/_, _%_, _≤_, _<_}
 use lib.ListN.{List·getD-eq-default}
 use Rattle.lists.specs.Tests.{pick}

@@ -28,7 +28,7 @@ use Rattle.tallies.specs.declared.Winner.the-variants.{Entry, Nobody}
 abbrev pub votesFrom : ℕ → List ℕ → Votes
 votesFrom i xs = votesIn (drop i xs)
 
-abbrev pub voteAt : ℕ → List ℕ → Option ℕ
+abbrev voteAt : ℕ → List ℕ → Option ℕ
 voteAt i xs = voteIn (getD xs i noVote)
 
 -- a place within the list gives the same whatever stands past the end

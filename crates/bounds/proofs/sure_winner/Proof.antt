@@ -5,9 +5,9 @@ use Prim.Native.Nat.{_-_, _≤_}
 use lib.ListN.{length, take, drop}
 use borrow.Author.Needs.{needs}
 use Rattle.protocol.specs.Counts.{quieterBy}
-use Rattle.protocol.specs.Vote.{supported}
+use Rattle.protocol.specs.Vote.{supported, firstThat}
 use Rattle.tallies.specs.Tallies.{winnerIs, votesIn}
-use Rattle.bounds.specs.Bounds.{winsWorst, firstThat, sureWinner}
+use Rattle.bounds.specs.Bounds.{winsWorst, sureWinner}
 use Rattle.bounds.proofs.Walks.{sure-next, sure-stop, sure-done}
 use Rattle.bounds.proofs.sure_winner.Statement.{statement}
 use Rattle.bounds.proofs.sure_winner.Tie as tie

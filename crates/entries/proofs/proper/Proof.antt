@@ -4,7 +4,6 @@ use mathlib.Core.Path.{sym}
 use mathlib.Core.Bool.{_&&_}
 use Prim.Native.Nat.{_-_}
 use lib.Dec.{leb, ltb}
-use borrow.Author.Needs.{needs}
 use borrow.Author.Tests.{leb-true, le-leb, ltb-true, lt-ltb}
 use Rattle.lists.proofs.Tests.{alike, and-true, and-of}
 use Rattle.protocol.specs.Entry.{proper}

@@ -4,7 +4,6 @@ use mathlib.Core.Path.{_≡_, sym, _∙_}
 use lib.Dec.{eqb}
 use borrow.Author.Tests.{eq-eqb, ne-eqb}
 use Prim.Native.Nat.{min}
-use Rattle.lists.specs.Tests.{pick}
 use Rattle.lists.proofs.Tests.{pick-true, pick-false}
 use Rattle.noting.proofs.known_with.Statement.{statement}
 use Rattle.noting.proofs.known_with.Tie as tie

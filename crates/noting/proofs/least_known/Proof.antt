@@ -1,11 +1,8 @@
 -- A walk from the front: what is known of the offices so far.
 use borrow.Author.Needs.{needs}
 use native.Mathlib.Omega.{arith}
-use mathlib.Core.Path.{_≡_, refl, ap, _∙_}
-use Prim.Native.Nat.{ℕ, _-_, _≤_, min}
-use lib.Dec.{eqb}
-use lib.ListN.{getD}
-use Rattle.lists.specs.Tests.{pick}
+use mathlib.Core.Path.{_≡_, refl}
+use Prim.Native.Nat.{_-_, _≤_}
 use Rattle.protocol.specs.Folding.{leastKnown}
 use Rattle.noting.proofs.Least.{known-next, known-done}
 use Rattle.noting.proofs.least_known.Statement.{statement}

@@ -5,6 +5,7 @@ use native.Mathlib.Omega.{arith}
 use mathlib.Core.Path.{_≡_, sym, ap, _∙_}
 use Prim.Native.Nat.{_+_, _-_, _<_}
 use lib.ListN.{length, take}
+use Rattle.protocol.specs.Limits.{lengthLimit}
 use Rattle.protocol.specs.Counts.{countsAfter}
 use Rattle.protocol.proofs.Counts.{counts-length}
 use Rattle.elections.proofs.Holding.{log-length}
@@ -48,6 +49,7 @@ last : (c : tie.Then1 Inv-loop μ-loop) → let x = stepped-last c in let l = x 
 last c = let x = stepped-last c in let g = going x in let m = run-last _ _ _ _ _ _ (g .0) _ (g .1) _ (x .step .ensures .0) _ (x .step .ensures .1) (c .if1 .taken) in (m .0, m .1)
 
 counts-after-requires : tie.Need-counts-after-requires Inv-loop μ-loop
+unfolding lengthLimit
 counts-after-requires c κs =
     let E = c .before .before .before .pre in
     let S = E .limits in

@@ -1,6 +1,5 @@
 -- Two numbers a row, of 64 rows.
 use borrow.Author.Needs.{needs}
-use native.Mathlib.Omega.{arith}
 use Prim.Native.Nat.{_-_, _≤_}
 use Rattle.trials.proofs.calling.rows_digest.Statement.{statement}
 use Rattle.trials.proofs.calling.rows_digest.Tie as tie
