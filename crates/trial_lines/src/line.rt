@@ -21,7 +21,8 @@ impl Line {
         }
     }
 
-    // The line with one more byte: a digit of the last number, a space before the next one, or the letter.
+    // The line with one more byte: a digit of the last number, a space before the next one, or the letter. Ten times a remainder by 1844674407370955162
+    // is below 2^64, so the largest number of 64 bits is read whole; a larger one, or more than 24, is none that a script has.
     pub fn with(self, byte: u8) -> Line {
         let mut next = self;
         if byte > b'9' {

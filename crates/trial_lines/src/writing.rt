@@ -61,7 +61,8 @@ fn value(line: Line, span: Span, i: usize) -> u64
     line.numbers[at]
 }
 
-// Writes the line's numbers from place `from` on, `times` times over, from place `at` on, and answers where they end.
+// Writes the low 32 bits of the line's numbers from place `from` on, `times` times over, from place `at` of a list on, and answers where they end. Where
+// there is no room for them it prints `?` and writes nothing.
 pub fn put_words(line: Line, from: usize, times: u64, at: u64, to: &mut [u32]) -> usize {
     let span = span_of(line, from, times, at, to.len());
     for i in 0..span.total {
@@ -70,6 +71,7 @@ pub fn put_words(line: Line, from: usize, times: u64, at: u64, to: &mut [u32]) -
     span.at + span.total
 }
 
+// The same with bytes: the low 8 bits of each number.
 pub fn put_bytes(line: Line, from: usize, times: u64, at: u64, to: &mut [u8]) -> usize {
     let span = span_of(line, from, times, at, to.len());
     for i in 0..span.total {
@@ -78,6 +80,7 @@ pub fn put_bytes(line: Line, from: usize, times: u64, at: u64, to: &mut [u8]) ->
     span.at + span.total
 }
 
+// The same with numbers as they are.
 pub fn put_numbers(line: Line, from: usize, times: u64, at: u64, to: &mut [u64]) -> usize {
     let span = span_of(line, from, times, at, to.len());
     for i in 0..span.total {
@@ -86,7 +89,7 @@ pub fn put_numbers(line: Line, from: usize, times: u64, at: u64, to: &mut [u64])
     span.at + span.total
 }
 
-// Eight numbers of the line from this place on, as weights.
+// Eight numbers of the line from this place on, as weights: the low 16 bits of each.
 pub fn weights(line: Line, from: usize) -> [u16; 8] {
     let mut weights = [0u16; 8];
     for i in 0..8 {

@@ -8,6 +8,7 @@ pub fn with(h: u64, x: u64) -> u64 {
     (h % 4294967291 * 1000003 + x % 4294967291 + 1) % 4294967291
 }
 
+// The digest with eight weights.
 fn with_weights(start: u64, weights: [u16; 8]) -> u64 {
     let mut h = start;
     for i in 0..8 {
@@ -16,6 +17,7 @@ fn with_weights(start: u64, weights: [u16; 8]) -> u64 {
     h
 }
 
+// The digest with eight numbers.
 fn with_eight(start: u64, numbers: [u64; 8]) -> u64 {
     let mut h = start;
     for i in 0..8 {
@@ -54,6 +56,7 @@ fn with_ballot(h: u64, ballot: Ballot) -> u64 {
     with_words(with(h, ballot.len as u64), &cells)
 }
 
+// The same for all eight.
 fn with_ballots(start: u64, ballots: [Ballot; 8]) -> u64 {
     let mut h = start;
     for k in 0..8 {

@@ -5,7 +5,7 @@ mod setting;
 use setting::Trial;
 use trial_lines::Line;
 
-// Answers a line: a small letter sets a part of the state, another makes a call.
+// Answers a whole line: a small letter sets a part of the state, another makes a call.
 fn answer(
     trial: Trial,
     line: Line,
@@ -22,8 +22,7 @@ fn answer(
     setting::set(trial, whole, log, output, message)
 }
 
-// Reads to the end. A proved loop has to end, and nothing says that the input does: the
-// turns are counted down from a number that no run uses up.
+// Reads to the end. A proved loop has to end, and nothing says that the input does: the turns are counted down from a number that no run uses up.
 fn main() {
     let mut log = [0u32; 1100];
     let mut output = [0u8; 7100];
