@@ -1,15 +1,13 @@
-// The lines that call, and what each call answers. A call is lent the log, and the output by `S` and `W` or else the message.
-ghost use Prim.Native.Nat.{_≤_};
-use crate::book;
-use crate::book::Book;
-use crate::book::SAID;
-use crate::digest;
-use crate::record;
+// The lines that call, and what each call answers.
+use crate::setting::Trial;
 use both_frames::Edit;
 use frame::Record;
 use lists::within;
 use tabulation::Row;
 use tallies::Winner;
+use trial_lines::Line;
+use trial_lines::weights;
+use trial_records::digest;
 
 // Prints a space and a number.
 fn print(number: u64) {
@@ -21,16 +19,6 @@ fn print(number: u64) {
 fn tell(number: u32, more: u64) {
     print(number as u64);
     print(more);
-}
-
-// The digest of words, 1100 at most.
-fn part_digest(part: &[u32]) -> u64 {
-    if part.len() > book::WORDS {
-        return 0;
-    }
-    let mut numbers = [0u64; 15970];
-    book::from_words(part, &mut numbers, 0);
-    digest::with_all(0, &numbers, 0, part.len())
 }
 
 // What a frame shows, as codes are stored: 0 for no edit yet, else the code + 1.
@@ -51,44 +39,24 @@ fn named(winner: Winner) -> u64 {
 
 // The digest of the class and the total of each of the first rows.
 fn rows_digest(rows: [Row; 64], count: usize) -> u64 {
-    let mut numbers = [0u64; 15970];
-    for i in 0..64 {
+    let mut h: u64 = 0;
+    for i in 0..within(count, 64) {
         let row = rows[i];
-        numbers[2 * i] = row.class as u64;
-        numbers[2 * i + 1] = row.total;
+        h = digest::with(digest::with(h, row.class as u64), row.total);
     }
-    digest::with_all(0, &numbers, 0, 2 * within(count, 64))
+    h
 }
 
-// `P`, `V`, `A` and `U`.
-fn look(record: Record, letter: u8, log: &[u32], first: u64) {
-    match letter {
-        b'P' => {
-            let mut number: u32 = 0;
-            let part = record.settled(log, &mut number);
-            tell(number, part.len() as u64);
-            print(part_digest(part));
-        }
-        b'V' => {
-            let line = (first % 4294967296) as u32;
-            let settled = both_frames::settled_frame(record, log, line);
-            let now = settled.edit;
-            tell(settled.number, stored(now));
-            let tentative = both_frames::tentative_frame(record, log, line);
-            let soon = tentative.edit;
-            tell(tentative.number, stored(soon));
-        }
-        b'A' => {
-            let lines = both_frames::all_lines(record, log);
-            let codes = lines.codes;
-            tell(lines.number, part_digest(&codes));
-        }
-        _ => print(record.sound(log) as u64),
+// Writes the bytes as words.
+fn widen(bytes: &[u8], words: &mut [u32]) {
+    for i in 0..within(bytes.len(), words.len()) {
+        words[i] = bytes[i] as u32;
     }
 }
 
-// `H`, `C` and `Q`: each reads the message.
-fn look_at(book: &Book, record: Record, letter: u8, log: &[u32], message: &[u8]) {
+// `H`, `C` and `Q`, which read the message, and `U`.
+fn look_at(record: Record, line: Line, log: &[u32], message: &[u8]) {
+    let letter = line.letter;
     match letter {
         b'H' => {
             let made = sheet::household_sheet(record, log, message);
@@ -99,60 +67,95 @@ fn look_at(book: &Book, record: Record, letter: u8, log: &[u32], message: &[u8])
         b'C' => {
             let made = archive::compare(record, log, message);
             let answers = made.answers;
-            tell(made.number, part_digest(&answers));
+            tell(made.number, digest::with_words(0, &answers));
         }
-        _ => {
+        b'Q' => {
             let mut lines = [0u32; 7100];
-            book::to_words(book, book::MESSAGE_BYTES, &mut lines);
-            let length = within(message.len(), book::BYTES);
-            let made = earlier::frame_at(record, log, book[SAID], &lines[..length]);
+            widen(message, &mut lines);
+            let length = within(message.len(), 7100);
+            let made = earlier::frame_at(record, log, line.first, &lines[..length]);
             let edits = made.edits;
             tell(made.number, made.words as u64);
-            print(part_digest(&edits));
+            print(digest::with_words(0, &edits));
         }
+        _ => print(record.sound(log) as u64),
     }
 }
 
-// `F`, `I` and `B`: each reads numbers of the line.
-fn begin(book: &Book, record: Record, letter: u8, log: &[u32]) -> Record {
-    let first = book[SAID];
-    let second = book[book::SECOND];
+// `P`, `V`, `A` and `B`.
+fn look(record: Record, line: Line, log: &[u32], message: &[u8]) {
+    let letter = line.letter;
     match letter {
-        b'F' => {
-            let founded = Record::found(
-                first as usize,
-                second as usize,
-                record::weights(book, book::THIRD),
-                log,
-            );
-            print(founded.number as u64);
-            founded.record
+        b'P' => {
+            let mut number: u32 = 0;
+            let part = record.settled(log, &mut number);
+            tell(number, part.len() as u64);
+            print(digest::with_words(0, part));
         }
-        b'I' => {
-            let issued = record.issue(
-                log,
-                (first % 4294967296) as u32,
-                (second % 4294967296) as u32,
-            );
-            print(issued.number as u64);
-            issued.record
+        b'V' => {
+            let place = (line.first % 4294967296) as u32;
+            let settled = both_frames::settled_frame(record, log, place);
+            let now = settled.edit;
+            tell(settled.number, stored(now));
+            let tentative = both_frames::tentative_frame(record, log, place);
+            let soon = tentative.edit;
+            tell(tentative.number, stored(soon));
         }
-        _ => {
-            let made = forecast::first_step(
-                record,
-                log,
-                record::weights(book, SAID),
-                record::weights(book, book::NINTH),
-            );
+        b'A' => {
+            let lines = both_frames::all_lines(record, log);
+            let codes = lines.codes;
+            tell(lines.number, digest::with_words(0, &codes));
+        }
+        b'B' => {
+            let lowest = weights(line, 1);
+            let highest = weights(line, 9);
+            let made = forecast::first_step(record, log, lowest, highest);
             let winner = made.winner;
             tell(made.number, named(winner));
-            record
         }
+        _ => look_at(record, line, log, message),
     }
 }
 
-// `E`, `D`, `T`, `S` and `W`: each writes the log or the output.
-fn change(record: Record, letter: u8, log: &mut [u32], bytes: &mut [u8]) -> Record {
+// `F`, `I`, `S` and `W`: none writes the log.
+fn make(record: Record, line: Line, log: &[u32], output: &mut [u8], message: &[u8]) -> Record {
+    let letter = line.letter;
+    match letter {
+        b'F' => {
+            let founding = weights(line, 3);
+            let founded = Record::found(line.first as usize, line.second as usize, founding, log);
+            print(founded.number as u64);
+            return founded.record;
+        }
+        b'I' => {
+            let place = (line.first % 4294967296) as u32;
+            let code = (line.second % 4294967296) as u32;
+            let issued = record.issue(log, place, code);
+            print(issued.number as u64);
+            return issued.record;
+        }
+        b'S' => {
+            let sent = record.send(log, output);
+            tell(sent.number, sent.length as u64);
+        }
+        b'W' => {
+            let written = archive::write(record, log, output);
+            tell(written.number, written.length as u64);
+        }
+        _ => look(record, line, log, message),
+    }
+    record
+}
+
+// `E`, `D` and `T`, which write the log, and all others.
+fn change(
+    record: Record,
+    line: Line,
+    log: &mut [u32],
+    output: &mut [u8],
+    message: &[u8],
+) -> Record {
+    let letter = line.letter;
     match letter {
         b'E' => {
             let elected = record.elect(log);
@@ -165,69 +168,31 @@ fn change(record: Record, letter: u8, log: &mut [u32], bytes: &mut [u8]) -> Reco
             folded.record
         }
         b'T' => {
-            let taken = record.take(log, bytes);
+            let taken = record.take(log, message);
             tell(taken.number, taken.places as u64);
             taken.record
         }
-        b'S' => {
-            let sent = record.send(log, bytes);
-            tell(sent.number, sent.length as u64);
-            record
-        }
-        _ => {
-            let written = archive::write(record, log, bytes);
-            tell(written.number, written.length as u64);
-            record
-        }
+        _ => make(record, line, log, output, message),
     }
-}
-
-// Makes the call that the letter names, prints what it answers, and answers the record that it leaves.
-fn make(book: &Book, letter: u8, log: &mut [u32], bytes: &mut [u8]) -> Record {
-    let record = record::of(book);
-    match letter {
-        b'F' | b'I' | b'B' => begin(book, record, letter, log),
-        b'E' | b'D' | b'T' | b'S' | b'W' => change(record, letter, log, bytes),
-        b'H' | b'C' | b'Q' => {
-            look_at(book, record, letter, log, bytes);
-            record
-        }
-        _ => {
-            look(record, letter, log, book[SAID]);
-            record
-        }
-    }
-}
-
-// The buffer that a call is lent beside the log.
-fn buffer(letter: u8) -> usize
-    ensures { λ r. ⌜ r ≤ 8638 ⌝ }
-{
-    match letter {
-        b'S' | b'W' => book::OUTPUT,
-        _ => book::MESSAGE,
-    }
-}
-
-// Makes the call with exactly as much of the log and of a buffer as there is, and keeps the record and what it wrote to the buffer.
-fn lend(book: &mut Book, letter: u8, log: &mut [u32]) {
-    let at = buffer(letter);
-    let mut bytes = [0u8; 7100];
-    book::to_bytes(book, at + 1, &mut bytes);
-    let words = within(book[book::LOG] as usize, log.len());
-    let length = within(book[at] as usize, book::BYTES);
-    let next = make(book, letter, &mut log[..words], &mut bytes[..length]);
-    book::from_bytes(&bytes, book, at + 1);
-    record::keep(next, book);
 }
 
 // Makes the call, and prints its line.
-pub fn call(book: &mut Book, letter: u8) {
-    let mut log = [0u32; 1100];
-    book::to_words(book, book::LOG_WORDS, &mut log);
+pub fn call(trial: Trial, line: Line, log: &mut [u32], output: &mut [u8], message: &[u8]) -> Trial {
+    let words = within(trial.words, log.len());
+    let room = within(trial.output, output.len());
+    let size = within(trial.message, message.len());
+    let letter = line.letter;
     io::write_all(1, &[letter]);
-    lend(book, letter, &mut log);
-    book::from_words(&log, book, book::LOG_WORDS);
-    print(digest::of(book));
+    let mut next = trial;
+    next.record = change(
+        trial.record,
+        line,
+        &mut log[..words],
+        &mut output[..room],
+        &message[..size],
+    );
+    let h = digest::with(digest::of_record(next.record), words as u64);
+    print(digest::with_bytes(digest::with_words(h, &log[..words]), &output[..room]));
     io::write_all(1, b"\n");
+    next
 }
