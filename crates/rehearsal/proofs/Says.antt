@@ -1,6 +1,7 @@
 -- What a line says, put together from what the calls promise.
 --     say-short      an answer takes at most 65 bytes
 --     says-as      a line and its answer
+--     turn-lent      an office's turn, on the piece of all logs that is lent
 --     answer-by, say-found, say-turn, say-nobody      the answer by the line's addressee
 -- Assumes nothing.
 use mathlib.Core.Path.{_≡_}
@@ -22,7 +23,7 @@ use Rattle.rehearsal_offices.specs.declared.founding.Reply.{Reply}
 use Rattle.rehearsal_offices.specs.Addressees.{addresseeOf}
 use Rattle.rehearsal_offices.specs.World.{World}
 use Rattle.rehearsal_offices.specs.Founding.{foundOffices}
-use Rattle.rehearsal.specs.Lines.{Answered, answeredBy, turned, recordAt, answerTo, answerLine, sayLine}
+use Rattle.rehearsal.specs.Lines.{Answered, answeredBy, turned, recordAt, officeTurn, answerTo, answerLine, sayLine}
 
 pub say-short : (w : World) (bytes : List ℕ) → length (sayLine w bytes .printed) ≤ 65
 unfolding sayLine answerLine
@@ -42,6 +43,14 @@ lentAnswer w k size t words slots =
       answer = t .answer;
     }
 
+-- the office's log is lent from k * 1024 on for `size` words
+pub turn-lent : (w : World) (k : ℕ) (c : Command) (size : ℕ) (t : Turn) (words slots : List ℕ) → size ≡ 1024 →
+    t ≡ turnAt (recordAt (w .offices) k) (w .offices .lengths) (take size (drop (k * 1024) (w .logs))) (w .slots) c →
+    words ≡ turnWords (recordAt (w .offices) k) (w .offices .lengths) (take size (drop (k * 1024) (w .logs))) (w .slots) c →
+    slots ≡ turnSlots (recordAt (w .offices) k) (take size (drop (k * 1024) (w .logs))) (w .slots) c → lentAnswer w k size t words slots ≡ officeTurn w k c
+unfolding officeTurn
+turn-lent w k c size t words slots es et ew el = rw (et, ew, el, es)
+
 -- a line and its answer
 pub says-as : (w : World) (bytes : List ℕ) (line : Line) → line ≡ lineOf bytes → (x : Answered) → x ≡ answerLine w line → sayLine w bytes ≡ record { world = x .world; printed = printedOf (x .answer) }
 unfolding sayLine
@@ -57,13 +66,9 @@ module _ (w : World) (ws : List ℕ) (a : Addressee) where
   unfolding answerTo
   say-found n f e ef = rw (ef, e)
 
-  -- the office's log is lent from k * 1024 on for `size` words
-  pub say-turn : (k : ℕ) (c : Command) (size : ℕ) (t : Turn) (words slots : List ℕ) → a ≡ One k c → size ≡ 1024 →
-      t ≡ turnAt (recordAt (w .offices) k) (w .offices .lengths) (take size (drop (k * 1024) (w .logs))) (w .slots) c →
-      words ≡ turnWords (recordAt (w .offices) k) (w .offices .lengths) (take size (drop (k * 1024) (w .logs))) (w .slots) c →
-      slots ≡ turnSlots (recordAt (w .offices) k) (take size (drop (k * 1024) (w .logs))) (w .slots) c → lentAnswer w k size t words slots ≡ answerTo w ws a
+  pub say-turn : (k : ℕ) (c : Command) (x : Answered) → a ≡ One k c → x ≡ officeTurn w k c → x ≡ answerTo w ws a
   unfolding answerTo
-  say-turn k c size t words slots e es et ew el = rw (et, ew, el, es, e)
+  say-turn k c x e ex = rw (ex, e)
 
   pub say-nobody : (x : Answer) → a ≡ Nobody → x ≡ question → record { world = w; answer = x } ≡ answerTo w ws a
   unfolding answerTo

@@ -3,6 +3,7 @@ use Prim.Native.Nat.{ℕ}
 use mathlib.Core.List.{List}
 use lib.ListN.{getD, set}
 use Rattle.rehearsal_lines.specs.Feeding.{Said, Fed, feedBy, finishBy}
+use Rattle.rehearsal_commands.specs.declared.Command.{Command}
 use Rattle.rehearsal_commands.specs.declared.Line.{Line}
 use Rattle.rehearsal_commands.specs.Command.{lineOf}
 use Rattle.rehearsal_answers.specs.declared.Answer.{Answer}
@@ -45,12 +46,17 @@ turned s k t = record { count = s .count; records = set (s .records) k (t .recor
 abbrev pub turnAnswer : World → ℕ → Turn → List ℕ → List ℕ → Answered
 turnAnswer w k t words slots = answeredBy (record { offices = turned (w .offices) k t; answer = t .answer }) (withPiece 1024 (w .logs) k words) slots
 
-unfoldable pub answerTo : World → List ℕ → Addressee → Answered
-answerTo w ws (All n) = answeredBy (foundOffices (w .offices) n ws (w .logs)) (w .logs) (w .slots)
-answerTo w ws (One k c) =
+-- the turn of office k by a command
+unfoldable pub officeTurn : World → ℕ → Command → Answered
+officeTurn w k c =
     turnAnswer w k (turnAt (recordAt (w .offices) k) (w .offices .lengths) (logOf (w .logs) k) (w .slots) c)
     (turnWords (recordAt (w .offices) k) (w .offices .lengths) (logOf (w .logs) k) (w .slots) c)
     (turnSlots (recordAt (w .offices) k) (logOf (w .logs) k) (w .slots) c)
+
+-- by the line's addressee: a founding, an office's turn, or a question mark
+unfoldable pub answerTo : World → List ℕ → Addressee → Answered
+answerTo w ws (All n) = answeredBy (foundOffices (w .offices) n ws (w .logs)) (w .logs) (w .slots)
+answerTo w ws (One k c) = officeTurn w k c
 answerTo w ws Nobody = record { world = w; answer = question }
 
 unfoldable pub answerLine : World → Line → Answered

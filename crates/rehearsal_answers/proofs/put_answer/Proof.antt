@@ -6,8 +6,8 @@ use mathlib.Core.Path.{_≡_, _∙_}
 use Prim.Native.Nat.{_+_, _<_, _≤_}
 use lib.ListN.{length, length-set}
 use Rattle.rehearsal_answers.proofs.Printing.{item-short, print-whole}
-use Rattle.rehearsal_answers.proofs.print.Statement.{statement}
-use Rattle.rehearsal_answers.proofs.print.Tie as tie
+use Rattle.rehearsal_answers.proofs.put_answer.Statement.{statement}
+use Rattle.rehearsal_answers.proofs.put_answer.Tie as tie
 
 abbrev start : tie.After-put-item → tie.Start
 start c = c .before .before .before
@@ -52,8 +52,8 @@ returns c =
     (a .out .now) (p₁ .put-item .last .0) (p₂ .put-item2 .last .0) (p₃ .put-item3 .last .0)
     (p₁ .put-item .ensures .0) (p₁ .put-item .ensures .1) (p₂ .put-item2 .ensures .0) (p₂ .put-item2 .ensures .1) (p₃ .put-item3 .ensures .0) (p₃ .put-item3 .ensures .1)
 
-pub print-spec : {M : Type 1} → statement M
-print-spec =
+pub put-answer-spec : {M : Type 1} → statement M
+put-answer-spec =
     tie.close (tie.spec (λ c. search needs) (λ c. search needs) (λ c κs. simp length-set (omega arith)) (λ c κs. room-one (c .before .before .before))
     (λ c κs. room-two (c .before .before .before)) (λ c. room-three (c .before .before))
     (λ c. let p = c .before .before in omega (arith, three p, start (first (second p)) .good .0 .0))

@@ -24,10 +24,7 @@ feed-all-requires c κs =
     let a = used .before .before .args in
     let h : length (a .chunk .now) ≡ 8192 = search needs in
     let s : used .within .result ≤ 8192 = rw (used .within .ensures) (min-le-right (a .used) 8192) in
-    let l : length (a .logs .now) ≡ 8192 = search needs in
-    let m : length (a .slots .now) ≡ 28184 = search needs in
-    let o : length (a .out .now) ≡ 532480 = search needs in
-    (l, m, omega (arith, length-take (used .within .result) (a .chunk .now)))
+    omega (arith, length-take (used .within .result) (a .chunk .now))
 
 returns : tie.Need-returns
 returns c =

@@ -1,25 +1,23 @@
 -- Each turn answers one line, and the invariant is that what is left, fed from here on, gives what the whole chunk gives.
 use borrow.Author.Needs.{needs}
-use mathlib.Core.Path.{_≡_, sym, ap, _∙_}
-use mathlib.Core.List.{List, _++_}
+use mathlib.Core.Path.{_≡_, ap, _∙_}
+use mathlib.Core.List.{_++_}
 use native.Mathlib.Omega.{arith}
-use Prim.Native.Nat.{ℕ, _+_, _-_, _*_, _<_, _≤_}
+use Prim.Native.Nat.{_+_, _-_, _<_, _≤_}
 use lib.ListN.{length, take, drop, length-take}
 use Rattle.decimal.proofs.Ends.{part-within}
 use Rattle.rehearsal_lines.specs.Held.{lineHeld}
 use Rattle.rehearsal_lines.proofs.Holding.{line-held}
-use Rattle.rehearsal_lines.proofs.Feeding.{feed-begins, feed-ends}
+use Rattle.rehearsal_lines.proofs.Feeding.{FeedRest, feed-begins, feed-ends}
 use Rattle.rehearsal_commands.specs.Command.{lineOf}
-use Rattle.rehearsal_offices.specs.declared.Offices.{Offices}
-use Rattle.rehearsal_offices.specs.World.{World}
 use Rattle.rehearsal.specs.Lines.{worldAt, sayLine}
-use Rattle.rehearsal.proofs.Feeds.{FeedsRest, LineRead, feeds-next, feed-answers}
+use Rattle.rehearsal.proofs.Feeds.{LineRead, feeds-next, feed-answers}
 use Rattle.rehearsal.proofs.feeding.feed_all.Statement.{statement}
 use Rattle.rehearsal.proofs.feeding.feed_all.Tie as tie
 
 abbrev Inv-loop : tie.InvT-loop
 Inv-loop logs₀ slots₀ chunk out₀ offices₀ held₀ at₀ printed₀ logs slots out offices held at printed =
-    FeedsRest (worldAt offices₀ logs₀ slots₀) (lineHeld held₀) chunk out₀ (worldAt offices logs slots) (lineHeld held) out at printed
+    FeedRest sayLine (worldAt offices₀ logs₀ slots₀) (lineHeld held₀) chunk out₀ (worldAt offices logs slots) (lineHeld held) out at printed
 
 abbrev μ-loop : tie.MeasureT-loop
 μ-loop logs₀ slots₀ chunk out₀ offices₀ held₀ at₀ printed₀ logs slots out offices held at printed = length chunk - at
@@ -27,7 +25,7 @@ abbrev μ-loop : tie.MeasureT-loop
 -- places of the code: the function's entry, seen from the loop; the loop, seen from where the line ends inside the chunk and from where its
 -- addressee is known
 abbrev entryOf : tie.At-loop Inv-loop μ-loop → tie.Start Inv-loop μ-loop
-entryOf c = c .before .before .before .before .before .before .before
+entryOf c = c .before .before .before .before
 
 abbrev loopOf : tie.Else1 Inv-loop μ-loop → tie.At-loop Inv-loop μ-loop
 loopOf c = c .before .before .before .before
@@ -36,11 +34,11 @@ abbrev insideOf : tie.After-none Inv-loop μ-loop → tie.Else1 Inv-loop μ-loop
 insideOf c = c .before .before
 
 -- each byte of the chunk has room for an answer
-room : (c : tie.Else1 Inv-loop μ-loop) → loopOf c .loop .printed + 65 ≤ length (loopOf c .loop .out)
-room c =
+room : (c : tie.Else1 Inv-loop μ-loop) → length (loopOf c .loop .out) ≡ 532480 → loopOf c .loop .printed + 65 ≤ length (loopOf c .loop .out)
+room c full =
     let l = loopOf c in
     let end = c .before .before .before in
-    omega (arith, l .loop .inv .rest .room, l .loop .inv .rest .left .long, entryOf l .pre .2, end .part-end .ensures, c .if1 .left)
+    omega (arith, l .loop .inv .room, entryOf l .pre, full, end .part-end .ensures, c .if1 .left)
 
 -- the next line begins further on
 less : (c : tie.Else1 Inv-loop μ-loop) → let s = entryOf (loopOf c) .args .chunk .now in length s - (c .before .before .before .part-end .result + 1) < length s - loopOf c .loop .at
@@ -66,22 +64,12 @@ said c =
 
 loop-holds : tie.Need-loop-holds Inv-loop μ-loop
 loop-holds c =
-    let start = c .before .before .before .before .before .before in
+    let start = c .before .before .before in
     let h : length (start .args .r .held .bytes) ≡ 129 = search needs in
-    record {
-      rest = feed-begins sayLine _ (lineHeld (start .args .r .held)) (start .args .chunk .now) (start .args .out .now) (rw length-take (omega arith));
-      logs = start .pre .0;
-      slots = start .pre .1;
-    }
+    feed-begins sayLine _ (lineHeld (start .args .r .held)) (start .args .chunk .now) (start .args .out .now) (rw length-take (omega arith))
 
 part-with-end : tie.Need-part-with-end Inv-loop μ-loop
-part-with-end c = let l = c .before in omega (arith, c .part-end .ensures, part-within 10 (entryOf l .args .chunk .now) (l .loop .at) (l .loop .inv .rest .within))
-
-same-length : tie.Need-same-length Inv-loop μ-loop
-same-length c = let l = c .before .before .before .before in l .loop .inv .logs ∙ sym (entryOf l .pre .0)
-
-same-length-2 : tie.Need-same-length-2 Inv-loop μ-loop
-same-length-2 c = let l = c .before .before .before .before in l .loop .inv .slots ∙ sym (entryOf l .pre .1)
+part-with-end c = let l = c .before in omega (arith, c .part-end .ensures, part-within 10 (entryOf l .args .chunk .now) (l .loop .at) (l .loop .inv .within))
 
 returns : tie.Need-returns Inv-loop μ-loop
 returns c =
@@ -89,37 +77,27 @@ returns c =
     let l = loop .loop in
     let a = entryOf loop .args in
     let end = c .before .before .before .part-end in
-    let x = feed-ends sayLine (worldAt (a .r .offices) (a .logs .now) (a .slots .now)) (lineHeld (a .r .held)) (a .chunk .now) (a .out .now) (worldAt (l .offices) (l .logs) (l .slots)) (lineHeld (l .held)) (l .out) (l .at) (l .printed) (l .inv .rest) (end .result) (end .ensures) (c .if1 .taken) (omega (arith, end .ensures, part-within 10 (a .chunk .now) (l .at) (l .inv .rest .within))) in
+    let x = feed-ends sayLine (worldAt (a .r .offices) (a .logs .now) (a .slots .now)) (lineHeld (a .r .held)) (a .chunk .now) (a .out .now) (worldAt (l .offices) (l .logs) (l .slots)) (lineHeld (l .held)) (l .out) (l .at) (l .printed) (l .inv) (end .result) (end .ensures) (c .if1 .taken) (omega (arith, end .ensures, part-within 10 (a .chunk .now) (l .at) (l .inv .within))) in
     feed-answers _ _ (worldAt (l .offices) (l .logs) (l .slots)) (lineHeld (l .held) ++ take (end .result - l .at) (drop (l .at) (a .chunk .now))) _ _ _ x (c .before .with .ensures)
-
--- the line is answered on the lent buffers
-answer-line-requires : tie.Need-answer-line-requires Inv-loop μ-loop
-answer-line-requires c κs = let l = loopOf (insideOf (c .before .before)) .loop in (l .inv .logs, l .inv .slots)
 
 -- what was said, seen from where the line is answered
 abbrev saidOf : tie.After-answer-line Inv-loop μ-loop → tie.After-none Inv-loop μ-loop
 saidOf c = c .before .before .before
 
-print-requires : tie.Need-print-requires Inv-loop μ-loop
-print-requires c κs = room (insideOf (saidOf (c .before .before .before .before .before .before .before)))
-
 loop-less : tie.Need-loop-less Inv-loop μ-loop
 loop-less c =
-    let print = c .before .before in
-    let answered = print .before .before .before .before .before .before .before .before in
+    let answered = c .before .before .before .before in
     less (insideOf (saidOf answered))
 
 loop-again : tie.Need-loop-again Inv-loop μ-loop
 loop-again c =
-    let print = c .before .before in
-    let answered = print .before .before .before .before .before .before .before .before in
-    let l = loopOf (insideOf (saidOf answered)) .loop in
-    let p = print .print .ensures in
-    let x = answered .answer-line in
-    feeds-next (said (saidOf answered)) _ (x .ensures) _ _ (p .0) (p .1) (x .kept .1 .1 .0 ∙ l .inv .logs) (x .kept .1 .1 .1 .0 ∙ l .inv .slots)
+    let answered = c .before .before .before .before in
+    let p = c .print .ensures in
+    let full : length (loopOf (insideOf (saidOf answered)) .loop .out) ≡ 532480 = search needs in
+    feeds-next (said (saidOf answered)) _ (answered .answer-line .ensures) _ _ (room (insideOf (saidOf answered)) full) (p .0) (p .1)
 
 pub feed-all-spec : {M : Type 1} → statement M
 feed-all-spec =
     tie.close (tie.spec Inv-loop μ-loop loop-holds (λ c κs. search needs) (λ c. omega (arith, c .part-end .ensures)) (λ c. search needs) part-with-end
-    (λ c κs. search needs) same-length same-length-2 (λ c. c .before .before .before .before .loop .inv .rest .left .long) returns
-    (λ c κs. search needs) (λ c κs. search needs) (λ c. omega arith) answer-line-requires print-requires loop-less loop-again)
+    (λ c κs. search needs) returns (λ c κs. search needs) (λ c κs. search needs) (λ c. omega arith) (λ c κs. search needs) (λ c κs. search needs)
+    loop-less loop-again)
