@@ -3,11 +3,12 @@
 use libc::STDIN_FILENO;
 use libc::STDOUT_FILENO;
 use lists::within;
+use table_lines::OUTPUT;
 
 // Writes the output's first bytes. No more are printed than it has (`answer-short`), so `within` takes none away.
-fn show(out: &[u8; 61536], count: usize) {
+fn show(out: &[u8; OUTPUT], count: usize) {
     let all: &[u8] = out;
-    let size = within(count, 61536);
+    let size = within(count, OUTPUT);
     io::write_all(STDOUT_FILENO, &all[..size]);
 }
 
@@ -16,7 +17,7 @@ fn show(out: &[u8; 61536], count: usize) {
 fn main() {
     let mut input = [0u8; 19];
     let used = io::read_full(STDIN_FILENO, &mut input);
-    let mut out = [0u8; 61536];
+    let mut out = [0u8; OUTPUT];
     let count = table_lines::answer(&input[..used], &mut out);
     show(&out, count);
 }

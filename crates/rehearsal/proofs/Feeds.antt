@@ -1,5 +1,5 @@
 -- Feeding the rehearsal.
---     FeedsRest, Addressed, feeds-next      the loop over the lines of a chunk; beside the generic invariant it keeps the lengths of the lent buffers
+--     LineRead, feeds-next      the loop over the lines of a chunk
 --     feed-answers, finish-answers      what the calls answer
 --     feeds-short, finishes-short      how much they print
 -- Assumes nothing.
@@ -19,47 +19,39 @@ use Rattle.rehearsal_lines.proofs.Holding.{line-held, held-again}
 use Rattle.rehearsal_lines.proofs.Feeding.{FeedRest, FedTo, feed-next, feed-short, finish-none}
 use Rattle.rehearsal_commands.specs.declared.Line.{Line}
 use Rattle.rehearsal_commands.specs.Command.{lineOf}
-use Rattle.rehearsal_answers.specs.Answer.{printedOf}
-use Rattle.rehearsal_offices.specs.declared.addressees.Addressee.{Addressee}
-use Rattle.rehearsal_offices.specs.Addressees.{addresseeOf}
+use Rattle.rehearsal_answers.specs.Answer.{printedOf, printedIn}
+use Rattle.rehearsal_answers.proofs.Printing.{printed-room}
 use Rattle.rehearsal_offices.specs.World.{World}
 use Rattle.rehearsal_offices.specs.declared.Offices.{Offices}
 use Rattle.rehearsal.specs.declared.Rehearsal.{Rehearsal}
-use Rattle.rehearsal.specs.Lines.{Answered, answerTo, sayLine, finishOf}
+use Rattle.rehearsal.specs.Lines.{Answered, answerLine, sayLine, finishOf}
 use Rattle.rehearsal.specs.Feeding.{worldOf, feeds, finishes, FedAs}
 use Rattle.rehearsal.proofs.Says.{say-short, says-as}
 
-pub record FeedsRest (w₀ : World) (h₀ s out₀ : List ℕ) (w : World) (h out : List ℕ) (at printed : ℕ) : Type 0 where
-  pub rest : FeedRest sayLine w₀ h₀ s out₀ w h out at printed
-  pub logs : length (w .logs) ≡ 8192
-  pub slots : length (w .slots) ≡ 28184
-
--- the line that ends at `end`: what it says, and whom it is for
-pub record Addressed (w₀ : World) (h₀ s out₀ : List ℕ) (w : World) (h out : List ℕ) (at printed end : ℕ) (h′ : List ℕ) (line : Line) (a : Addressee) : Type 0 where
-  pub inv : FeedsRest w₀ h₀ s out₀ w h out at printed
+-- the line that ends at `end`, and what it says
+pub record LineRead (w₀ : World) (h₀ s out₀ : List ℕ) (w : World) (h out : List ℕ) (at printed end : ℕ) (h′ : List ℕ) (line : Line) : Type 0 where
+  pub inv : FeedRest sayLine w₀ h₀ s out₀ w h out at printed
   pub there : end ≡ at + partLength 10 (drop at s)
   pub inside : end < length s
   pub empty : h′ ≡ []
   pub read : line ≡ lineOf (cut (h ++ take (end - at) (drop at s)))
-  pub whom : a ≡ addresseeOf (w .offices .count) (line .parsed)
 
 -- and its answer x
-module _ {w₀ : World} {h₀ s out₀ : List ℕ} {w : World} {h out : List ℕ} {at printed end : ℕ} {h′ : List ℕ} {line : Line} {a : Addressee} (A : Addressed w₀ h₀ s out₀ w h out at printed end h′ line a) (x : Answered) (e : x ≡ answerTo w (line .weights) a) where
+module _ {w₀ : World} {h₀ s out₀ : List ℕ} {w : World} {h out : List ℕ} {at printed end : ℕ} {h′ : List ℕ} {line : Line} (A : LineRead w₀ h₀ s out₀ w h out at printed end h′ line) (x : Answered) (e : x ≡ answerLine w line) where
   says : sayLine w (cut (h ++ take (end - at) (drop at s))) ≡ record { world = x .world; printed = printedOf (x .answer) }
-  says = says-as w _ line a (A .read) (A .whom) x e
+  says = says-as w _ line (A .read) x e
 
   printed-by : sayLine w (cut (h ++ take (end - at) (drop at s))) .printed ≡ printedOf (x .answer)
   printed-by = ap (λ (f : Said World). f .printed) says
 
-  pub feeds-next : (out′ : List ℕ) (printed′ : ℕ) → printed′ ≡ printed + length (printedOf (x .answer)) → out′ ≡ sets out printed (printedOf (x .answer)) → length (x .world .logs) ≡ 8192 → length (x .world .slots) ≡ 28184
-      → FeedsRest w₀ h₀ s out₀ (x .world) h′ out′ (end + 1) printed′
-  feeds-next out′ printed′ ep eo lg sl = record {
-    rest =
-        rw (A .empty)
-        (feed-next sayLine w₀ h₀ s out₀ w h out at printed (A .inv .rest) end (A .there) (x .world) out′ printed′ (A .inside) (sym (ap (λ (f : Said World). f .world) says)) (ep ∙ ap (λ (b : List ℕ). printed + length b) (sym printed-by)) (eo ∙ ap (λ (b : List ℕ). sets out printed b) (sym printed-by)) (say-short w (cut (h ++ take (end - at) (drop at s)))));
-    logs = lg;
-    slots = sl;
-  }
+  -- there is room for it, so that all of it is printed
+  pub feeds-next : (out′ : List ℕ) (printed′ : ℕ) → printed + 65 ≤ length out → printed′ ≡ printed + length (printedIn (length out) printed (x .answer))
+      → out′ ≡ sets out printed (printedIn (length out) printed (x .answer)) → FeedRest sayLine w₀ h₀ s out₀ (x .world) h′ out′ (end + 1) printed′
+  feeds-next out′ printed′ room ep eo =
+      let all : printedIn (length out) printed (x .answer) ≡ sayLine w (cut (h ++ take (end - at) (drop at s))) .printed = printed-room (length out) printed (x .answer) room ∙ sym printed-by in
+      rw (A .empty)
+      (feed-next sayLine w₀ h₀ s out₀ w h out at printed (A .inv) end (A .there) (x .world) out′ printed′ (A .inside) (sym (ap (λ (f : Said World). f .world) says))
+      (ep ∙ ap (λ (b : List ℕ). printed + length b) all) (eo ∙ ap (λ (b : List ℕ). sets out printed b) all) (say-short w (cut (h ++ take (end - at) (drop at s)))))
 
 -- at the end of the chunk, with the line that is left
 pub feed-answers : (f : Fed World) (out₀ : List ℕ) (w : World) (line out : List ℕ) (count : ℕ) (held : Held) → FedTo f out₀ w (cut line) out count → held ≡ heldOf line

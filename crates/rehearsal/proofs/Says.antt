@@ -1,6 +1,8 @@
 -- What a line says, put together from what the calls promise.
 --     say-short      an answer takes at most 65 bytes
---     says-as, say-found, say-turn, say-nobody      a line by its addressee
+--     says-as      a line and its answer
+--     turn-lent      an office's turn, on the piece of all logs that is lent
+--     answer-by, say-found, say-turn, say-nobody      the answer by the line's addressee
 -- Assumes nothing.
 use mathlib.Core.Path.{_≡_}
 use mathlib.Core.List.{List, _++_}
@@ -17,11 +19,11 @@ use Rattle.rehearsal_turns.specs.Answers.{question}
 use Rattle.rehearsal_turns.specs.Turns.{turnAt, turnWords, turnSlots}
 use Rattle.rehearsal_offices.specs.declared.addressees.Addressee.{Addressee}
 use Rattle.rehearsal_offices.specs.declared.addressees.Addressee.the-variants.{All, One, Nobody}
-use Rattle.rehearsal_offices.specs.declared.founding.Founding.{Founding}
+use Rattle.rehearsal_offices.specs.declared.founding.Reply.{Reply}
 use Rattle.rehearsal_offices.specs.Addressees.{addresseeOf}
 use Rattle.rehearsal_offices.specs.World.{World}
 use Rattle.rehearsal_offices.specs.Founding.{foundOffices}
-use Rattle.rehearsal.specs.Lines.{Answered, foundAnswer, turned, recordAt, answerTo, answerLine, sayLine}
+use Rattle.rehearsal.specs.Lines.{Answered, answeredBy, turned, recordAt, officeTurn, answerTo, answerLine, sayLine}
 
 pub say-short : (w : World) (bytes : List ℕ) → length (sayLine w bytes .printed) ≤ 65
 unfolding sayLine answerLine
@@ -41,24 +43,32 @@ lentAnswer w k size t words slots =
       answer = t .answer;
     }
 
--- a line by its addressee
-pub says-as : (w : World) (bytes : List ℕ) (line : Line) (a : Addressee) → line ≡ lineOf bytes → a ≡ addresseeOf (w .offices .count) (line .parsed) → (x : Answered) → x ≡ answerTo w (line .weights) a
-    → sayLine w bytes ≡ record { world = x .world; printed = printedOf (x .answer) }
-unfolding sayLine answerLine
-says-as w bytes line a el ea x e = rw (e, ea, el)
+-- the office's log is lent from k * 1024 on for `size` words
+pub turn-lent : (w : World) (k : ℕ) (c : Command) (size : ℕ) (t : Turn) (words slots : List ℕ) → size ≡ 1024 →
+    t ≡ turnAt (recordAt (w .offices) k) (w .offices .lengths) (take size (drop (k * 1024) (w .logs))) (w .slots) c →
+    words ≡ turnWords (recordAt (w .offices) k) (w .offices .lengths) (take size (drop (k * 1024) (w .logs))) (w .slots) c →
+    slots ≡ turnSlots (recordAt (w .offices) k) (take size (drop (k * 1024) (w .logs))) (w .slots) c → lentAnswer w k size t words slots ≡ officeTurn w k c
+unfolding officeTurn
+turn-lent w k c size t words slots es et ew el = rw (et, ew, el, es)
+
+-- a line and its answer
+pub says-as : (w : World) (bytes : List ℕ) (line : Line) → line ≡ lineOf bytes → (x : Answered) → x ≡ answerLine w line → sayLine w bytes ≡ record { world = x .world; printed = printedOf (x .answer) }
+unfolding sayLine
+says-as w bytes line el x e = rw (e, el)
+
+-- the answer by the line's addressee
+pub answer-by : (w : World) (line : Line) (a : Addressee) → a ≡ addresseeOf (w .offices .count) (line .parsed) → answerTo w (line .weights) a ≡ answerLine w line
+unfolding answerLine
+answer-by w line a e = rw e
 
 module _ (w : World) (ws : List ℕ) (a : Addressee) where
-  pub say-found : (n : ℕ) (f : Founding) → a ≡ All n → f ≡ foundOffices (w .offices) n ws (w .logs) → foundAnswer w f ≡ answerTo w ws a
+  pub say-found : (n : ℕ) (f : Reply) → a ≡ All n → f ≡ foundOffices (w .offices) n ws (w .logs) → answeredBy f (w .logs) (w .slots) ≡ answerTo w ws a
   unfolding answerTo
   say-found n f e ef = rw (ef, e)
 
-  -- the office's log is lent from k * 1024 on for `size` words
-  pub say-turn : (k : ℕ) (c : Command) (size : ℕ) (t : Turn) (words slots : List ℕ) → a ≡ One k c → size ≡ 1024 →
-      t ≡ turnAt (recordAt (w .offices) k) (w .offices .lengths) (take size (drop (k * 1024) (w .logs))) (w .slots) c →
-      words ≡ turnWords (recordAt (w .offices) k) (w .offices .lengths) (take size (drop (k * 1024) (w .logs))) (w .slots) c →
-      slots ≡ turnSlots (recordAt (w .offices) k) (take size (drop (k * 1024) (w .logs))) (w .slots) c → lentAnswer w k size t words slots ≡ answerTo w ws a
+  pub say-turn : (k : ℕ) (c : Command) (x : Answered) → a ≡ One k c → x ≡ officeTurn w k c → x ≡ answerTo w ws a
   unfolding answerTo
-  say-turn k c size t words slots e es et ew el = rw (et, ew, el, es, e)
+  say-turn k c x e ex = rw (ex, e)
 
   pub say-nobody : (x : Answer) → a ≡ Nobody → x ≡ question → record { world = w; answer = x } ≡ answerTo w ws a
   unfolding answerTo

@@ -3,6 +3,7 @@ use Prim.Native.Nat.{ℕ}
 use mathlib.Core.List.{List}
 use lib.ListN.{getD, set}
 use Rattle.rehearsal_lines.specs.Feeding.{Said, Fed, feedBy, finishBy}
+use Rattle.rehearsal_commands.specs.declared.Command.{Command}
 use Rattle.rehearsal_commands.specs.declared.Line.{Line}
 use Rattle.rehearsal_commands.specs.Command.{lineOf}
 use Rattle.rehearsal_answers.specs.declared.Answer.{Answer}
@@ -16,7 +17,7 @@ use Rattle.rehearsal_turns.specs.Turns.{turnAt, turnWords, turnSlots}
 use Rattle.rehearsal_offices.specs.declared.Offices.{Offices}
 use Rattle.rehearsal_offices.specs.declared.addressees.Addressee.{Addressee}
 use Rattle.rehearsal_offices.specs.declared.addressees.Addressee.the-variants.{All, One, Nobody}
-use Rattle.rehearsal_offices.specs.declared.founding.Founding.{Founding}
+use Rattle.rehearsal_offices.specs.declared.founding.Reply.{Reply}
 use Rattle.rehearsal_offices.specs.World.{World, logOf}
 use Rattle.rehearsal_offices.specs.Founding.{foundOffices}
 use Rattle.rehearsal_offices.specs.Addressees.{addresseeOf}
@@ -26,8 +27,12 @@ pub record Answered : Type 0 where
   pub world : World
   pub answer : Answer
 
-abbrev pub foundAnswer : World → Founding → Answered
-foundAnswer w f = record { world = record { offices = f .offices; logs = w .logs; slots = w .slots }; answer = f .answer }
+-- the world of these offices, and what a reply leaves, with these logs and slots
+abbrev pub worldAt : Offices → List ℕ → List ℕ → World
+worldAt offices logs slots = record { offices = offices; logs = logs; slots = slots }
+
+abbrev pub answeredBy : Reply → List ℕ → List ℕ → Answered
+answeredBy r logs slots = record { world = worldAt (r .offices) logs slots; answer = r .answer }
 
 -- the record of office k
 abbrev pub recordAt : Offices → ℕ → Record
@@ -39,15 +44,19 @@ turned s k t = record { count = s .count; records = set (s .records) k (t .recor
 
 -- an office's turn changes its record, its log and the slots
 abbrev pub turnAnswer : World → ℕ → Turn → List ℕ → List ℕ → Answered
-turnAnswer w k t words slots =
-    record { world = record { offices = turned (w .offices) k t; logs = withPiece 1024 (w .logs) k words; slots = slots }; answer = t .answer }
+turnAnswer w k t words slots = answeredBy (record { offices = turned (w .offices) k t; answer = t .answer }) (withPiece 1024 (w .logs) k words) slots
 
-unfoldable pub answerTo : World → List ℕ → Addressee → Answered
-answerTo w ws (All n) = foundAnswer w (foundOffices (w .offices) n ws (w .logs))
-answerTo w ws (One k c) =
+-- the turn of office k by a command
+unfoldable pub officeTurn : World → ℕ → Command → Answered
+officeTurn w k c =
     turnAnswer w k (turnAt (recordAt (w .offices) k) (w .offices .lengths) (logOf (w .logs) k) (w .slots) c)
     (turnWords (recordAt (w .offices) k) (w .offices .lengths) (logOf (w .logs) k) (w .slots) c)
     (turnSlots (recordAt (w .offices) k) (logOf (w .logs) k) (w .slots) c)
+
+-- by the line's addressee: a founding, an office's turn, or a question mark
+unfoldable pub answerTo : World → List ℕ → Addressee → Answered
+answerTo w ws (All n) = answeredBy (foundOffices (w .offices) n ws (w .logs)) (w .logs) (w .slots)
+answerTo w ws (One k c) = officeTurn w k c
 answerTo w ws Nobody = record { world = w; answer = question }
 
 unfoldable pub answerLine : World → Line → Answered

@@ -1,18 +1,22 @@
 -- Items written one behind the other.
 --     item-short, printed-short      how many bytes they take
+--     printed-room, printed-none     whether there is room
 --     print-whole                    a letter, three items, a newline
 -- Assumes nothing.
 use mathlib.Core.Path.{_≡_, refl}
 use mathlib.Core.List.{List, [], _∷_}
-use Prim.Native.Nat.{ℕ, _+_, _≤_, zero-le}
+use Prim.Native.Nat.{ℕ, _+_, _<_, _≤_, zero-le}
 use native.Mathlib.Omega.{arith}
+use lib.Dec.{leb}
 use lib.ListN.{length, set, length-append}
 use lib.Seq.{sets}
+use borrow.Author.Tests.{le-leb, lt-leb}
+use Rattle.lists.proofs.Tests.{pick-true, pick-false}
 use Rattle.lists.proofs.Stores.{Left, left-all, left-next, left-none}
 use Rattle.rehearsal_answers.specs.declared.Answer.{Answer}
 use Rattle.rehearsal_answers.specs.declared.Item.{Item}
 use Rattle.rehearsal_answers.specs.declared.Item.the-variants.{Number, Dash, Nothing}
-use Rattle.rehearsal_answers.specs.Answer.{spacedItem, printedOf}
+use Rattle.rehearsal_answers.specs.Answer.{spacedItem, printedOf, printedIn}
 use Rattle.decimal.proofs.Digits.{decimal-short}
 
 pub item-short : (i : Item) → length (spacedItem i) ≤ 21
@@ -23,6 +27,14 @@ item-short Nothing = zero-le
 pub printed-short : (a : Answer) → length (printedOf a) ≤ 65
 unfolding printedOf
 printed-short a = simp length-append (omega (arith, item-short (a .first), item-short (a .second), item-short (a .third)))
+
+pub printed-room : (size at : ℕ) (a : Answer) → at + 65 ≤ size → printedIn size at a ≡ printedOf a
+unfolding printedIn
+printed-room size at a h = pick-true (leb (at + 65) size) (printedOf a) [] (le-leb (at + 65) size h)
+
+pub printed-none : (size at : ℕ) (a : Answer) → size < at + 65 → printedIn size at a ≡ []
+unfolding printedIn
+printed-none size at a h = pick-false (leb (at + 65) size) (printedOf a) [] (lt-leb (at + 65) size h)
 
 -- each item behind the one before it
 pub print-whole : (a : Answer) (at behind next last : ℕ) (out o₁ o₂ o₃ : List ℕ)

@@ -3,7 +3,7 @@ ghost use mathlib.Core.Path.{_≡_};
 ghost use Prim.Native.Nat.{_+_, _≤_};
 ghost use lib.ListN.{length};
 ghost use lib.Seq.{sets};
-ghost use Rattle.rehearsal_answers.specs.Answer.{spaced, dashed, spacedItem, printedOf};
+ghost use Rattle.rehearsal_answers.specs.Answer.{spaced, dashed, spacedItem, printedOf, printedIn};
 use decimal::put_number;
 
 // A number, a dash where there is none to print, or no item at all.
@@ -19,6 +19,11 @@ pub struct Answer {
     pub first: Item,
     pub second: Item,
     pub third: Item,
+}
+
+impl Answer {
+    // The most bytes that an answer takes, its newline counted.
+    pub const SIZE: usize = 65;
 }
 
 // Writes a space and the number.
@@ -52,9 +57,8 @@ fn put_item(out: &mut [u8], at: usize, item: Item) -> usize
     }
 }
 
-// Writes an answer and its newline, and answers the place behind them. An answer takes at most 65 bytes; public for the
-// rehearsal, which keeps that much room for each line.
-pub fn print(out: &mut [u8], at: usize, answer: Answer) -> usize
+// Writes an answer and its newline, and answers the place behind them.
+fn put_answer(out: &mut [u8], at: usize, answer: Answer) -> usize
     requires { ⌜ at + 65 ≤ length (now out) ⌝ }
     ensures { λ r. ⌜ (r ≡ at + length (printedOf answer)) × (now (out .exit) ≡ sets (now (out .entry)) at (printedOf answer)) ⌝ }
 {
@@ -67,4 +71,18 @@ pub fn print(out: &mut [u8], at: usize, answer: Answer) -> usize
     let last = put_item(out, next, third);
     out[last] = b'\n';
     last + 1
+}
+
+// The same where there is room for the longest answer, which the rehearsal keeps for each line; where there is not, it writes nothing.
+pub fn print(out: &mut [u8], at: usize, answer: Answer) -> usize
+    ensures { λ r. ⌜ r ≡ at + length (printedIn (length (now (out .entry))) at answer) ⌝ }
+    ensures { λ r. ⌜ now (out .exit) ≡ sets (now (out .entry)) at (printedIn (length (now (out .entry))) at answer) ⌝ }
+{
+    if out.len() < Answer::SIZE {
+        return at;
+    }
+    if at > out.len() - Answer::SIZE {
+        return at;
+    }
+    put_answer(out, at, answer)
 }

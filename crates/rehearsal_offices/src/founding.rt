@@ -9,8 +9,11 @@ use frame::Record;
 use rehearsal_answers::Answer;
 use rehearsal_turns::says_one;
 
-// The offices after it, and the answer.
-pub struct Founding {
+// The words of the eight logs, which lie one behind the other.
+pub const ALL_LOGS: usize = Record::OFFICES * Record::LOG;
+
+// The offices after a line, and its answer.
+pub struct Reply {
     pub offices: Offices,
     pub answer: Answer,
 }
@@ -53,19 +56,19 @@ pub fn no_offices() -> Offices
     }
 }
 
-// A founding of n offices; where it is refused, all stays as it was. Public for the rehearsal, which lends the eight logs.
-pub fn found_offices(offices: Offices, n: usize, weights: [u16; 8], logs: &[u32]) -> Founding
-    requires { ⌜ length (now logs) ≡ 8192 ⌝ }
+// A founding of n offices; where it is refused, all stays as it was.
+pub fn found_offices(offices: Offices, n: usize, weights: [u16; 8], logs: &[u32; ALL_LOGS]) -> Reply
     ensures { λ r. ⌜ r ≡ foundOffices offices n weights (now (logs .entry)) ⌝ }
 {
-    let first = Record::found(n, 0, weights, &logs[..Record::LOG]);
+    let all: &[u32] = logs;
+    let first = Record::found(n, 0, weights, &all[..Record::LOG]);
     let answer = says_one(b'f', first.number);
     if first.number != 0 {
-        return Founding { offices, answer };
+        return Reply { offices, answer };
     }
     let records = offices.records;
-    let fresh = fresh_all(n, weights, logs, records);
-    Founding {
+    let fresh = fresh_all(n, weights, all, records);
+    Reply {
         offices: Offices {
             count: n,
             records: fresh,

@@ -6,7 +6,8 @@ mod founding;
 
 pub use addressees::Addressee;
 pub use addressees::addressee_of;
-pub use founding::Founding;
+pub use founding::ALL_LOGS;
+pub use founding::Reply;
 pub use founding::found_offices;
 pub use founding::no_offices;
 

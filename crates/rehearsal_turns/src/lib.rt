@@ -17,6 +17,9 @@ const SLOTS: usize = 4;
 
 const SLOT: usize = 7046;
 
+// The bytes of all slots, which lie one behind the other.
+pub const ALL_SLOTS: usize = SLOTS * SLOT;
+
 // The record and the lengths of the slots' messages after the turn, and the answer.
 pub struct Turn {
     pub record: Record,
@@ -196,15 +199,14 @@ fn view_turn(record: Record, lengths: [usize; 4], log: &[u32], line: u32) -> Tur
     }
 }
 
-// The office's turn by the command; a slot that isn't there is a question mark. Public for the rehearsal, which lends the four slots.
+// The office's turn by the command; a slot that isn't there is a question mark.
 pub fn turn_at(
     record: Record,
     lengths: [usize; 4],
     log: &mut [u32],
-    slots: &mut [u8],
+    slots: &mut [u8; ALL_SLOTS],
     command: Command,
 ) -> Turn
-    requires { ⌜ length (now slots) ≡ 28184 ⌝ }
     ensures { λ r. ⌜ r ≡ turnAt «record» lengths (now (log .entry)) (now (slots .entry)) command ⌝ }
     ensures { λ r. ⌜ now (log .exit) ≡ turnWords «record» lengths (now (log .entry)) (now (slots .entry)) command ⌝ }
     ensures { λ r. ⌜ now (slots .exit) ≡ turnSlots «record» (now (log .entry)) (now (slots .entry)) command ⌝ }

@@ -5,15 +5,13 @@ ghost use lib.ListN.{length};
 ghost use lib.Seq.{sets};
 ghost use Rattle.decimal.specs.Numbers.{noNumbers};
 ghost use Rattle.table_lines.specs.Answers.{numbersIn, threeNumbers, answerTo};
+use crate::lines::OUTPUT;
 use crate::lines::put_lines;
 use decimal::Numbers;
 use decimal::numbers_from;
 use decimal::part_end;
 use decimal::put_number;
 use frame::Record;
-
-// The most bytes that are printed: 2197 lines of at most 28, and behind them room for a number's 20 digits.
-pub const OUTPUT: usize = 61536;
 
 // The answer where the input is not one line.
 fn no_numbers() -> Numbers
@@ -53,7 +51,7 @@ fn wide(x: u32) -> usize
 
 // Writes at the output's front what is printed for an input, and answers how many bytes it takes: a line for each table, the number of a refused
 // founding, or a question mark.
-pub fn answer(input: &[u8], out: &mut [u8; 61536]) -> usize
+pub fn answer(input: &[u8], out: &mut [u8; OUTPUT]) -> usize
     ensures { λ r. ⌜ (r ≡ length (answerTo (now (input .entry)))) × (now (out .exit) ≡ sets (now (out .entry)) 0 (answerTo (now (input .entry)))) ⌝ }
 {
     let numbers = numbers_in(input);

@@ -2,5 +2,5 @@
 mod answers;
 mod lines;
 
-pub use answers::OUTPUT;
 pub use answers::answer;
+pub use lines::OUTPUT;

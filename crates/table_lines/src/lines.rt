@@ -16,6 +16,9 @@ use frame::Record;
 use tables::TABLES;
 use tables::table_at;
 
+// The most bytes that are printed: 2197 lines of at most 28, and behind them room for a number's 20 digits.
+pub const OUTPUT: usize = 61536;
+
 // The office of an entry.
 fn office_of(word: u32) -> usize
     ensures { λ r. ⌜ r ≡ officeOf word ⌝ }
@@ -96,8 +99,7 @@ fn put_line(out: &mut [u8], at: usize, record: Record, place: usize) -> usize
 }
 
 // Writes the lines of all tables at the output's front, and answers how many bytes they take.
-pub fn put_lines(out: &mut [u8], record: Record) -> usize
-    requires { ⌜ 61536 ≤ length (now out) ⌝ }
+pub fn put_lines(out: &mut [u8; OUTPUT], record: Record) -> usize
     ensures { λ r. ⌜ (r ≡ length (linesOf «record» tables)) × (now (out .exit) ≡ sets (now (out .entry)) 0 (linesOf «record» tables)) ⌝ }
 {
     let mut next: usize = 0;

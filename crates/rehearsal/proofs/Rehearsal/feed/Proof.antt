@@ -15,7 +15,7 @@ slice-aggregate-feed-all c =
     let used = c .before .before .before in
     let start = used .before .before in
     let h : length (start .args .chunk .now) ≡ 8192 = search needs in
-    let s : used .within .result ≤ 8192 = rw (used .within .ensures) (min-le-right (start .args .used) 8192) in
+    let s : used .within .result ≤ 8192 = rw (used .within .ensures) (min-le-right _ 8192) in
     sym (length-take-le (used .within .result) (start .args .chunk .now) (omega arith))
 
 feed-all-requires : tie.Need-feed-all-requires
@@ -23,11 +23,8 @@ feed-all-requires c κs =
     let used = c .before .before .before .before in
     let a = used .before .before .args in
     let h : length (a .chunk .now) ≡ 8192 = search needs in
-    let s : used .within .result ≤ 8192 = rw (used .within .ensures) (min-le-right (a .used) 8192) in
-    let l : length (a .logs .now) ≡ 8192 = search needs in
-    let m : length (a .slots .now) ≡ 28184 = search needs in
-    let o : length (a .out .now) ≡ 532480 = search needs in
-    (l, m, omega (arith, length-take (used .within .result) (a .chunk .now)))
+    let s : used .within .result ≤ 8192 = rw (used .within .ensures) (min-le-right _ 8192) in
+    omega (arith, length-take (used .within .result) (a .chunk .now))
 
 returns : tie.Need-returns
 returns c =
