@@ -9,10 +9,10 @@ use Rattle.rehearsal_lines.specs.Feeding.{Fed}
 use Rattle.rehearsal_offices.specs.World.{World, noOffices}
 use Rattle.rehearsal.specs.declared.Rehearsal.{Rehearsal}
 use Rattle.rehearsal.specs.declared.feeding.Fed as answer
-use Rattle.rehearsal.specs.Lines.{feedOf, finishOf}
+use Rattle.rehearsal.specs.Lines.{worldAt, feedOf, finishOf}
 
 abbrev pub worldOf : Rehearsal → List ℕ → List ℕ → World
-worldOf r logs slots = record { offices = r .offices; logs = logs; slots = slots }
+worldOf r logs slots = worldAt (r .offices) logs slots
 
 -- no office, empty slots, no line
 abbrev pub atFirst : Rehearsal

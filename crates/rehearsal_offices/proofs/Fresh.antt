@@ -16,7 +16,7 @@ use Rattle.frame.specs.State.{zeroRecord}
 use Rattle.frame.specs.declared.founding.Founded.{Founded}
 use Rattle.frame.specs.Founding.{foundOf}
 use Rattle.rehearsal_offices.specs.declared.Offices.{Offices}
-use Rattle.rehearsal_offices.specs.declared.founding.Founding.{Founding}
+use Rattle.rehearsal_offices.specs.declared.founding.Reply.{Reply}
 use Rattle.rehearsal_offices.specs.Founding.{freshAt, freshFrom, foundNumber, foundOffices}
 
 module _ (n : ℕ) (ws logs : List ℕ) where
@@ -49,10 +49,10 @@ module _ (offices : Offices) (n : ℕ) (ws logs : List ℕ) (f : Founded) (a : A
   number-is : f .number ≡ foundNumber n ws logs
   number-is = ap (λ (x : Founded). x .number) ef
 
-  pub found-refused : (f .number ≡ 0 → ⊥) → _≡_ {A = Founding} (record { offices = offices; answer = a }) (foundOffices offices n ws logs)
+  pub found-refused : (f .number ≡ 0 → ⊥) → _≡_ {A = Reply} (record { offices = offices; answer = a }) (foundOffices offices n ws logs)
   unfolding foundOffices pick
   found-refused h = rw (ea, number-is, ne-eqb (foundNumber n ws logs) 0 (λ z. h (number-is ∙ z)))
 
-  pub found-done : (fresh : List Record) → f .number ≡ 0 → fresh ≡ freshFrom n ws logs 8 0 → _≡_ {A = Founding} (record { offices = record { count = n; records = fresh; lengths = 0 ∷ 0 ∷ 0 ∷ 0 ∷ [] }; answer = a }) (foundOffices offices n ws logs)
+  pub found-done : (fresh : List Record) → f .number ≡ 0 → fresh ≡ freshFrom n ws logs 8 0 → _≡_ {A = Reply} (record { offices = record { count = n; records = fresh; lengths = 0 ∷ 0 ∷ 0 ∷ 0 ∷ [] }; answer = a }) (foundOffices offices n ws logs)
   unfolding foundOffices pick
   found-done fresh h e = rw (ea, e, number-is, eq-eqb (foundNumber n ws logs) 0 (sym number-is ∙ h))

@@ -11,7 +11,7 @@ use Rattle.frame.specs.Founding.{foundOf}
 use Rattle.rehearsal_turns.specs.Answers.{saysOne}
 use Rattle.rehearsal_offices.specs.World.{logOf}
 use Rattle.rehearsal_offices.specs.declared.Offices.{Offices}
-use Rattle.rehearsal_offices.specs.declared.founding.Founding.{Founding}
+use Rattle.rehearsal_offices.specs.declared.founding.Reply.{Reply}
 
 -- what Found gives at office k; all zero from office n on
 unfoldable pub freshAt : ℕ → List ℕ → List ℕ → ℕ → Record
@@ -30,7 +30,7 @@ foundNumber n ws logs = foundOf n 0 ws (logOf logs 0) .number
 abbrev pub freshOffices : ℕ → List ℕ → List ℕ → Offices
 freshOffices n ws logs = record { count = n; records = freshFrom n ws logs 8 0; lengths = replicate 4 0 }
 
-unfoldable pub foundOffices : Offices → ℕ → List ℕ → List ℕ → Founding
+unfoldable pub foundOffices : Offices → ℕ → List ℕ → List ℕ → Reply
 foundOffices offices n ws logs =
     record {
       offices = pick (eqb (foundNumber n ws logs) 0) (freshOffices n ws logs) offices;
