@@ -1,7 +1,7 @@
 -- What a line says, put together from what the calls promise.
 --     say-short      an answer takes at most 65 bytes
 --     says-as      a line and its answer
---     turn-lent      an office's turn, on the piece of all logs that is lent
+--     turn-lent, turn-stored      an office's turn, on the piece of all logs that is lent, and what it leaves of the offices
 --     answer-by, say-found, say-turn, say-nobody      the answer by the line's addressee
 -- Assumes nothing.
 use mathlib.Core.Path.{_≡_}
@@ -14,6 +14,7 @@ use Rattle.rehearsal_commands.specs.Command.{lineOf}
 use Rattle.rehearsal_answers.specs.declared.Answer.{Answer}
 use Rattle.rehearsal_answers.specs.Answer.{printedOf}
 use Rattle.rehearsal_answers.proofs.Printing.{printed-short}
+use Rattle.frame.specs.declared.Record.{Record}
 use Rattle.rehearsal_turns.specs.declared.Turn.{Turn}
 use Rattle.rehearsal_turns.specs.Answers.{question}
 use Rattle.rehearsal_turns.specs.Turns.{turnAt, turnWords, turnSlots}
@@ -23,7 +24,7 @@ use Rattle.rehearsal_offices.specs.declared.founding.Reply.{Reply}
 use Rattle.rehearsal_offices.specs.Addressees.{addresseeOf}
 use Rattle.rehearsal_offices.specs.World.{World}
 use Rattle.rehearsal_offices.specs.Founding.{foundOffices}
-use Rattle.rehearsal.specs.Lines.{Answered, answeredBy, turned, recordAt, officeTurn, answerTo, answerLine, sayLine}
+use Rattle.rehearsal.specs.Lines.{Answered, answeredBy, turned, recordAt, OfficeTurned, officeTurn, answerTo, answerLine, sayLine}
 
 pub say-short : (w : World) (bytes : List ℕ) → length (sayLine w bytes .printed) ≤ 65
 unfolding sayLine answerLine
@@ -31,25 +32,18 @@ say-short w bytes =
     let a = addresseeOf (w .offices .count) (lineOf bytes .parsed) in
     printed-short (answerTo w (lineOf bytes .weights) a .answer)
 
--- an office's turn on `size` words of its log
-abbrev pub lentAnswer : World → ℕ → ℕ → Turn → List ℕ → List ℕ → Answered
-lentAnswer w k size t words slots =
-    record {
-      world = record {
-        offices = turned (w .offices) k t;
-        logs = take (k * 1024) (w .logs) ++ (words ++ drop size (drop (k * 1024) (w .logs)));
-        slots = slots;
-      };
-      answer = t .answer;
-    }
-
 -- the office's log is lent from k * 1024 on for `size` words
-pub turn-lent : (w : World) (k : ℕ) (c : Command) (size : ℕ) (t : Turn) (words slots : List ℕ) → size ≡ 1024 →
-    t ≡ turnAt (recordAt (w .offices) k) (w .offices .lengths) (take size (drop (k * 1024) (w .logs))) (w .slots) c →
-    words ≡ turnWords (recordAt (w .offices) k) (w .offices .lengths) (take size (drop (k * 1024) (w .logs))) (w .slots) c →
-    slots ≡ turnSlots (recordAt (w .offices) k) (take size (drop (k * 1024) (w .logs))) (w .slots) c → lentAnswer w k size t words slots ≡ officeTurn w k c
+pub turn-lent : (r : Record) (lengths : List ℕ) (k : ℕ) (c : Command) (logs slots : List ℕ) (size : ℕ) (t : Turn) (words slots′ : List ℕ) → size ≡ 1024 →
+    t ≡ turnAt r lengths (take size (drop (k * 1024) logs)) slots c → words ≡ turnWords r lengths (take size (drop (k * 1024) logs)) slots c →
+    slots′ ≡ turnSlots r (take size (drop (k * 1024) logs)) slots c →
+    OfficeTurned r lengths k c logs slots t (take (k * 1024) logs ++ (words ++ drop size (drop (k * 1024) logs))) slots′
+turn-lent r lengths k c logs slots size t words slots′ es et ew el = record { turn = rw (et, es); logs = rw (ew, es); slots = rw (el, es) }
+
+-- the offices after the turn, with what it left of the logs and the slots
+pub turn-stored : (w : World) (k : ℕ) (c : Command) (t : Turn) (logs slots : List ℕ) → OfficeTurned (recordAt (w .offices) k) (w .offices .lengths) k c (w .logs) (w .slots) t logs slots →
+    answeredBy (record { offices = turned (w .offices) k t; answer = t .answer }) logs slots ≡ officeTurn w k c
 unfolding officeTurn
-turn-lent w k c size t words slots es et ew el = rw (et, ew, el, es)
+turn-stored w k c t logs slots x = rw (x .turn, x .logs, x .slots)
 
 -- a line and its answer
 pub says-as : (w : World) (bytes : List ℕ) (line : Line) → line ≡ lineOf bytes → (x : Answered) → x ≡ answerLine w line → sayLine w bytes ≡ record { world = x .world; printed = printedOf (x .answer) }

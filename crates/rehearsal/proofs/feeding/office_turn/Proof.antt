@@ -9,14 +9,14 @@ use Rattle.rehearsal.proofs.feeding.office_turn.Tie as tie
 
 returns : tie.Need-returns
 returns c =
-    let turn = c .before .before .before .before .before in
-    let k = turn .before .before .before .before .before .before .args .k in
+    let turn = c .before .before in
+    let k = turn .before .before .before .before .args .k in
     let size = k * 1024 + 1024 - k * 1024 in
     let whole : size ≡ 1024 = omega arith in
     let e = turn .turn-at .ensures in
-    turn-lent _ k _ size _ _ _ whole (e .0) (e .1 .0) (e .1 .1)
+    turn-lent _ _ k _ _ _ size _ _ _ whole (e .0) (e .1 .0) (e .1 .1)
 
 pub office-turn-spec : {M : Type 1} → statement M
 office-turn-spec =
     tie.close (tie.spec (λ c. search needs) (λ c. search needs) (λ c. search needs) (λ c. search needs) (λ c. search needs) (λ c. search needs)
-    (λ c. search needs) (λ c. search needs) (λ c κs. search needs) (λ c. search needs) (λ c. search needs) (λ c. search needs) returns)
+    (λ c κs. search needs) (λ c. search needs) returns)
