@@ -1,7 +1,6 @@
 -- What a line does to the world, and what it prints. Assumes nothing.
 use Prim.Native.Nat.{ℕ}
 use mathlib.Core.List.{List}
-use mathlib.Core.Path.{_≡_}
 use lib.ListN.{getD, set}
 use Rattle.rehearsal_lines.specs.Feeding.{Said, Fed, feedBy, finishBy}
 use Rattle.rehearsal_commands.specs.declared.Command.{Command}
@@ -46,12 +45,6 @@ turned s k t = record { count = s .count; records = set (s .records) k (t .recor
 -- an office's turn changes its record, its log and the slots
 abbrev pub turnAnswer : World → ℕ → Turn → List ℕ → List ℕ → Answered
 turnAnswer w k t words slots = answeredBy (record { offices = turned (w .offices) k t; answer = t .answer }) (withPiece 1024 (w .logs) k words) slots
-
--- what an office's turn promises: its answer with the record and the slots' lengths, its log among the others, and the slots
-pub record OfficeTurned (r : Record) (lengths : List ℕ) (k : ℕ) (c : Command) (ls ss : List ℕ) (t : Turn) (ls′ ss′ : List ℕ) : Type 0 where
-  pub turn : t ≡ turnAt r lengths (logOf ls k) ss c
-  pub logs : ls′ ≡ withPiece 1024 ls k (turnWords r lengths (logOf ls k) ss c)
-  pub slots : ss′ ≡ turnSlots r (logOf ls k) ss c
 
 -- the turn of office k by a command
 unfoldable pub officeTurn : World → ℕ → Command → Answered

@@ -4,7 +4,9 @@ ghost use Prim.Native.Nat.{_<_, _≤_};
 ghost use lib.ListN.{length, take};
 ghost use Rattle.rehearsal_lines.specs.Held.{lineHeld};
 ghost use Rattle.rehearsal_commands.specs.Command.{lineOf};
-ghost use Rattle.rehearsal.specs.Lines.{OfficeTurned};
+ghost use Rattle.rehearsal_turns.specs.Pieces.{withPiece};
+ghost use Rattle.rehearsal_turns.specs.Turns.{turnAt, turnWords, turnSlots};
+ghost use Rattle.rehearsal_offices.specs.World.{logOf};
 ghost use Rattle.rehearsal.specs.Feeding.{atFirst, feeds, finishes, FedAs};
 use crate::Rehearsal;
 use decimal::part_end;
@@ -55,7 +57,9 @@ fn office_turn(
     slots: &mut Slots,
 ) -> Turn
     requires { ⌜ (k < 8) × (length (now logs) ≡ 8192) ⌝ }
-    ensures { λ r. ⌜ OfficeTurned «record» lengths k command (now (logs .entry)) (now (slots .entry)) r (now (logs .exit)) (now (slots .exit)) ⌝ }
+    ensures { λ r. ⌜ r ≡ turnAt «record» lengths (logOf (now (logs .entry)) k) (now (slots .entry)) command ⌝ }
+    ensures { λ r. ⌜ now (logs .exit) ≡ withPiece 1024 (now (logs .entry)) k (turnWords «record» lengths (logOf (now (logs .entry)) k) (now (slots .entry)) command) ⌝ }
+    ensures { λ r. ⌜ now (slots .exit) ≡ turnSlots «record» (logOf (now (logs .entry)) k) (now (slots .entry)) command ⌝ }
 {
     let from = k * Record::LOG;
     let to = from + Record::LOG;

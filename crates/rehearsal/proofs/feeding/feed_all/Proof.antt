@@ -126,9 +126,10 @@ loop-again-2 c =
     let turn = c .before .before .before .before in
     let told = toldOf turn in
     let known = knownOf told in
+    let e = turn .office-turn .ensures in
     let p = c .print2 .ensures in
     let full : length (loopOf (insideOf (known .before)) .loop .out) ≡ 532480 = search needs in
-    feeds-next (said (known .before)) _ (say-turn _ _ _ _ _ _ (told .addressee2 .given .1) (turn-stored _ _ _ _ _ _ (turn .office-turn .ensures)) ∙ answer-by _ _ _ (known .addressee-of .ensures))
+    feeds-next (said (known .before)) _ (say-turn _ _ _ _ _ _ (told .addressee2 .given .1) (turn-stored _ _ _ _ _ _ (e .0) (e .1 .0) (e .1 .1)) ∙ answer-by _ _ _ (known .addressee-of .ensures))
     _ _ (room (insideOf (known .before)) full) (p .0) (p .1)
 
 -- ── a line for nobody ──

@@ -3,7 +3,6 @@ use borrow.Author.Needs.{needs}
 use mathlib.Core.Path.{_≡_}
 use native.Mathlib.Omega.{arith}
 use Prim.Native.Nat.{_+_, _-_, _*_}
-use Rattle.rehearsal.proofs.Says.{turn-lent}
 use Rattle.rehearsal.proofs.feeding.office_turn.Statement.{statement}
 use Rattle.rehearsal.proofs.feeding.office_turn.Tie as tie
 
@@ -14,7 +13,7 @@ returns c =
     let size = k * 1024 + 1024 - k * 1024 in
     let whole : size ≡ 1024 = omega arith in
     let e = turn .turn-at .ensures in
-    turn-lent _ _ k _ _ _ size _ _ _ whole (e .0) (e .1 .0) (e .1 .1)
+    (rw (e .0, whole), (rw (e .1 .0, whole), rw (e .1 .1, whole)))
 
 pub office-turn-spec : {M : Type 1} → statement M
 office-turn-spec =
