@@ -1,13 +1,13 @@
 -- What a line says, put together from what the calls promise.
 --     say-short      an answer takes at most 65 bytes
 --     says-as      a line and its answer
---     turn-lent      an office's turn, on the piece of all logs that is lent
+--     turn-stored      what an office's turn leaves
 --     answer-by, say-found, say-turn, say-nobody      the answer by the line's addressee
 -- Assumes nothing.
 use mathlib.Core.Path.{_≡_}
-use mathlib.Core.List.{List, _++_}
-use Prim.Native.Nat.{ℕ, _*_, _≤_}
-use lib.ListN.{length, take, drop}
+use mathlib.Core.List.{List}
+use Prim.Native.Nat.{ℕ, _≤_}
+use lib.ListN.{length}
 use Rattle.rehearsal_commands.specs.declared.Command.{Command}
 use Rattle.rehearsal_commands.specs.declared.Line.{Line}
 use Rattle.rehearsal_commands.specs.Command.{lineOf}
@@ -15,13 +15,14 @@ use Rattle.rehearsal_answers.specs.declared.Answer.{Answer}
 use Rattle.rehearsal_answers.specs.Answer.{printedOf}
 use Rattle.rehearsal_answers.proofs.Printing.{printed-short}
 use Rattle.rehearsal_turns.specs.declared.Turn.{Turn}
+use Rattle.rehearsal_turns.specs.Pieces.{withPiece}
 use Rattle.rehearsal_turns.specs.Answers.{question}
 use Rattle.rehearsal_turns.specs.Turns.{turnAt, turnWords, turnSlots}
 use Rattle.rehearsal_offices.specs.declared.addressees.Addressee.{Addressee}
 use Rattle.rehearsal_offices.specs.declared.addressees.Addressee.the-variants.{All, One, Nobody}
 use Rattle.rehearsal_offices.specs.declared.founding.Reply.{Reply}
 use Rattle.rehearsal_offices.specs.Addressees.{addresseeOf}
-use Rattle.rehearsal_offices.specs.World.{World}
+use Rattle.rehearsal_offices.specs.World.{World, logOf}
 use Rattle.rehearsal_offices.specs.Founding.{foundOffices}
 use Rattle.rehearsal.specs.Lines.{Answered, answeredBy, turned, recordAt, officeTurn, answerTo, answerLine, sayLine}
 
@@ -31,25 +32,14 @@ say-short w bytes =
     let a = addresseeOf (w .offices .count) (lineOf bytes .parsed) in
     printed-short (answerTo w (lineOf bytes .weights) a .answer)
 
--- an office's turn on `size` words of its log
-abbrev pub lentAnswer : World → ℕ → ℕ → Turn → List ℕ → List ℕ → Answered
-lentAnswer w k size t words slots =
-    record {
-      world = record {
-        offices = turned (w .offices) k t;
-        logs = take (k * 1024) (w .logs) ++ (words ++ drop size (drop (k * 1024) (w .logs)));
-        slots = slots;
-      };
-      answer = t .answer;
-    }
-
--- the office's log is lent from k * 1024 on for `size` words
-pub turn-lent : (w : World) (k : ℕ) (c : Command) (size : ℕ) (t : Turn) (words slots : List ℕ) → size ≡ 1024 →
-    t ≡ turnAt (recordAt (w .offices) k) (w .offices .lengths) (take size (drop (k * 1024) (w .logs))) (w .slots) c →
-    words ≡ turnWords (recordAt (w .offices) k) (w .offices .lengths) (take size (drop (k * 1024) (w .logs))) (w .slots) c →
-    slots ≡ turnSlots (recordAt (w .offices) k) (take size (drop (k * 1024) (w .logs))) (w .slots) c → lentAnswer w k size t words slots ≡ officeTurn w k c
+-- the offices, the logs and the slots after an office's turn
+pub turn-stored : (w : World) (k : ℕ) (c : Command) (t : Turn) (logs slots : List ℕ) →
+    t ≡ turnAt (recordAt (w .offices) k) (w .offices .lengths) (logOf (w .logs) k) (w .slots) c →
+    logs ≡ withPiece 1024 (w .logs) k (turnWords (recordAt (w .offices) k) (w .offices .lengths) (logOf (w .logs) k) (w .slots) c) →
+    slots ≡ turnSlots (recordAt (w .offices) k) (logOf (w .logs) k) (w .slots) c →
+    answeredBy (record { offices = turned (w .offices) k t; answer = t .answer }) logs slots ≡ officeTurn w k c
 unfolding officeTurn
-turn-lent w k c size t words slots es et ew el = rw (et, ew, el, es)
+turn-stored w k c t logs slots et el es = rw (et, el, es)
 
 -- a line and its answer
 pub says-as : (w : World) (bytes : List ℕ) (line : Line) → line ≡ lineOf bytes → (x : Answered) → x ≡ answerLine w line → sayLine w bytes ≡ record { world = x .world; printed = printedOf (x .answer) }

@@ -4,7 +4,9 @@ ghost use Prim.Native.Nat.{_<_, _≤_};
 ghost use lib.ListN.{length, take};
 ghost use Rattle.rehearsal_lines.specs.Held.{lineHeld};
 ghost use Rattle.rehearsal_commands.specs.Command.{lineOf};
-ghost use Rattle.rehearsal.specs.Lines.{worldAt, answeredBy, officeTurn, answerLine};
+ghost use Rattle.rehearsal_turns.specs.Pieces.{withPiece};
+ghost use Rattle.rehearsal_turns.specs.Turns.{turnAt, turnWords, turnSlots};
+ghost use Rattle.rehearsal_offices.specs.World.{logOf};
 ghost use Rattle.rehearsal.specs.Feeding.{atFirst, feeds, finishes, FedAs};
 use crate::Rehearsal;
 use decimal::part_end;
@@ -16,11 +18,10 @@ use rehearsal_commands::Line;
 use rehearsal_commands::line_of;
 use rehearsal_lines::Held;
 use rehearsal_offices::Addressee;
-use rehearsal_offices::Offices;
-use rehearsal_offices::Reply;
 use rehearsal_offices::addressee_of;
 use rehearsal_offices::found_offices;
 use rehearsal_offices::no_offices;
+use rehearsal_turns::Turn;
 use rehearsal_turns::question;
 use rehearsal_turns::turn_at;
 
@@ -29,6 +30,13 @@ pub struct Fed {
     pub rehearsal: Rehearsal,
     pub printed: usize,
 }
+
+// What a caller lends: the logs, the slots and the output.
+type Logs = [u32; Rehearsal::LOGS];
+
+type Slots = [u8; Rehearsal::SLOTS];
+
+type Output = [u8; Rehearsal::OUTPUT];
 
 // What the held line says.
 fn line_held(held: Held) -> Line
@@ -41,61 +49,26 @@ fn line_held(held: Held) -> Line
 
 // The turn of an office that is there, on its own log.
 fn office_turn(
-    offices: Offices,
+    record: Record,
+    lengths: [usize; 4],
     k: usize,
     command: Command,
     logs: &mut [u32],
-    slots: &mut [u8; Rehearsal::SLOTS],
-) -> Reply
+    slots: &mut Slots,
+) -> Turn
     requires { ⌜ (k < 8) × (length (now logs) ≡ 8192) ⌝ }
-    ensures { λ r. ⌜ answeredBy r (now (logs .exit)) (now (slots .exit)) ≡ officeTurn (worldAt offices (now (logs .entry)) (now (slots .entry))) k command ⌝ }
+    ensures { λ r. ⌜ r ≡ turnAt «record» lengths (logOf (now (logs .entry)) k) (now (slots .entry)) command ⌝ }
+    ensures { λ r. ⌜ now (logs .exit) ≡ withPiece 1024 (now (logs .entry)) k (turnWords «record» lengths (logOf (now (logs .entry)) k) (now (slots .entry)) command) ⌝ }
+    ensures { λ r. ⌜ now (slots .exit) ≡ turnSlots «record» (logOf (now (logs .entry)) k) (now (slots .entry)) command ⌝ }
 {
     let from = k * Record::LOG;
     let to = from + Record::LOG;
-    let record = offices.records[k];
-    let lengths = offices.lengths;
-    let turn = turn_at(record, lengths, &mut logs[from..to], slots, command);
-    let answer = turn.answer;
-    let next = turn.record;
-    let left = turn.lengths;
-    let mut offices = offices;
-    offices.records[k] = next;
-    offices.lengths = left;
-    Reply { offices, answer }
+    turn_at(record, lengths, &mut logs[from..to], slots, command)
 }
 
-// Answers a line: a founding, an office's turn, or a question mark.
-fn answer_line(
-    offices: Offices,
-    line: Line,
-    logs: &mut [u32; Rehearsal::LOGS],
-    slots: &mut [u8; Rehearsal::SLOTS],
-) -> Reply
-    ensures { λ r. ⌜ answeredBy r (now (logs .exit)) (now (slots .exit)) ≡ answerLine (worldAt offices (now (logs .entry)) (now (slots .entry))) line ⌝ }
-{
-    let parsed = line.parsed;
-    let addressee = addressee_of(offices.count, parsed);
-    match addressee {
-        Addressee::All(n) => {
-            let weights = line.weights;
-            found_offices(offices, n, weights, logs)
-        }
-        Addressee::One(k, command) => office_turn(offices, k, command, logs, slots),
-        Addressee::Nobody => {
-            let answer = question();
-            Reply { offices, answer }
-        }
-    }
-}
-
-// Answers each whole line, and holds what is left. Each byte of the chunk has room for an answer.
-fn feed_all(
-    r: Rehearsal,
-    logs: &mut [u32; Rehearsal::LOGS],
-    slots: &mut [u8; Rehearsal::SLOTS],
-    chunk: &[u8],
-    out: &mut [u8; Rehearsal::OUTPUT],
-) -> Fed
+// Answers each whole line, by a founding, an office's turn or a question mark, and holds what is left. Each byte of the chunk has room for an
+// answer. The offices change where they stand: handed to a function for each line and back, all eight records would be copied.
+fn feed_all(r: Rehearsal, logs: &mut Logs, slots: &mut Slots, chunk: &[u8], out: &mut Output) -> Fed
     requires { ⌜ length (now chunk) ≤ 8192 ⌝ }
     ensures { λ f. ⌜ FedAs (feeds r (now (logs .entry)) (now (slots .entry)) (now (chunk .entry))) (now (out .entry)) f (now (logs .exit)) (now (slots .exit)) (now (out .exit)) ⌝ }
 {
@@ -110,13 +83,27 @@ fn feed_all(
             let rehearsal = Rehearsal { offices, held };
             return Fed { rehearsal, printed };
         }
-        let line = line_held(held);
+        let Line { parsed, weights } = line_held(held);
         held = Held::none();
         at = end + 1;
-        let reply = answer_line(offices, line, logs, slots);
-        offices = reply.offices;
-        let answer = reply.answer;
-        printed = print(out, printed, answer);
+        let addressee = addressee_of(offices.count, parsed);
+        match addressee {
+            Addressee::All(n) => {
+                let reply = found_offices(offices, n, weights, logs);
+                offices = reply.offices;
+                printed = print(out, printed, reply.answer);
+            }
+            Addressee::One(k, command) => {
+                let record = offices.records[k];
+                let turn = office_turn(record, offices.lengths, k, command, logs, slots);
+                let next = turn.record;
+                let left = turn.lengths;
+                offices.records[k] = next;
+                offices.lengths = left;
+                printed = print(out, printed, turn.answer);
+            }
+            Addressee::Nobody => printed = print(out, printed, question()),
+        }
     }
 }
 
@@ -134,11 +121,11 @@ impl Rehearsal {
     // The eight logs and the four slots are lent; what is printed stands at the output's front.
     pub fn feed(
         self,
-        logs: &mut [u32; Rehearsal::LOGS],
-        slots: &mut [u8; Rehearsal::SLOTS],
+        logs: &mut Logs,
+        slots: &mut Slots,
         chunk: &[u8; Rehearsal::CHUNK],
         used: usize,
-        out: &mut [u8; Rehearsal::OUTPUT],
+        out: &mut Output,
     ) -> Fed
         ensures { λ f. ⌜ FedAs (feeds self (now (logs .entry)) (now (slots .entry)) (take used (now (chunk .entry)))) (now (out .entry)) f (now (logs .exit)) (now (slots .exit)) (now (out .exit)) ⌝ }
     {
@@ -148,12 +135,7 @@ impl Rehearsal {
     }
 
     // The end of the input: a line that is held lacks its newline, and is answered.
-    pub fn finish(
-        self,
-        logs: &mut [u32; Rehearsal::LOGS],
-        slots: &mut [u8; Rehearsal::SLOTS],
-        out: &mut [u8; Rehearsal::OUTPUT],
-    ) -> Fed
+    pub fn finish(self, logs: &mut Logs, slots: &mut Slots, out: &mut Output) -> Fed
         ensures { λ f. ⌜ FedAs (finishes self (now (logs .entry)) (now (slots .entry))) (now (out .entry)) f (now (logs .exit)) (now (slots .exit)) (now (out .exit)) ⌝ }
     {
         let last = self.held;

@@ -3,20 +3,19 @@ use borrow.Author.Needs.{needs}
 use mathlib.Core.Path.{_≡_}
 use native.Mathlib.Omega.{arith}
 use Prim.Native.Nat.{_+_, _-_, _*_}
-use Rattle.rehearsal.proofs.Says.{turn-lent}
 use Rattle.rehearsal.proofs.feeding.office_turn.Statement.{statement}
 use Rattle.rehearsal.proofs.feeding.office_turn.Tie as tie
 
 returns : tie.Need-returns
 returns c =
-    let turn = c .before .before .before .before .before in
-    let k = turn .before .before .before .before .before .before .args .k in
+    let turn = c .before .before in
+    let k = turn .before .before .before .before .args .k in
     let size = k * 1024 + 1024 - k * 1024 in
     let whole : size ≡ 1024 = omega arith in
     let e = turn .turn-at .ensures in
-    turn-lent _ k _ size _ _ _ whole (e .0) (e .1 .0) (e .1 .1)
+    (rw (e .0, whole), (rw (e .1 .0, whole), rw (e .1 .1, whole)))
 
 pub office-turn-spec : {M : Type 1} → statement M
 office-turn-spec =
     tie.close (tie.spec (λ c. search needs) (λ c. search needs) (λ c. search needs) (λ c. search needs) (λ c. search needs) (λ c. search needs)
-    (λ c. search needs) (λ c. search needs) (λ c κs. search needs) (λ c. search needs) (λ c. search needs) (λ c. search needs) returns)
+    (λ c κs. search needs) (λ c. search needs) returns)
