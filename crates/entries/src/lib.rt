@@ -33,13 +33,10 @@ fn offices(n: usize) -> u32
 pub fn proper(n: u32, line: u32, code: u32) -> bool
     ensures { λ r. ⌜ r ≡ proper n line code ⌝ }
 {
-    if code >= CODES {
-        return false;
-    }
     if line < LINES {
-        return true;
+        return code < CODES;
     }
-    (1 <= code) & (line - LINES < n)
+    (line - LINES < n) & ((1 <= code) & (code < CODES))
 }
 
 // Whether the word is the value of an entry for n offices: one that codes a line, or a move of weight. A walk that leaves at the first word that is
@@ -48,10 +45,7 @@ pub fn is_entry(word: u32, n: usize) -> bool
     ensures { λ r. ⌜ r ≡ isEntry n word ⌝ }
 {
     let m = offices(n);
-    if word / 16777216 >= m {
-        return false;
-    }
-    proper(m, word / 65536 % 256, word % 65536)
+    (word / 16777216 < m) & proper(m, word / 65536 % 256, word % 65536)
 }
 
 // The word's office, the upper two bits of its line and half its code, each raised so that a number past its limit carries into a bit
