@@ -1,8 +1,8 @@
 -- The election step, and the run of steps.
 --     winning            a winner is an entry, and the log has room for it
---     step-won, step-nobody      what the step answers and writes
+--     step-won, step-nobody, step-most   what the step answers and writes
 --     rule-voted         the rule's winner has a vote
---     Running            what a run of steps keeps; run-start, run-more, run-last, run-end; run-counts, counts-room of the counts beside it
+--     Running            what a run of steps keeps; run-start, run-more, run-last, run-end; run-counts, counts-room of the counts of the settled log
 -- Assumes nothing.
 use mathlib.Core.Path.{_≡_, refl, sym, ap, ap₂, subst₂, _∙_}
 use mathlib.Core.Bool.{true}
@@ -65,6 +65,15 @@ module _ (counts : List ℕ) (s : State) (words : List ℕ) where
   unfolding stepOf stepWords
   step-nobody w = (ap (λ (o : Option ℕ). next o s (settledBy s)) (sym w), ap (λ (o : Option ℕ). next o words (set words (s .held))) (sym w))
 
+  -- it settles one entry at most
+  pub step-most : stepOf counts s words .held ≤ s .held + 1
+  unfolding stepOf
+  step-most = most (winnerIn counts s words)
+    where
+      most : (w : Option ℕ) → next w s (settledBy s) .held ≤ s .held + 1
+      most (some e) = omega arith
+      most none = omega arith
+
 -- ── the step as the rule has it ──
 pub rule-voted : (kept : Kept) → NamesVoted (ruleBehind kept)
 rule-voted kept = byLog-voted (weightsAfter (kept .summary .present)) (quieter (kept .counts))
@@ -126,11 +135,6 @@ pub record Running (n : ℕ) (kept : Kept) (s₀ : State) (words₀ : List ℕ) 
   pub same : electedIn kept s₀ words₀ ≡ withElect (ruleBehind kept) (heldIn s words)
   pub others : words ≡ wordsWith (heldIn s words .log) words₀
   pub long : length words ≡ length words₀
-
--- beside counts that were those of the settled log at the start, and are those of it now
-abbrev pub Going : ℕ → State → List ℕ → List ℕ → State → List ℕ → List ℕ → Type 0
-Going n s₀ words₀ counts₀ s words counts =
-    (kept : Kept) → Electable n kept s₀ words₀ → counts₀ ≡ countsAfter (kept .counts) (take (s₀ .held) words₀) → Running n kept s₀ words₀ s words × (counts ≡ countsAfter (kept .counts) (take (s .held) words))
 
 pub run-start : (n : ℕ) (kept : Kept) (s : State) (words : List ℕ) → Electable n kept s words → Running n kept s words s words
 run-start n kept s words E = record {

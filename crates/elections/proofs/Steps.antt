@@ -1,9 +1,9 @@
 -- The two walks of an election step over the ballots, each up to place n, behind which every ballot is none.
---     votes-step                 a turn of the first, which gathers the votes; votes-silent there are none from place n on
+--     votes-step                 a turn of the first, which gathers the votes
+--     votes-silent               there are none from place n on
 --     won-by, won-nobody         who wins by them
 --     shape-here                 the ballot that the second walk is at
 --     lost-first, lost-rival, lost-keep      a turn of it: a ballot for the settled entry, for another, and none
---     next-turn                  and what it leaves of the state
 --     lost-end                   after its last turn
 -- Assumes nothing.
 use mathlib.Core.Path.{_≡_, refl, sym, ap, ap₂, subst, _∙_}
@@ -32,7 +32,7 @@ use Rattle.tallies.specs.declared.Winner.{Winner}
 use Rattle.tallies.specs.declared.Winner.the-variants.{Entry, Nobody}
 use Rattle.tallies.proofs.Walks.{winner-some, winner-none}
 use Rattle.tallies.proofs.Cells.{vote-none, cast-vote, lost-for, lost-other, lost-none}
-use Rattle.elections.specs.Elections.{heldIn, Steppable, winnerIn}
+use Rattle.elections.specs.Elections.{heldIn, Steppable, votesTo, winnerIn}
 use Rattle.elections.specs.declared.State.{State}
 
 drop-replicate : {A : Type 0} (i n : ℕ) (a : A) → drop i (replicate n a) ≡ replicate (n - i) a
@@ -74,41 +74,29 @@ Gathered bs vs i = vs ≡ filled (map cast bs) (replicate 8 noVote) i
 abbrev pub Settling : ℕ → List Ballot → List Ballot → ℕ → Type 0
 Settling e bs xs i = xs ≡ filled (map (lost e) bs) bs i
 
--- the state with these ballots
-abbrev pub withBallots : State → List Ballot → State
-withBallots s bs = record { summary = s .summary; held = s .held; ballots = bs }
-
--- a turn that makes xs of the ballots leaves the rest of the state
-pub next-turn : (s next out : State) (e : ℕ) (bs : List Ballot) (k : ℕ) → next ≡ withBallots s (next .ballots) → (xs : List Ballot) → out ≡ withBallots next xs → Settling e bs xs k
-    → (out ≡ withBallots s (out .ballots)) × Settling e bs (out .ballots) k
-next-turn s next out e bs k p xs q t =
-    let made = q ∙ ap (λ (x : State). withBallots x xs) p in
-    let same = ap (λ (x : State). x .ballots) made in
-    (made ∙ ap (withBallots s) (sym same), same ∙ t)
+pub votes-step : (bs : List Ballot) → length bs ≡ 8 → (vs : List ℕ) (i : ℕ) → Gathered bs vs i → i < 8 → (v : ℕ) → v ≡ cast (getD bs i offEnd) → Gathered bs (set vs i v) (i + 1)
+votes-step bs l vs i inv h v q =
+    ap₂ (λ (l : List ℕ) (x : ℕ). set l i x) inv (q ∙ sym (getD-map cast offEnd bs i)) ∙
+    front-step noVote (map cast bs) (replicate 8 noVote) i (omega (arith, length-map bs cast, l)) (omega (arith, length-replicate {A = ℕ} 8 noVote))
 
 module _ (n : ℕ) (s : State) (words : List ℕ) (S : Steppable n s words) where
   -- ── the votes ──
-  pub votes-step : (vs : List ℕ) (i : ℕ) → Gathered (s .ballots) vs i → i < n → (v : ℕ) → v ≡ cast (getD (s .ballots) i offEnd) → Gathered (s .ballots) (set vs i v) (i + 1)
-  votes-step vs i inv h v q =
-      let m = S .few in
-      ap₂ (λ (l : List ℕ) (x : ℕ). set l i x) inv (q ∙ sym (getD-map cast offEnd (s .ballots) i)) ∙
-      front-step noVote (map cast (s .ballots)) (replicate 8 noVote) i (omega (arith, length-map (s .ballots) cast, S .eight)) (omega (arith, length-replicate {A = ℕ} 8 noVote))
+  module _ (vs : List ℕ) (q : vs ≡ votesTo n (s .ballots)) where
+    votes-all : vs ≡ map cast (s .ballots)
+    votes-all =
+        q ∙ fill-rest (map cast (s .ballots)) (replicate 8 noVote) n
+        (drop-replicate n 8 noVote ∙ ap (λ (k : ℕ). replicate k noVote) left ∙ none-cast (drop n (s .ballots)) (S .rest) ∙ sym (drop-map cast n (s .ballots)))
+      where
+        left : 8 - n ≡ length (drop n (s .ballots))
+        left = rw (length-drop, S .eight)
 
-  votes-end : (vs : List ℕ) (i : ℕ) → Gathered (s .ballots) vs i → i ≡ n → vs ≡ map cast (s .ballots)
-  votes-end vs i inv e =
-      inv ∙ ap (filled (map cast (s .ballots)) (replicate 8 noVote)) e ∙
-      fill-rest (map cast (s .ballots)) (replicate 8 noVote) n (drop-replicate n 8 noVote ∙ ap (λ (k : ℕ). replicate k noVote) left ∙ none-cast (drop n (s .ballots)) (S .rest) ∙ sym (drop-map cast n (s .ballots)))
-    where
-      left : 8 - n ≡ length (drop n (s .ballots))
-      left = rw (length-drop, S .eight)
-
-  -- the votes from place n on
-  pub votes-silent : (vs : List ℕ) (i : ℕ) → Gathered (s .ballots) vs i → i ≡ n → SilentFrom n vs
-  votes-silent vs i inv e = (
-    S .few,
-    ap (λ (l : List ℕ). allB (eqb noVote) (drop n l)) (votes-end vs i inv e) ∙
-        ap (allB (eqb noVote)) (drop-map cast n (s .ballots) ∙ sym (none-cast (drop n (s .ballots)) (S .rest))) ∙ all-silent (length (drop n (s .ballots))),
-  )
+    -- the votes from place n on
+    pub votes-silent : SilentFrom n vs
+    votes-silent = (
+      S .few,
+      ap (λ (l : List ℕ). allB (eqb noVote) (drop n l)) votes-all ∙
+          ap (allB (eqb noVote)) (drop-map cast n (s .ballots) ∙ sym (none-cast (drop n (s .ballots)) (S .rest))) ∙ all-silent (length (drop n (s .ballots))),
+    )
 
   entries : allB (λ (b : Ballot). allB (isEntry n) (tailOf b)) (s .ballots) ≡ true
   entries = all-mono (ballotFine n (s .held)) (λ (b : Ballot). allB (isEntry n) (tailOf b)) (λ b f. B.fine n (s .held) b f .entries) (s .ballots) (S .fine)
@@ -123,10 +111,10 @@ module _ (n : ℕ) (s : State) (words : List ℕ) (S : Steppable n s words) wher
           cast-vote n (getD (s .ballots) k offEnd) (all-getD (λ (b : Ballot). allB (isEntry n) (tailOf b)) offEnd (s .ballots) k entries refl) ∙
           ap first (sym (B.tail-at (s .ballots) k))
 
-  -- what the winner that is found by the gathered votes says
-  module _ (cs vs : List ℕ) (i : ℕ) (inv : Gathered (s .ballots) vs i) (e : i ≡ n) (w : Winner) (q : w ≡ winnerIs (winner (s .summary .present) (quieterBy cs) (votesIn vs))) where
+  -- what the winner that is found by these votes says
+  module _ (cs vs : List ℕ) (v : vs ≡ votesTo n (s .ballots)) (w : Winner) (q : w ≡ winnerIs (winner (s .summary .present) (quieterBy cs) (votesIn vs))) where
     winner-of : winnerIs (winnerIn cs s words) ≡ w
-    winner-of = sym (q ∙ ap (λ (v : Votes). winnerIs (winner (s .summary .present) (quieterBy cs) v)) (ap votesIn (votes-end vs i inv e) ∙ cast-votes))
+    winner-of = sym (q ∙ ap (λ (x : Votes). winnerIs (winner (s .summary .present) (quieterBy cs) x)) (ap votesIn (votes-all vs v) ∙ cast-votes))
 
     pub won-by : (f : ℕ) → w ≡ Entry f → winnerIn cs s words ≡ some f
     won-by f p = winner-some (winnerIn cs s words) f (winner-of ∙ p)

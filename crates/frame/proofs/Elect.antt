@@ -50,36 +50,23 @@ dropped r words = refl
 elected-fine : (r : Record) (words : List ℕ) → Sound r words → FoldedFine (r .n) (r .own) (electedOf r words)
 elected-fine r words S = folded-elect-fine (ruleOf r) (rule-voted r) (r .n) (r .own) (foldedBy r words) (folded-fine r words S)
 
--- x is what elections make of the record's state s
-module _ (r : Record) (words : List ℕ) (e : soundB r words ≡ true) (s : State) (q : s ≡ stateIn r) (x : State) (p : x ≡ stateOf (r .kept) (electedIn (r .kept) s words)) where
+-- x is what elections make of the record's state, `count` entries longer
+module _ (r : Record) (words : List ℕ) (e : soundB r words ≡ true) (x : State) (p : x ≡ stateOf (r .kept) (electedIn (r .kept) (stateIn r) words)) where
   elected : x ≡ stateOf (r .kept) (electedOf r words .held)
   unfolding withFoldedElect
-  elected = p ∙ ap (λ (y : State). stateOf (r .kept) (electedIn (r .kept) y words)) q
+  elected = p
 
-  -- the held length has not become less
-  pub elect-longer : heldLength r ≤ x .held
-  unfolding withFoldedElect
-  elect-longer =
-      let g = elect-log (ruleOf r) (heldBy r words) in
-      omega (arith, ap (λ (y : State). y .held) elected, ap length (g .1), length-append (heldBy r words .log) (g .0), log-length r words (sound r words e))
-
-  -- and fits
-  pub elect-fits : r .kept .dropped + x .held < 18446744073709551616
-  elect-fits =
-      let S = sound r words e in
-      omega (arith, ap (λ (y : State). y .held) elected, elected-fine r words S .held .most, longest r words S, S .within)
-
-  pub elect-made : (next : Record) → next ≡ withState r (r .kept) x → (last : List ℕ) → last ≡ wordsWith (electedIn (r .kept) s words .log) words → (held : ℕ) → held ≡ heldLength r
-      → (_≡_ {A = Elected} (record { «record» = next; number = 0; count = x .held - held }) (electOf r words)) × (last ≡ electWords r words)
+  pub elect-made : (next : Record) → next ≡ withState r x → (last : List ℕ) → last ≡ wordsWith (electedIn (r .kept) (stateIn r) words .log) words
+      → (count : ℕ) → heldLength r + count ≡ x .held → (_≡_ {A = Elected} (record { «record» = next; number = 0; count = count }) (electOf r words)) × (last ≡ electWords r words)
   unfolding electOf electWords withFoldedElect pick
-  elect-made next n last w held h =
-      (rw e (λ i. record { «record» = (n ∙ ap (withState r (r .kept)) elected ∙ kept) i; number = 0; count = count i }), rw e (w ∙ ap (λ (y : State). wordsWith (electedIn (r .kept) y words .log) words) q))
+  elect-made next n last w count h =
+      (rw e (λ i. record { «record» = (n ∙ ap (withState r) elected ∙ kept) i; number = 0; count = grown i }), rw e w)
     where
       kept : holdingBehind r (r .kept) (electedOf r words) ≡ holding r words (electedOf r words)
       kept = ap (λ (k : Kept). holdingBehind r k (electedOf r words)) (sym (kept-stays r words (sound r words e) (electedOf r words) refl))
 
-      count : x .held - held ≡ electCount (ruleOf r) (heldBy r words)
-      count = ap₂ (λ (a b : ℕ). a - b) (ap (λ (y : State). y .held) elected) (h ∙ sym (log-length r words (sound r words e)))
+      grown : count ≡ electCount (ruleOf r) (heldBy r words)
+      grown = omega (arith, h, ap (λ (y : State). y .held) elected, log-length r words (sound r words e))
 
 -- ── what elect leaves ──
 pub elect-zero : (r : Record) (words : List ℕ) → soundB r words ≡ true → electOf r words .number ≡ 0

@@ -8,5 +8,6 @@ pub mod Issue
 pub mod Send
 pub mod Sound
 pub mod State
+pub mod Steps
 pub mod Take
 pub mod Work

@@ -33,16 +33,16 @@ abbrev pub withHeld : Record → Kept → List ℕ → Summary → ℕ → List 
 withHeld r kept noted summary settled ballots =
     record { n = r .n; own = r .own; weights = r .weights; kept = kept; noted = noted; summary = summary; settled = settled; ballots = ballots }
 
--- with another state behind what is kept, and the state that the record has: what elections change
-abbrev pub withState : Record → Kept → State → Record
-withState r kept s = withHeld r kept (r .noted) (s .summary) (kept .dropped + s .held) (s .ballots)
+-- with another state, and the state that the record has: what elections change
+abbrev pub withState : Record → State → Record
+withState r s = withHeld r (r .kept) (r .noted) (s .summary) (r .kept .dropped + s .held) (s .ballots)
 
 abbrev pub stateIn : Record → State
 stateIn r = record { summary = r .summary; held = heldLength r; ballots = r .ballots }
 
--- with other noted lengths
-abbrev pub withNoted : Record → List ℕ → Record
-withNoted r noted = withHeld r (r .kept) noted (r .summary) (r .settled) (r .ballots)
+-- with other kept values and other noted lengths: what a take changes besides
+abbrev pub withKept : Record → Kept → List ℕ → Record
+withKept r kept noted = withHeld r kept noted (r .summary) (r .settled) (r .ballots)
 
 -- with another own ballot, and the own ballot
 abbrev pub withOwn : Record → Ballot → Record

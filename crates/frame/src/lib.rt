@@ -3,7 +3,7 @@
 ghost use mathlib.Core.Path.{_≡_};
 ghost use Rattle.frame.specs.Soundness.{soundB};
 ghost use Prim.Native.Nat.{_+_, _<_, _≤_};
-ghost use Rattle.frame.specs.State.{heldLength, stateIn, withState, ownBallot, withOwn};
+ghost use Rattle.frame.specs.State.{heldLength, stateIn, withKept, withState, ownBallot, withOwn};
 use ballots::Ballot;
 use elections::State;
 use kept::Kept;
@@ -75,7 +75,17 @@ impl Record {
         (self.settled - self.kept.dropped) as usize
     }
 
-    // What takes and elections change of the record, and the record with that changed, behind what is kept.
+    // The record with other kept values and other noted lengths: what a take changes besides.
+    fn with_kept(self, kept: Kept, noted: [u64; 8]) -> Record
+        ensures { λ r. ⌜ r ≡ withKept self kept noted ⌝ }
+    {
+        let mut next = self;
+        next.kept = kept;
+        next.noted = noted;
+        next
+    }
+
+    // What takes and elections change of the record, and the record with that changed.
     fn state(self) -> State
         requires { ⌜ self .kept .dropped ≤ self .settled ⌝ }
         ensures { λ r. ⌜ r ≡ stateIn self ⌝ }
@@ -89,16 +99,15 @@ impl Record {
         }
     }
 
-    fn with_state(self, kept: Kept, state: State) -> Record
-        requires { ⌜ kept .dropped + state .held < 18446744073709551616 ⌝ }
-        ensures { λ r. ⌜ r ≡ withState self kept state ⌝ }
+    fn with_state(self, state: State) -> Record
+        requires { ⌜ self .kept .dropped + state .held < 18446744073709551616 ⌝ }
+        ensures { λ r. ⌜ r ≡ withState self state ⌝ }
     {
         let summary = state.summary;
         let ballots = state.ballots;
         let mut next = self;
-        next.kept = kept;
         next.summary = summary;
-        next.settled = kept.dropped + state.held as u64;
+        next.settled = self.kept.dropped + state.held as u64;
         next.ballots = ballots;
         next
     }

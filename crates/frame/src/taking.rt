@@ -26,12 +26,11 @@ impl Record {
         let m = reading::read(msg);
         let head = m.head;
         let rest = &msg[head..];
-        let n = self.n;
         let own = self.own;
         let weights = self.weights;
         let kept = self.kept;
         let held = self.held();
-        let checked = intake::check(n, own, weights, kept.dropped, &log[..], held, rest, m);
+        let checked = intake::check(self.n, own, weights, kept.dropped, &log[..], held, rest, m);
         let number = checked.number;
         let places = checked.places;
         if number != 0 {
@@ -44,8 +43,8 @@ impl Record {
         let taken = intake::take_in(log, self.state(), kept, own, rest, m);
         let lengths = self.noted;
         let noted = noting::noted(lengths, m.sender, m.dropped + m.held as u64);
-        let mut next = self.with_state(taken.kept, taken.state);
-        next.noted = noted;
+        let behind = self.with_kept(taken.kept, noted);
+        let next = behind.with_state(taken.state);
         Taken {
             record: next,
             number: 0,

@@ -10,7 +10,9 @@ use Rattle.reading.proofs.Answers.{rest-of-message}
 use Rattle.frame.specs.Soundness.{Sound}
 use Rattle.lists.specs.Tests.{pick}
 use Rattle.comparing.specs.FromEnd.{compares}
+use Rattle.frame.specs.State.{withState}
 use Rattle.frame.specs.Taking.{takeNumber, takePlaces}
+use Rattle.frame.specs.declared.Record.{Record}
 use Rattle.frame.proofs.Sound.{sound}
 use Rattle.frame.proofs.Take.{not-sound, no-places, number-found, places-found, head-within, log-within, take-refused}
 use Rattle.frame.proofs.Work.{ready, ready-in, length-fits, state-fits, take-made}
@@ -82,15 +84,17 @@ noted-requires c κs = let e = accepted (worked c) in ready _ _ _ _ (done e) (re
 
 with-state-requires : tie.Need-with-state-requires
 with-state-requires c κs =
-    let w = worked (c .before) in
+    let w = worked (c .before .before) in
     let e = accepted w in
-    state-fits _ _ _ _ (done e) (read (e .before .before) .read .ensures) _ (w .before .state .ensures) _ _ (w .take-in .ensures .0) (w .take-in .ensures .1)
+    let fits = state-fits _ _ _ _ (done e) (read (e .before .before) .read .ensures) _ (w .before .state .ensures) _ _ (w .take-in .ensures .0) (w .take-in .ensures .1) in
+    omega (arith, fits, ap (λ (y : Record). y .kept .dropped) (c .with-kept .ensures))
 
 returns-3 : tie.Need-returns-3
 returns-3 c =
-    let w = worked (c .before .before) in
+    let w = worked (c .before .before .before) in
     let e = accepted w in
-    take-made _ _ _ _ (done e) (read (e .before .before) .read .ensures) _ (w .before .state .ensures) _ _ (w .take-in .ensures .0) (w .take-in .ensures .1) _ (placed (e .before)) _ (c .before .noted .ensures) _ (c .with-state .ensures)
+    take-made _ _ _ _ (done e) (read (e .before .before) .read .ensures) _ (w .before .state .ensures) _ _ (w .take-in .ensures .0) (w .take-in .ensures .1) _ (placed (e .before)) _ (c .before .before .noted .ensures) _
+    (c .with-state .ensures ∙ ap (λ (y : Record). withState y (w .take-in .result .state)) (c .before .with-kept .ensures))
 
 pub take-spec : {M : Type 1} → statement M
 take-spec =
@@ -98,4 +102,4 @@ take-spec =
     (tie.spec (λ c κs. search needs) (λ c. search needs) returns (λ c κs. search needs) (λ c. omega (arith, within c)) (λ c. let h = within c in search needs) (λ c. search needs)
     (λ c κs. sounds (tested (c .before .before .before)) .within) check-requires (λ c. search needs)
     (λ c. take-refused _ _ _ _ _ (numbered (c .before)) (placed (c .before)) (c .if2 .taken)) (λ c κs. sounds (tested (read (c .before .before .before))) .within) take-in-requires add-noted
-    noted-requires with-state-requires (λ c. search needs) returns-3)
+    noted-requires (λ c κs. search needs) with-state-requires (λ c. search needs) returns-3)
