@@ -13,10 +13,11 @@ use native.Mathlib.Nat.{not-suc-le-zero, le-of-suc-le-suc}
 use native.Mathlib.Numerals.{add-one}
 use native.Mathlib.Omega.{arith}
 use lib.Dec.{ltb}
-use lib.ListN.{length, getD, take, drop, set, replicate, length-append, length-drop, length-set, drop-of-length-le, List·getD-append}
+use lib.ListN.{length, getD, take, drop, set, replicate, length-append, length-drop, length-set, drop-of-length-le}
 use lib.Seq.{take-suc-set, drop-set-lt, length-take-le, take-all, take-append-le, drop-append-le, take-append-add, take-append-seam, set-append-left, take-at}
 use borrow.Author.Tests.{ne-eqb, eq-eqb, le-ltb, lt-ltb, ltb-true, ltb-false}
 use Rattle.lists.specs.Tests.{pick}
+use Rattle.lists.proofs.Padded.{padded-at}
 use Rattle.lists.proofs.Walk.{rest-step}
 use Rattle.tabulation.specs.Rows.{pool, totalOf}
 use Rattle.tabulation.specs.Cells.{noRow, cellsOf, rowsOf, held, placeOf, poolInto, RoomFor}
@@ -155,7 +156,7 @@ cells-insert xs at r a h = (long, whole)
 -- a row of the list is the array's
 cell-at : (xs : List Row) (i : ℕ) → i < length xs → getD (cellsOf xs) i noRow ≡ getD xs i noRow
 unfolding cellsOf
-cell-at xs i h = List·getD-append xs (replicate (64 - length xs) noRow) noRow i h
+cell-at xs i h = padded-at 64 noRow xs i h
 
 row-total : (xs : List Row) (i : ℕ) → i < length xs → getD xs i noRow .total ≤ totalOf xs
 unfolding totalOf
