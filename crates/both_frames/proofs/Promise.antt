@@ -73,7 +73,8 @@ edit-shows r words line code low q =
     (sym (ap (λ (p : List ℕ). editIs (editAfter line (keptEdit r' line) p)) shown ∙ ap editIs (last-issued (r .own) line code (keptEdit r' line) (path (heldBy r words) (r .own)) low (I .code-ok))))
     ∙ frame-shown r' words line (path (heldBy r' words) (r' .own)) (sound-true r' words (issue-sound r words line code q)))
 
-frame-same : (r r' : Record) (words : List ℕ) (line : ℕ) (p p' : List ℕ) → soundB r' words ≡ soundB r words → keptEdit r' line ≡ keptEdit r line → p' ≡ p → frameOf r' words line p' ≡ frameOf r words line p
+frame-same : (r r' : Record) (words : List ℕ) (line : ℕ) (p p' : List ℕ) → soundB r' words ≡ soundB r words → keptEdit r' line ≡ keptEdit r line → p' ≡ p
+    → frameOf r' words line p' ≡ frameOf r words line p
 unfolding frameOf
 frame-same r r' words line p p' s k e = λ i. pick (s i) (shownIn line (k i) (e i)) (refusedFrame 1)
 

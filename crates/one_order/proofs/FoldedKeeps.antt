@@ -40,7 +40,8 @@ replicate-cases P (suc n) x d zero p q = p
 replicate-cases P (suc n) x d (suc i) p q = replicate-cases P n x d i p q
 
 -- the entries dropped by then are as many as the count says
-leaving-counted : (d : Desk) (f : FoldedOffice) → d .now .dropped ≡ length (d .former) → d .now .dropped ≤ f .dropped → f .dropped ≤ settledLength (d .now .dropped) (d .now .held) → f .dropped ≡ length (leaving d f .former)
+leaving-counted : (d : Desk) (f : FoldedOffice) → d .now .dropped ≡ length (d .former) → d .now .dropped ≤ f .dropped
+    → f .dropped ≤ settledLength (d .now .dropped) (d .now .held) → f .dropped ≡ length (leaving d f .former)
 leaving-counted d f c low high =
     omega (arith, length-append (d .former) (L.take (f .dropped - d .now .dropped) (d .now .held .log)), length-take (f .dropped - d .now .dropped) (d .now .held .log))
 
@@ -122,7 +123,8 @@ module _ (founding : List ℕ) (n : ℕ) (pos : 0 < n) where
       held j b (inl e) = subst Keeps (sym e) (s .kept j b)
       held j b (inr e) = subst Keeps (sym (e .2)) (leaving-kept founding (deskAt w k) f (s .kept k (omega (arith, e .0))))
 
-  take-follow : (w : World) (k i : ℕ) (s : Sound founding n w) (x : Option Posted) → getElem? (w .sent) i ≡ x → refuseTaking k x (deskAt w k .now) ≡ 0 → Follow w (put w k (taking k x (deskAt w k .now)))
+  take-follow : (w : World) (k i : ℕ) (s : Sound founding n w) (x : Option Posted) → getElem? (w .sent) i ≡ x → refuseTaking k x (deskAt w k .now) ≡ 0
+      → Follow w (put w k (taking k x (deskAt w k .now)))
   take-follow w k i s none e h = put-follow w k (deskAt w k .now) s (same-fit n (lengths w) (deskAt w k) (deskAt w k .now) refl refl (s .desks k))
   take-follow w k i s (some m) e h =
       put-follow w k (withFoldedTake k (m .message) (deskAt w k .now)) s

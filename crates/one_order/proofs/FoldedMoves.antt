@@ -74,7 +74,8 @@ module _ (founding : List ℕ) (n : ℕ) (pos : 0 < n) (w : World) (s : Sound fo
       next : World
       next = put w k (withFoldedIssue k (value k line code) (deskAt w k .now))
 
-      go : (a : Bool) → isThere w k ≡ a → (b : Bool) → eqb (refuseFoldedIssue (length (w .desks)) k line code (deskAt w k .now)) 0 ≡ b → view (cond (a && b) next w) ≡ stepP rule (view w) (cond b (P.issue k line code) P.idle)
+      go : (a : Bool) → isThere w k ≡ a → (b : Bool) → eqb (refuseFoldedIssue (length (w .desks)) k line code (deskAt w k .now)) 0 ≡ b
+          → view (cond (a && b) next w) ≡ stepP rule (view w) (cond b (P.issue k line code) P.idle)
       go true p false q = step-idle rule (view w)
       go false p false q = step-idle rule (view w)
       go false p true q = step-unnamed rule (view w) (P.issue k line code) (view-there w k ∙ p)

@@ -23,9 +23,9 @@ pub office-trans : (j : ℕ) (a b c : Office) → OfficeMoves j a b → OfficeMo
 office-trans j a b c = moves-trans (a .log) (path a j) (b .log) (path b j) (c .log) (path c j)
 
 -- ── least ──
-kept-least : (l p l' p' l″ p″ : List ℕ) → PathUnder l' p p' → l' ⊑ l″ → Moves l p l″ p″ → Moves l' p' l″ p″
-kept-least l p l' p' l″ p″ (inl e) h a = (h, λ x. rw e (a .1 (rw e at x)))
-kept-least l p l' p' l″ p″ (inr e) h a = (h, λ x. absurd (⊏-irrefl l″ (⊏-⊑-trans l″ l' l″ (subst (λ (z : List ℕ). l″ ⊏ z) (e .0) x) h)))
+under-least : (l p l' p' l″ p″ : List ℕ) → PathUnder l' p p' → l' ⊑ l″ → Moves l p l″ p″ → Moves l' p' l″ p″
+under-least l p l' p' l″ p″ (inl e) h a = (h, λ x. rw e (a .1 (rw e at x)))
+under-least l p l' p' l″ p″ (inr e) h a = (h, λ x. absurd (⊏-irrefl l″ (⊏-⊑-trans l″ l' l″ (subst (λ (z : List ℕ). l″ ⊏ z) (e .0) x) h)))
 
 offered-least : (l p q r l″ p″ : List ℕ) → Offered q p r → Moves l p l″ p″ → (l″ ⊏ q → q ⊑ p″) → Moves l r l″ p″
 offered-least l p q r l″ p″ (inl e) a b = (a .0, λ x. rw e (a .1 (rw e at x)))
@@ -74,7 +74,7 @@ module _ (k : ℕ) (m : Message) (o : Office) (j : ℕ) (other : j ≡ k → ⊥
   pub take-least : (r : Office) → OfficeMoves j o r → OfficeMoves j (m .state) r → OfficeMoves j (withTake k m o) r
   unfolding withTake
   take-least r a b = offered-least (o₁ .log) (path o₁ j) (path (m .state) j) (path (withTake k m o) j) (r .log) (path r j) offered
-      (kept-least (o .log) (path o j) (o₁ .log) (path o₁ j) (r .log) (path r j) (catchUp-path l o j) (catchUp-low l o (r .log) (a .0) (b .0)) a) (b .1)
+      (under-least (o .log) (path o j) (o₁ .log) (path o₁ j) (r .log) (path r j) (catchUp-path l o j) (catchUp-low l o (r .log) (a .0) (b .0)) a) (b .1)
     where
       l : List ℕ
       l = m .state .log

@@ -151,7 +151,8 @@ module _ (r : Record) (words : List ℕ) where
       (gone-within r words S) (subst (OfficeMoves (r .own) o) (sym folded-held) (moves-refl (o .log) (path o (r .own))))
 
   -- what fold holds is what was held, without what it dropped
-  pub fold-same : soundB r words ≡ true → (M : Moved r words (foldOf r words .«record») (foldWords r words)) × (heldBy (foldOf r words .«record») (foldWords r words) ≡ shorn (M .gone) (heldBy r words))
+  pub fold-same : soundB r words ≡ true
+      → (M : Moved r words (foldOf r words .«record») (foldWords r words)) × (heldBy (foldOf r words .«record») (foldWords r words) ≡ shorn (M .gone) (heldBy r words))
   unfolding leaves fold-moved
   fold-same e = (fold-moved (sound r words e) e, ap (λ (f : F.FoldedOffice). f .held) (fold-state r words (fold-zero r words e)) ∙ folded-held)
 

@@ -107,9 +107,9 @@ shorn-path : (c : ℕ) (o : Office) (j : ℕ) → c ≤ length (o .log) → c + 
 shorn-path c o j h = omega (arith, path-length o j, path-length (shorn c o) j, length-drop c (o .log))
 
 -- ── how long paths get ──
-kept-short : (b : ℕ) (l q p : List ℕ) → length l ≤ b → length q ≤ b → PathUnder l q p → length p ≤ b
-kept-short b l q p x y (inl e) = omega (arith, ap length e)
-kept-short b l q p x y (inr e) = omega (arith, ap length (e .0))
+under-short : (b : ℕ) (l q p : List ℕ) → length l ≤ b → length q ≤ b → PathUnder l q p → length p ≤ b
+under-short b l q p x y (inl e) = omega (arith, ap length e)
+under-short b l q p x y (inr e) = omega (arith, ap length (e .0))
 
 offered-short : (b : ℕ) (q p r : List ℕ) → length q ≤ b → length p ≤ b → Offered q p r → length r ≤ b
 offered-short b q p r x y (inl e) = omega (arith, ap length e)
@@ -126,7 +126,7 @@ catchUp-short : (b : ℕ) (new : List ℕ) (o : Office) → length new ≤ b →
 unfolding catchUp
 catchUp-short b new o x h j =
     if-cases (λ r. length (path r j) ≤ b) (extends new (o .log)) (rebase new o) o
-    (λ e. kept-short b new (path o j) (path (rebase new o) j) x (h j) (rebase-path new o j (⊏-⊑ (o .log) new (extends-true new (o .log) e))))
+    (λ e. under-short b new (path o j) (path (rebase new o) j) x (h j) (rebase-path new o j (⊏-⊑ (o .log) new (extends-true new (o .log) e))))
     (λ _. h j)
 
 take-short : (b k : ℕ) (m : Message) (o : Office) → Short b (m .state) → Short b o → Short b (withTake k m o)
@@ -156,7 +156,7 @@ electing-short b rule law (suc fuel) o h j =
     next-cases (λ r. length (path r j) ≤ b) (rule (o .log) (votes o)) o (λ e. electing rule fuel (settle e o)) (h j)
     (λ e q. let v = law (o .log) (votes o) e q in
     electing-short b rule law fuel (settle e o)
-    (λ i. kept-short b (o .log ++ (e ∷ [])) (path o i) (path (settle e o) i) (vote-short b o (v .0) e h (v .1)) (h i) (settle-path e o i)) j)
+    (λ i. under-short b (o .log ++ (e ∷ [])) (path o i) (path (settle e o) i) (vote-short b o (v .0) e h (v .1)) (h i) (settle-path e o i)) j)
 
 elect-short : (b : ℕ) (rule : Rule) → NamesVoted rule → (o : Office) → Short b o → Short b (withElect rule o)
 unfolding withElect
@@ -193,7 +193,8 @@ folded-issue-fine n k line code f x h m r =
     e = value k line code
 
     go : (j : ℕ) → (settledLength (f .dropped) (f .held) + length (tail (f .held) k) ≡ lengthLimit → ⊥)
-        → (path (withIssue k e (f .held)) j ≡ path (f .held) j) ⊎ ((j ≡ k) × (path (withIssue k e (f .held)) j ≡ path (f .held) j ++ (e ∷ []))) → f .dropped + length (path (withIssue k e (f .held)) j) ≤ lengthLimit
+        → (path (withIssue k e (f .held)) j ≡ path (f .held) j) ⊎ ((j ≡ k) × (path (withIssue k e (f .held)) j ≡ path (f .held) j ++ (e ∷ [])))
+        → f .dropped + length (path (withIssue k e (f .held)) j) ≤ lengthLimit
     go j d (inl q) = omega (arith, ap length q, x .short j)
     go j d (inr q) =
         let a : length (path (f .held) j) ≡ length (path (f .held) k) = ap (λ (i : ℕ). length (path (f .held) i)) (q .0) in

@@ -187,7 +187,8 @@ module _ (k : ℕ) (m : Packet) (f : FoldedOffice) where
       go false p false q false r x = record { other = eqb-false (m .sender) k p; reaches = ltb-false _ _ q; lasts = ltb-false _ _ r; agrees = x }
 
   -- 10 is met behind both dropped parts
-  pub take-ten : refuseFoldedTake k m f ≡ 10 → (m .dropped ≤ settledLength (f .dropped) (f .held)) × (f .dropped ≤ settledLength (m .dropped) (m .state)) × (refuseTake k (fromThere m f) (caughtUp m f) ≡ 10)
+  pub take-ten : refuseFoldedTake k m f ≡ 10
+      → (m .dropped ≤ settledLength (f .dropped) (f .held)) × (f .dropped ≤ settledLength (m .dropped) (m .state)) × (refuseTake k (fromThere m f) (caughtUp m f) ≡ 10)
   unfolding refuseFoldedTake pick
   take-ten h = go (eqb (m .sender) k) (beginsPast m f) refl (endsInside m f) refl h
     where

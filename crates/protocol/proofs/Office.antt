@@ -102,9 +102,9 @@ moves-trans l p l' p' l″ p″ a b = (
       ⊑-trans p p' p″ s (b .1 (⊏-⊑-trans l″ p p' h s)),
 )
 
-kept-moves : (l l' p p' : List ℕ) → l ⊑ l' → PathUnder l' p p' → Moves l p l' p'
-kept-moves l l' p p' a (inl e) = (a, λ h. rw e (⊑-refl p))
-kept-moves l l' p p' a (inr e) = (a, λ h. absurd (e .1 h))
+under-moves : (l l' p p' : List ℕ) → l ⊑ l' → PathUnder l' p p' → Moves l p l' p'
+under-moves l l' p p' a (inl e) = (a, λ h. rw e (⊑-refl p))
+under-moves l l' p p' a (inr e) = (a, λ h. absurd (e .1 h))
 
 offered-moves : (l q p r : List ℕ) → Offered q p r → Moves l p l r
 offered-moves l q p r (inl e) = (⊑-refl l, λ h. rw e (⊑-refl p))
@@ -138,7 +138,7 @@ unfolding catchUp
 catchUp-moves l o j =
     if-cases (λ r. OfficeMoves j o r) (extends l (o .log)) (rebase l o) o
     (λ e. let h : o .log ⊑ l = ⊏-⊑ (o .log) l (extends-true l (o .log) e) in
-    unfold rebase in kept-moves (o .log) l (path o j) (path (rebase l o) j) h (rebase-path l o j h))
+    unfold rebase in under-moves (o .log) l (path o j) (path (rebase l o) j) h (rebase-path l o j h))
     (λ e. moves-refl (o .log) (path o j))
 
 pub take-moves : (k : ℕ) (m : Message) (o : Office) (j : ℕ) → OfficeMoves j o (withTake k m o)
@@ -153,7 +153,7 @@ take-moves k m o j =
 pub settle-moves : (e : ℕ) (o : Office) (j : ℕ) → OfficeMoves j o (settle e o)
 unfolding settle
 settle-moves e o j =
-    kept-moves (o .log) (o .log ++ (e ∷ [])) (path o j) (path (settle e o) j) (⊑-append (o .log) (e ∷ [])) (settle-path e o j)
+    under-moves (o .log) (o .log ++ (e ∷ [])) (path o j) (path (settle e o) j) (⊑-append (o .log) (e ∷ [])) (settle-path e o j)
 
 pub next-cases : (P : Office → Type 0) (r : Option ℕ) (o : Office) (go : ℕ → Office) → P o → ((e : ℕ) → r ≡ some e → P (go e)) → P (next r o go)
 next-cases P none o go a b = a

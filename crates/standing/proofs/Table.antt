@@ -123,7 +123,8 @@ module _ (ws : List ℕ) (v : Votes) where
   weight-has e [] h = absurd (omega arith)
   weight-has e (d ∷ ds) h = go (eqb e d) refl h (weight-has e ds)
     where
-      go : (t : Bool) → eqb e d ≡ t → 0 < cond t 1 0 + times e ds → (0 < times e ds → weightIn e (map (rowOf ws v) ds) ≡ tally ws v e) → cond t (tally ws v d) (weightIn e (map (rowOf ws v) ds)) ≡ tally ws v e
+      go : (t : Bool) → eqb e d ≡ t → 0 < cond t 1 0 + times e ds → (0 < times e ds → weightIn e (map (rowOf ws v) ds) ≡ tally ws v e)
+          → cond t (tally ws v d) (weightIn e (map (rowOf ws v) ds)) ≡ tally ws v e
       go true q h ih = ap (tally ws v) (sym (eqb-true e d q))
       go false q h ih = ih (omega arith)
 
@@ -286,7 +287,8 @@ module _ (ws : List ℕ) (before : ℕ → ℕ → Bool) (v : Votes) where
   beats-distinct e [] = refl
   beats-distinct e (x ∷ l) = go (eqb x e || beats ws before v e x) refl (beats-distinct e l)
     where
-      go : (t : Bool) → (eqb x e || beats ws before v e x) ≡ t → beatsAll ws before v e (distinct l) ≡ beatsAll ws before v e l → (t && beatsAll ws before v e (without x (distinct l))) ≡ (t && beatsAll ws before v e l)
+      go : (t : Bool) → (eqb x e || beats ws before v e x) ≡ t → beatsAll ws before v e (distinct l) ≡ beatsAll ws before v e l
+          → (t && beatsAll ws before v e (without x (distinct l))) ≡ (t && beatsAll ws before v e l)
       go true q ih = beats-without e x (distinct l) q ∙ ih
       go false q ih = refl
 
@@ -303,7 +305,8 @@ module _ (ws : List ℕ) (before : ℕ → ℕ → Bool) (v : Votes) where
   first-distinct [] = refl
   first-distinct (x ∷ l) = go (wins ws before v x) refl (first-distinct l)
     where
-      go : (t : Bool) → wins ws before v x ≡ t → firstWinner ws before v (distinct l) ≡ firstWinner ws before v l → cond t (some x) (firstWinner ws before v (without x (distinct l))) ≡ cond t (some x) (firstWinner ws before v l)
+      go : (t : Bool) → wins ws before v x ≡ t → firstWinner ws before v (distinct l) ≡ firstWinner ws before v l
+          → cond t (some x) (firstWinner ws before v (without x (distinct l))) ≡ cond t (some x) (firstWinner ws before v l)
       go true q ih = refl
       go false q ih = first-without x (distinct l) q ∙ ih
 

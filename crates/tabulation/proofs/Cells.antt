@@ -90,7 +90,8 @@ pool-same r (s ∷ rows) h e = go (pool-same r rows) (ltb (s .class) (r .class))
     later : Again → s .class < r .class → place (suc (placeOf (r .class) rows))
     later again q b d = pool-behind r s rows q ∙ ap (λ (l : List Row). s ∷ l) (again (le-of-suc-le-suc b) d)
 
-    go : Again → (t : Bool) → ltb (s .class) (r .class) ≡ t → pool r (s ∷ rows) ≡ set (s ∷ rows) (placeOf (r .class) (s ∷ rows)) (record { class = r .class; total = r .total + getD (s ∷ rows) (placeOf (r .class) (s ∷ rows)) noRow .total })
+    go : Again → (t : Bool) → ltb (s .class) (r .class) ≡ t
+        → pool r (s ∷ rows) ≡ set (s ∷ rows) (placeOf (r .class) (s ∷ rows)) (record { class = r .class; total = r .total + getD (s ∷ rows) (placeOf (r .class) (s ∷ rows)) noRow .total })
     go again true q = let l = ltb-true (s .class) (r .class) q in subst place (sym (place-behind (r .class) s rows l)) (later again l) h e
     go again false q = let l = ltb-false (s .class) (r .class) q in subst place (sym (place-here (r .class) s rows l)) (first l) h e
 
@@ -194,7 +195,8 @@ module _ (sheet : Rows) (row : Row) (room : RoomFor sheet row) (at : ℕ) (place
       ap₂ (λ (l : List Row) (x : Row). set l at (record { class = row .class; total = row .total + x .total })) rows-held e ∙ cells-set (held sheet) at v b ∙ ap cellsOf (sym made) in
       λ i. record { count = count i; rows = rows i }
 
-  pub into-new : (next : List Row) → at ≤ sheet .count → (at < sheet .count → getD (sheet .rows) at noRow .class ≡ row .class → ⊥) → next ≡ take 64 (take at (sheet .rows) ++ (row ∷ drop at (sheet .rows)))
+  pub into-new : (next : List Row) → at ≤ sheet .count → (at < sheet .count → getD (sheet .rows) at noRow .class ≡ row .class → ⊥)
+      → next ≡ take 64 (take at (sheet .rows) ++ (row ∷ drop at (sheet .rows)))
       → _≡_ {A = Rows} (record { count = sheet .count + 1; rows = next }) (poolInto sheet row)
   into-new next a n e =
       let made : pool row (held sheet) ≡ take at (held sheet) ++ (row ∷ drop at (held sheet)) =

@@ -99,13 +99,15 @@ four-unused-requires-2 c κs =
     (c .before .before .before .masks .ensures, (few n 4 (omega arith), (few n 5 (omega arith), (few n 6 (omega arith), few n 7 (omega arith)))))
 
 -- the unused cells and the parts, where the lengths and the cells are right
-rest : (j : tie.Joined3 Inv-loop μ-loop) → let s = start (j .before) in both (allB unusedZero (s .args .t1)) (allB (fairTail (s .args .n)) (s .args .t1)) ≡ ballotsFine (s .args .n) (s .args .held) (s .args .t1)
+rest : (j : tie.Joined3 Inv-loop μ-loop)
+    → let s = start (j .before) in both (allB unusedZero (s .args .t1)) (allB (fairTail (s .args .n)) (s .args .t1)) ≡ ballotsFine (s .args .n) (s .args .held) (s .args .t1)
 rest j =
     let s = start (j .before) in
     all-both unusedZero (fairTail (s .args .n)) (s .args .t1) ∙ sym (tests s ∙ both-passed _ _ _ (fitting (named (j .before))) (entries-all j))
 
 -- what the two tests of the unused cells found
-unused : (c : tie.After-four-unused2 Inv-loop μ-loop) → let s = start (c .before .before .before .before .before .before) in (c .before .before .four-unused .result && c .four-unused2 .result) ≡ allB unusedZero (s .args .t1)
+unused : (c : tie.After-four-unused2 Inv-loop μ-loop)
+    → let s = start (c .before .before .before .before .before .before) in (c .before .before .four-unused .result && c .four-unused2 .result) ≡ allB unusedZero (s .args .t1)
 unused c = let s = start (c .before .before .before .before .before .before) in eight-tests unusedZero (s .args .t1) (eight s) _ _ (c .before .before .four-unused .ensures) (c .four-unused2 .ensures)
 
 returns-4 : tie.Need-returns-4 Inv-loop μ-loop

@@ -85,7 +85,8 @@ put-vector-requires : tie.Need-put-vector-requires Inv-loop μ-loop
 put-vector-requires c κs = let s = begin (fitted (c .before)) in (s .pre .most, omega (arith, fits (fitted (c .before)), size s))
 
 -- behind the log's vector there is room for the paths'
-room : (c : tie.At-loop Inv-loop μ-loop) → headed c .put-vector .result + length (versionsBytes (base (counted c)) (tailsIn (begun c .args .n) (begun c .args .t4))) ≤ length (headed c .put-vector .last .0)
+room : (c : tie.At-loop Inv-loop μ-loop)
+    → headed c .put-vector .result + length (versionsBytes (base (counted c)) (tailsIn (begun c .args .n) (begun c .args .t4))) ≤ length (headed c .put-vector .last .0)
 room c =
     let s = begun c in
     let put = headed c .put-vector in
