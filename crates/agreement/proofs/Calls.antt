@@ -181,8 +181,8 @@ module _ (n : ℕ) (ws : List ℕ) (pos : 0 < n) (w : World) (s : SoundWorld n w
       ∙ ap (λ (c : ℕ). length (d .former) + c) (sym (fold-count n ws k d m))
 
 -- of every list of calls
-pub kept : (n : ℕ) (weights : List ℕ) (start : World) → Founded n weights start → (cs : List Call) → Claims.Kept n weights start cs
-kept n ws start f cs =
+pub always : (n : ℕ) (weights : List ℕ) (start : World) → Founded n weights start → (cs : List Call) → Claims.Always n weights start cs
+always n ws start f cs =
     let w = after start cs in
     let pos = f .any in
     let b = both-after n ws start f cs in

@@ -14,7 +14,7 @@ use Rattle.agreement.proofs.View.{SoundReplica}
 use Rattle.agreement.proofs.Held.{Leaves, Moves, moves}
 
 module _ (n : ℕ) (ws : List ℕ) (k : ℕ) (d : Replica) (m : SoundReplica n ws k d) where
-  abbrev office : P.Folded
+  abbrev office : P.FoldedOffice
   office = withFold n k (foldedBy (d .held) (d .words))
 
   pub fold-number : foldOf (d .held) (d .words) .number ≡ 0
@@ -29,7 +29,7 @@ module _ (n : ℕ) (ws : List ℕ) (k : ℕ) (d : Replica) (m : SoundReplica n w
   fold-leaves : Leaves d office (foldOf (d .held) (d .words) .«record») (foldWords (d .held) (d .words))
   fold-leaves = let D = fold-done (d .held) (d .words) fold-number in record {
     made = D .made ∙ ap (holding (d .held) (d .words)) office-is;
-    written = D .written ∙ ap (λ (f : P.Folded). wordsWith (f .held .log) (d .words)) office-is;
+    written = D .written ∙ ap (λ (f : P.FoldedOffice). wordsWith (f .held .log) (d .words)) office-is;
     state = fold-state (d .held) (d .words) fold-number ∙ office-is;
     sound = fold-sound (d .held) (d .words) fold-number;
   }

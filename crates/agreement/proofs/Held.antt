@@ -10,7 +10,7 @@ use lib.ListN as L
 use borrow.Author.Tests.{eqb-true, eqb-false}
 use Rattle.lists.specs.Tests.{pick}
 use Rattle.lists.proofs.Tests.{pick-true, pick-false}
-use Rattle.protocol.specs.Folding.{Folded}
+use Rattle.protocol.specs.Folding.{FoldedOffice}
 use Rattle.protocol.proofs.FoldedLimits.{FoldedFine}
 use Rattle.protocol.proofs.FoldedWorld as F
 use Rattle.ballots.specs.Ballots.{wordsWith}
@@ -22,14 +22,14 @@ use Rattle.agreement.specs.World.{Replica, leaving}
 use Rattle.agreement.proofs.View.{effectIn, deskOf, SoundReplica}
 
 -- a done call at d that leaves the office as f, with the record and the words after it
-pub record Leaves (d : Replica) (f : Folded) (r : Record) (words : List ℕ) : Type 0 where
+pub record Leaves (d : Replica) (f : FoldedOffice) (r : Record) (words : List ℕ) : Type 0 where
   pub made : r ≡ holding (d .held) (d .words) f
   pub written : words ≡ wordsWith (f .held .log) (d .words)
   pub state : foldedBy r words ≡ f
   pub sound : Sound r words
 
 -- a call at office k's replica d, by its number: it leaves `next`, with the office f where it is done
-pub record Moves (n : ℕ) (ws : List ℕ) (k : ℕ) (d next : Replica) (number : ℕ) (f : Folded) : Type 0 where
+pub record Moves (n : ℕ) (ws : List ℕ) (k : ℕ) (d next : Replica) (number : ℕ) (f : FoldedOffice) : Type 0 where
   pub desk : deskOf next ≡ pick (eqb number 0) (F.leaving (deskOf d) f) (deskOf d)
   pub done : number ≡ 0 → deskOf next ≡ F.leaving (deskOf d) f
   pub sound : SoundReplica n ws k next
@@ -56,7 +56,7 @@ module _ (n : ℕ) (ws : List ℕ) (k : ℕ) (d : Replica) (m : SoundReplica n w
   few-offices = rw (m .count) at (m .sound .head .most)
 
   -- ── a done call ──
-  module _ (f : Folded) (r : Record) (words : List ℕ) (x : Leaves d f r words) where
+  module _ (f : FoldedOffice) (r : Record) (words : List ℕ) (x : Leaves d f r words) where
     pub left-desk : deskOf (leaving d r words) ≡ F.leaving (deskOf d) f
     left-desk = λ i. record { now = x .state i; kept = effectIn (x .made i .kept); former = d .former ++ goes (d .held) (d .words) (x .state i) }
 
@@ -72,12 +72,12 @@ module _ (n : ℕ) (ws : List ℕ) (k : ℕ) (d : Replica) (m : SoundReplica n w
     pub left-same : f ≡ foldedBy (d .held) (d .words) → leaving d r words ≡ d
     left-same e =
         let r-same : r ≡ d .held = x .made ∙ ap (holding (d .held) (d .words)) e ∙ held (d .held) (d .words) (m .sound) in
-        let words-same : words ≡ d .words = x .written ∙ ap (λ (g : Folded). wordsWith (g .held .log) (d .words)) e ∙ words-kept (d .held) (d .words) (m .sound) in
-        let former-same = ap (λ (g : Folded). d .former ++ goes (d .held) (d .words) g) (x .state ∙ e) ∙ none-goes d in
+        let words-same : words ≡ d .words = x .written ∙ ap (λ (g : FoldedOffice). wordsWith (g .held .log) (d .words)) e ∙ words-kept (d .held) (d .words) (m .sound) in
+        let former-same = ap (λ (g : FoldedOffice). d .former ++ goes (d .held) (d .words) g) (x .state ∙ e) ∙ none-goes d in
         λ i. record { held = r-same i; words = words-same i; former = former-same i }
 
   -- ── any call, by its number ──
-  pub moves : (number : ℕ) (f : Folded) (r : Record) (words : List ℕ) → (number ≡ 0 → Leaves d f r words) → ((number ≡ 0 → ⊥) → (r ≡ d .held) × (words ≡ d .words))
+  pub moves : (number : ℕ) (f : FoldedOffice) (r : Record) (words : List ℕ) → (number ≡ 0 → Leaves d f r words) → ((number ≡ 0 → ⊥) → (r ≡ d .held) × (words ≡ d .words))
       → Moves n ws k d (leaving d r words) number f
   moves number f r words left same = go (eqb number 0) refl
     where

@@ -5,7 +5,7 @@ use Prim.Native.Nat.{ℕ}
 use Rattle.lists.proofs.Tests.{pick-true}
 use Rattle.protocol.specs.Entry.{value}
 use Rattle.protocol.specs.Issue.{withIssue}
-use Rattle.protocol.specs.Folding.{Folded, withFoldedIssue, refuseFoldedIssue}
+use Rattle.protocol.specs.Folding.{FoldedOffice, withFoldedIssue, refuseFoldedIssue}
 use Rattle.frame.specs.State.{foldedBy, holding}
 use Rattle.frame.specs.Soundness.{soundB}
 use Rattle.frame.specs.Issuing.{issueNumber, issueOf}
@@ -20,7 +20,7 @@ module _ (n : ℕ) (ws : List ℕ) (k : ℕ) (d : Replica) (m : SoundReplica n w
   abbrev refused : ℕ
   refused = refuseFoldedIssue n k line code (foldedBy (d .held) (d .words))
 
-  abbrev office : Folded
+  abbrev office : FoldedOffice
   office = withFoldedIssue k (value k line code) (foldedBy (d .held) (d .words))
 
   pub issue-number : issueOf (d .held) (d .words) line code .number ≡ refused

@@ -11,7 +11,7 @@ use borrow.Author.Tests.{eq-eqb}
 use Rattle.lists.specs.Tests.{same}
 use Rattle.lists.proofs.Tests.{both-true}
 use Rattle.lists.proofs.Same.{same-refl}
-use Rattle.protocol.specs.Folding.{Folded, Packet, withFoldedTake, refuseFoldedTake}
+use Rattle.protocol.specs.Folding.{FoldedOffice, Packet, withFoldedTake, refuseFoldedTake}
 use Rattle.protocol.proofs.Folding.{take-found}
 use Rattle.protocol.proofs.FoldedLimits.{HeldFine, FoldedFine, PacketFine, folded-facts, folded-take-fine}
 use Rattle.ballots.specs.Ballots.{wordsWith}
@@ -41,7 +41,7 @@ module _ (n : ℕ) (ws : List ℕ) (k : ℕ) (d : Replica) (m : SoundReplica n w
   abbrev refused : ℕ
   refused = refuseFoldedTake k (means s) (foldedBy (d .held) (d .words))
 
-  abbrev office : Folded
+  abbrev office : FoldedOffice
   office = withFoldedTake k (means s) (foldedBy (d .held) (d .words))
 
   same-offices : sameOffices (d .held) (x .content) ≡ true
@@ -86,7 +86,7 @@ module _ (n : ℕ) (ws : List ℕ) (k : ℕ) (d : Replica) (m : SoundReplica n w
     take-leaves =
         let D = take-done-is (d .held) (d .words) s (take-number ∙ z) in
         let made : takeOf (d .held) (d .words) s .«record» ≡ holding (d .held) (d .words) office = D .0 ∙ ap (holding (d .held) (d .words)) office-is in
-        let written : takeWords (d .held) (d .words) s ≡ wordsWith (office .held .log) (d .words) = D .1 ∙ ap (λ (f : Folded). wordsWith (f .held .log) (d .words)) office-is in
+        let written : takeWords (d .held) (d .words) s ≡ wordsWith (office .held .log) (d .words) = D .1 ∙ ap (λ (f : FoldedOffice). wordsWith (f .held .log) (d .words)) office-is in
         record {
           made = made;
           written = written;

@@ -16,7 +16,7 @@ use lib.Seq.{set-getD}
 use borrow.Author.Tests.{lt-ltb}
 use Rattle.lists.specs.Tests.{pick}
 use Rattle.lists.proofs.Tests.{map-set}
-use Rattle.protocol.specs.Folding.{Folded, Packet}
+use Rattle.protocol.specs.Folding.{FoldedOffice, Packet}
 use Rattle.protocol.proofs.World as P
 use Rattle.protocol.proofs.Kept.{Effect}
 use Rattle.protocol.proofs.FoldedWorld as F
@@ -138,7 +138,7 @@ module _ (w : World) (k : ℕ) (d : Replica) (here : replicaAt w k ≡ some d) w
   pub view-at : P.at (view w) k ≡ says d
   view-at = S.view-at (shape w) k ∙ ap F.wholeDesk shape-at
 
-  pub put-shape : (d' : Replica) (t : Bool) (f : Folded) → deskOf d' ≡ pick t (F.leaving (deskOf d) f) (deskOf d) → shape (put w k d') ≡ pick t (F.put (shape w) k f) (shape w)
+  pub put-shape : (d' : Replica) (t : Bool) (f : FoldedOffice) → deskOf d' ≡ pick t (F.leaving (deskOf d) f) (deskOf d) → shape (put w k d') ≡ pick t (F.put (shape w) k f) (shape w)
   unfolding pick
   put-shape d' t f e = ap seen (map-set deskOf (w .replicas) k d') ∙ go t e
     where

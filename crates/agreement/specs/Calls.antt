@@ -1,5 +1,5 @@
 -- What else holds of the world of demand 3 after every list of calls: what its offices keep, and what a call there may be refused with. The
--- theorem is `kept` in proofs/Calls.antt. Assumes nothing.
+-- theorem is `always` in proofs/Calls.antt. Assumes nothing.
 use mathlib.Core.Path.{_≡_}
 use mathlib.Core.Bool.{true}
 use mathlib.Core.List.{List, _++_}
@@ -35,7 +35,7 @@ carries s =
     let p : Packet = asPacket (contentAt (s .bytes)) in
     record { sender = p .sender; state = record { log = s .former ++ p .state .log; tails = p .state .tails } }
 
-pub record Kept (n : ℕ) (weights : List ℕ) (start : World) (cs : List Call) : Type 0 where
+pub record Always (n : ℕ) (weights : List ℕ) (start : World) (cs : List Call) : Type 0 where
   -- there are n offices still; each has its own number, the founding's n and weights, and a record that is sound with its log
   pub offices : length (after start cs .replicas) ≡ n
   pub own : (k : ℕ) (d : Replica) → replicaAt (after start cs) k ≡ some d → d .held .own ≡ k

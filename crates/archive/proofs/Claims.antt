@@ -27,7 +27,7 @@ use Rattle.protocol.proofs.Limits.{fine-tail}
 use Rattle.ballots.specs.Ballots.{ballotFine, tailOf}
 use Rattle.ballots.proofs.Laws.{tail-fine}
 use Rattle.spelling.proofs.Items.{roomFor}
-use Rattle.vectors.specs.Vectors.{EachAtMost, mostKept, vectorBytes, vectorOf, versionsBytes}
+use Rattle.vectors.specs.Vectors.{EachAtMost, keptCountLimit, vectorBytes, vectorOf, versionsBytes}
 use Rattle.vectors.proofs.Items.{isCount, countItem}
 use Rattle.vectors.proofs.Vectors.{kept-vector, paths-length, vector-length}
 use Rattle.versions.specs.Versions.{after, answersTo, atMost, before, beside, comparedTo, countsIn, equal, isVector, nine, stands}
@@ -147,7 +147,7 @@ module _ (n : ℕ) (start : List ℕ) (long : length start ≡ n) where
       ∙ piece ps rest i (le-of-suc-le-suc h)
 
   -- the vector of a short version, from kept counts, is read back
-  module _ (few : EachAtMost mostKept start) (p : List ℕ) (short : length p ≤ 1024) where
+  module _ (few : EachAtMost keptCountLimit start) (p : List ℕ) (short : length p ≤ 1024) where
     each-count : allB isCount (vectorOf start p) ≡ true
     unfolding isCount
     each-count = all-of isCount 0 (vectorOf start p) (λ k _. lt-ltb (countOf (vectorOf start p) k) 18446744073709551616 (omega (arith, counts-most start p k, few k)))

@@ -18,7 +18,7 @@ use Rattle.ballots.specs.Ballots.{ballotFine, ballotShape}
 use Rattle.eight_ballots.proofs.Eight.{shape-of}
 use Rattle.writer.specs.Written.{writtenBytes, writtenLength}
 use Rattle.writer.proofs.Whole.{answer-fits, answer-short}
-use Rattle.vectors.specs.Vectors.{Countable, EachAtMost, mostKept}
+use Rattle.vectors.specs.Vectors.{Countable, EachAtMost, keptCountLimit}
 use Rattle.vectors.proofs.Vectors.{size-is}
 use Rattle.frame.specs.State.{heldLength}
 use Rattle.frame.specs.Soundness.{soundB, Sound}
@@ -44,13 +44,13 @@ take-most (suc n) (c ∷ counts) zero = omega arith
 take-most (suc n) (c ∷ counts) (suc k) = take-most n counts k
 
 module _ (r : Record) (words : List ℕ) (S : Sound r words) where
-  kept-few : EachAtMost mostKept (r .kept .counts)
+  kept-few : EachAtMost keptCountLimit (r .kept .counts)
   kept-few k = omega (arith, room-for r words S 0 (omega arith) .within k, S .within, longest r words S)
 
   pub start-long : length (startOf r) ≡ r .n
   start-long = length-take-le (r .n) (r .kept .counts) (omega (arith, S .kept .offices, S .head .most))
 
-  pub start-few : EachAtMost mostKept (startOf r)
+  pub start-few : EachAtMost keptCountLimit (startOf r)
   start-few k = omega (arith, take-most (r .n) (r .kept .counts) k, kept-few k)
 
   pub countable : Countable (r .n) (r .kept .counts) (take (heldLength r) words) (r .ballots)

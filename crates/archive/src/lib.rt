@@ -21,7 +21,8 @@ pub struct Compared {
 
 // Writes the vectors of the settled log and then of the n offices' paths to the output, and answers their length.
 pub fn write(office: Record, log: &[u32], out: &mut [u8]) -> Written
-    ensures { λ r. ⌜ (r ≡ writeOf office (now (log .entry)) (now (out .entry))) × (now (out .exit) ≡ writeBytes office (now (log .entry)) (now (out .entry))) ⌝ }
+    ensures answer { λ r. ⌜ r ≡ writeOf office (now (log .entry)) (now (out .entry)) ⌝ }
+    ensures output { λ _. ⌜ now (out .exit) ≡ writeBytes office (now (log .entry)) (now (out .entry)) ⌝ }
 {
     if !office.sound(log) {
         return Written {

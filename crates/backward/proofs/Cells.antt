@@ -1,7 +1,7 @@
 -- The cells of the walk.
 --     lacking-set, lacking-most     a store changes the number of cells that are 0 by what it overwrites and what it stores; they are at most all
 --     Asking                        while lines are named: the cells of those named so far are 0, all others 1
---     noted-kept, noted-stored      what the code does when a word is read
+--     added-kept, added-stored      what the code does when a word is read
 --     kept-none, kept-some          what it shows of a line: the kept code, or the edit
 --     Walking                       while words are read: what is left to read, from the edits so far, gives what the whole walk gives
 -- Assumes nothing.
@@ -20,19 +20,19 @@ use lib.Seq.{set-out, getD-set-same, getD-set-other}
 use borrow.Author.Tests.{eqb-true, eqb-false, eq-eqb, ne-eqb, leb-true, ltb-true, ltb-false}
 use Rattle.lists.specs.Tests.{pick}
 use Rattle.lists.proofs.Tests.{pick-true, pick-false, pick-cases, all-mapped}
-use Rattle.lists.proofs.Fold.{Folded, fold-next, fold-done}
+use Rattle.lists.proofs.Fold.{FoldedUpTo, fold-next, fold-done}
 use Rattle.protocol.specs.Entry.{lineOf, codeOf}
 use Rattle.protocol.specs.Codes.{cell, ofCell, editIn}
 use Rattle.protocol.specs.Vote.{isNone}
 use Rattle.protocol.specs.Frames.{orElse, editBy}
 use Rattle.protocol.proofs.Codes.{cell-of}
 use Rattle.backward.specs.Runs.{Named}
-use Rattle.backward.specs.Walk.{Reading, orOther, noting, answered, behind, walk, walkBack}
-use Rattle.backward.specs.Cells.{isLacking, lacking, naming, namedCells, isFirst, noted, newEdits, orKept, placed, cellsAt, askedOf, walkedOf}
+use Rattle.backward.specs.Walk.{FrameRead, orOther, withWord, answered, behind, walk, walkBack}
+use Rattle.backward.specs.Cells.{isLacking, lacking, naming, namedCells, isFirst, editAdded, newEdits, orKept, placed, cellsAt, askedOf, walkedOf}
 use Rattle.backward.specs.declared.Asked.{Asked}
 use Rattle.backward.specs.declared.Walked.{Walked}
 use Rattle.backward.proofs.Members.{all-mem, all-each, map-each}
-use Rattle.backward.proofs.Reading.{other-map}
+use Rattle.backward.proofs.WalkReads.{other-map}
 
 -- ── how many are 0 ──
 pub lacking-set : (cells : List ℕ) (i x : ℕ) → i < length cells → lacking (set cells i x) + isLacking (getD cells i 0) ≡ lacking cells + isLacking x
@@ -109,7 +109,7 @@ named-length lines = go (replicate 256 1) lines ∙ length-replicate {A = ℕ} 2
 -- the lines before place i are named
 pub record Asking (lines : List ℕ) (left : ℕ) (cells : List ℕ) (i : ℕ) : Type 0 where
   pub within : i ≤ length lines
-  pub folded : Folded naming (replicate 256 1) lines cells i
+  pub folded : FoldedUpTo naming (replicate 256 1) lines cells i
   pub long : length cells ≡ 256
   pub most : (k : ℕ) → getD cells k 0 ≤ 1
   pub count : left ≡ lacking cells
@@ -169,9 +169,9 @@ or-some : (c : ℕ) (o : Option ℕ) → (c ≡ 0 → ⊥) → orElse (ofCell c)
 or-some zero o h = absurd (h refl)
 or-some (suc c) o h = refl
 
-noted-at : (cells : List ℕ) (v line : ℕ) → line < length cells → ofCell (getD (noted cells v) line 0) ≡ orElse (ofCell (getD cells line 0)) (editBy v line)
-unfolding noted pick
-noted-at cells v line h = go (isFirst cells v) refl (eqb (lineOf v) line) refl
+added-at : (cells : List ℕ) (v line : ℕ) → line < length cells → ofCell (getD (editAdded cells v) line 0) ≡ orElse (ofCell (getD cells line 0)) (editBy v line)
+unfolding editAdded pick
+added-at cells v line h = go (isFirst cells v) refl (eqb (lineOf v) line) refl
   where
     go : (f : Bool) → isFirst cells v ≡ f → (t : Bool) → eqb (lineOf v) line ≡ t
         → ofCell (getD (pick f (set cells (lineOf v) (suc (codeOf v))) cells) line 0) ≡ orElse (ofCell (getD cells line 0)) (pick t (some (codeOf v)) none)
@@ -186,14 +186,14 @@ noted-at cells v line h = go (isFirst cells v) refl (eqb (lineOf v) line) refl
         sym (or-some (getD cells line 0) (some (codeOf v)) (λ z. eqb-false (getD cells (lineOf v) 0) 0 first (ap (λ (k : ℕ). getD cells k 0) (eqb-true (lineOf v) line e) ∙ z)))
     go false first false e = sym (or-none (ofCell (getD cells line 0)))
 
-noted-length : (cells : List ℕ) (v : ℕ) → length (noted cells v) ≡ length cells
-unfolding noted
-noted-length cells v = pick-cases (λ (l : List ℕ). length l ≡ length cells) (isFirst cells v) (set cells (lineOf v) (suc (codeOf v))) cells (λ e. length-set cells (lineOf v) (suc (codeOf v))) (λ e. refl)
+added-length : (cells : List ℕ) (v : ℕ) → length (editAdded cells v) ≡ length cells
+unfolding editAdded
+added-length cells v = pick-cases (λ (l : List ℕ). length l ≡ length cells) (isFirst cells v) (set cells (lineOf v) (suc (codeOf v))) cells (λ e. length-set cells (lineOf v) (suc (codeOf v))) (λ e. refl)
 
 -- how many are 0 after the word
-noted-count : (cells : List ℕ) (v : ℕ) → lineOf v < length cells → lacking (noted cells v) + newEdits cells v ≡ lacking cells
-unfolding noted newEdits pick
-noted-count cells v h = go (isFirst cells v) refl
+added-count : (cells : List ℕ) (v : ℕ) → lineOf v < length cells → lacking (editAdded cells v) + newEdits cells v ≡ lacking cells
+unfolding editAdded newEdits pick
+added-count cells v h = go (isFirst cells v) refl
   where
     go : (f : Bool) → isFirst cells v ≡ f → lacking (pick f (set cells (lineOf v) (suc (codeOf v))) cells) + pick f 1 0 ≡ lacking cells
     go true e =
@@ -202,8 +202,8 @@ noted-count cells v h = go (isFirst cells v) refl
     go false e = omega arith
 
 -- a cell that is 0 after the word was 0 before it
-was-0 : (cells : List ℕ) (v k : ℕ) → k < length cells → getD (noted cells v) k 0 ≡ 0 → getD cells k 0 ≡ 0
-was-0 cells v k h z = go (getD cells k 0) (sym (noted-at cells v k h) ∙ ap ofCell z)
+was-0 : (cells : List ℕ) (v k : ℕ) → k < length cells → getD (editAdded cells v) k 0 ≡ 0 → getD cells k 0 ≡ 0
+was-0 cells v k h z = go (getD cells k 0) (sym (added-at cells v k h) ∙ ap ofCell z)
   where
     go : (c : ℕ) → orElse (ofCell c) (editBy v k) ≡ none → c ≡ 0
     go zero e = refl
@@ -213,15 +213,15 @@ line-below : (v : ℕ) → lineOf v < 256
 line-below v = omega arith
 
 -- what the code does: nothing, or a store
-pub noted-kept : (cells : List ℕ) (v line : ℕ) → line ≡ lineOf v → (getD cells line 0 ≡ 0 → ⊥) → (cells ≡ noted cells v) × (0 ≡ newEdits cells v)
-unfolding noted newEdits
-noted-kept cells v line e h =
+pub added-kept : (cells : List ℕ) (v line : ℕ) → line ≡ lineOf v → (getD cells line 0 ≡ 0 → ⊥) → (cells ≡ editAdded cells v) × (0 ≡ newEdits cells v)
+unfolding editAdded newEdits
+added-kept cells v line e h =
     let f : isFirst cells v ≡ false = ne-eqb (getD cells (lineOf v) 0) 0 (λ z. h (ap (λ (k : ℕ). getD cells k 0) e ∙ z)) in
     (sym (pick-false _ _ _ f), sym (pick-false _ _ _ f))
 
-pub noted-stored : (cells : List ℕ) (v line : ℕ) → line ≡ lineOf v → getD cells line 0 ≡ 0 → (set cells line (codeOf v + 1) ≡ noted cells v) × (1 ≡ newEdits cells v)
-unfolding noted newEdits
-noted-stored cells v line e z =
+pub added-stored : (cells : List ℕ) (v line : ℕ) → line ≡ lineOf v → getD cells line 0 ≡ 0 → (set cells line (codeOf v + 1) ≡ editAdded cells v) × (1 ≡ newEdits cells v)
+unfolding editAdded newEdits
+added-stored cells v line e z =
     let t : isFirst cells v ≡ true = eq-eqb (getD cells (lineOf v) 0) 0 (ap (λ (k : ℕ). getD cells k 0) (sym e) ∙ z) in
     (ap₂ (set cells) e (add-one (codeOf v)) ∙ sym (pick-true _ _ _ t), sym (pick-true _ _ _ t))
 
@@ -245,7 +245,7 @@ unfolding walk
 walk-stops zero lines entries os e = refl
 walk-stops (suc i) lines entries os e = pick-true (answered os) _ _ e
 
-walk-goes : (i : ℕ) (lines entries : List ℕ) (os : List (Option ℕ)) → answered os ≡ false → walk (suc i) lines entries os ≡ behind 1 (walk i lines entries (noting (getD entries i 0) lines os))
+walk-goes : (i : ℕ) (lines entries : List ℕ) (os : List (Option ℕ)) → answered os ≡ false → walk (suc i) lines entries os ≡ behind 1 (walk i lines entries (withWord (getD entries i 0) lines os))
 unfolding walk
 walk-goes i lines entries os e = pick-false (answered os) _ _ e
 
@@ -286,7 +286,7 @@ module _ (lines entries : List ℕ) (named : Named lines) where
       start = ap (walk (length entries) lines entries) none-yet
 
       sums : length entries - length entries + walk (length entries) lines entries (told (namedCells lines) lines) .words ≡ walkBack lines entries .words
-      sums = omega (arith, ap (λ (w : Reading). w .words) start)
+      sums = omega (arith, ap (λ (w : FrameRead). w .words) start)
 
   pub walking-begins : (asked : Asked) → asked ≡ askedOf lines → Walking lines entries (asked .left) (asked .cells) (length entries)
   walking-begins asked e = subst (λ (a : Asked). Walking lines entries (a .left) (a .cells) (length entries)) (sym e) begun
@@ -313,34 +313,34 @@ module _ (lines entries : List ℕ) (named : Named lines) where
       abbrev v : ℕ
       v = getD entries j 0
 
-      abbrev next : Reading
-      next = walk j lines entries (told (noted cells v) lines)
+      abbrev next : FrameRead
+      next = walk j lines entries (told (editAdded cells v) lines)
 
       stepped : walk end lines entries (told cells lines) ≡ behind 1 next
       stepped =
           ap (λ (n : ℕ). walk n lines entries (told cells lines)) e ∙ walk-goes j lines entries (told cells lines) (not-answered h)
           ∙ ap (λ (os : List (Option ℕ)). behind 1 (walk j lines entries os)) (other-map (editBy v) (λ (line : ℕ). ofCell (getD cells line 0)) lines
-          ∙ map-each (λ (line : ℕ). orElse (ofCell (getD cells line 0)) (editBy v line)) (λ (line : ℕ). ofCell (getD (noted cells v) line 0)) lines
-          (λ line m. sym (noted-at cells v line (omega (arith, w .long, has-cell line m)))))
+          ∙ map-each (λ (line : ℕ). orElse (ofCell (getD cells line 0)) (editBy v line)) (λ (line : ℕ). ofCell (getD (editAdded cells v) line 0)) lines
+          (λ line m. sym (added-at cells v line (omega (arith, w .long, has-cell line m)))))
 
       sums : length entries - j + next .words ≡ length entries - end + (1 + next .words)
       sums = omega (arith, e, w .within)
 
-      next-count : lacking (noted cells v) + newEdits cells v ≡ left
-      next-count = noted-count cells v (rw (w .long) (line-below v)) ∙ sym (w .count)
+      next-count : lacking (editAdded cells v) + newEdits cells v ≡ left
+      next-count = added-count cells v (rw (w .long) (line-below v)) ∙ sym (w .count)
 
-      again : Walking lines entries (left - newEdits cells v) (noted cells v) j
+      again : Walking lines entries (left - newEdits cells v) (editAdded cells v) j
       again = record {
         within = omega (arith, e, w .within);
-        long = noted-length cells v ∙ w .long;
+        long = added-length cells v ∙ w .long;
         count = omega (arith, next-count);
         asked = λ k c z. w .asked k c (was-0 cells v k (omega (arith, w .long)) z);
         gives = (λ i. record { frame = next .frame; words = sums i }) ∙ sym (ap (behind (length entries - end)) stepped) ∙ w .gives;
       }
 
-      module _ (after : List ℕ) (new : ℕ) (ea : after ≡ noted cells (getD entries j 0)) (en : new ≡ newEdits cells (getD entries j 0)) where
+      module _ (after : List ℕ) (new : ℕ) (ea : after ≡ editAdded cells (getD entries j 0)) (en : new ≡ newEdits cells (getD entries j 0)) where
         pub walking-again : Walking lines entries (left - new) after j
-        walking-again = subst (λ (l : List ℕ). Walking lines entries (left - new) l j) (sym ea) (subst (λ (k : ℕ). Walking lines entries (left - k) (noted cells v) j) (sym en) again)
+        walking-again = subst (λ (l : List ℕ). Walking lines entries (left - new) l j) (sym ea) (subst (λ (k : ℕ). Walking lines entries (left - k) (editAdded cells v) j) (sym en) again)
 
         pub new-within : new ≤ left
         new-within = omega (arith, en, next-count)
@@ -359,10 +359,10 @@ module _ (lines entries : List ℕ) (named : Named lines) where
         read = sym (w .gives) ∙ ap (behind (length entries - end)) (stops s)
 
         words : length entries - end ≡ walkBack lines entries .words
-        words = omega (arith, ap (λ (r : Reading). r .words) read)
+        words = omega (arith, ap (λ (r : FrameRead). r .words) read)
 
         shown : edits ≡ placed (map cell (orOther (editIn codes) lines (walkBack lines entries .frame)))
-        shown = q ∙ ap placed (sym (ap (λ (r : Reading). map cell (orOther (editIn codes) lines (r .frame))) read
+        shown = q ∙ ap placed (sym (ap (λ (r : FrameRead). map cell (orOther (editIn codes) lines (r .frame))) read
             ∙ ap (map cell) (other-map (editIn codes) (λ (line : ℕ). ofCell (getD cells line 0)) lines)
             ∙ map-map cell (λ (line : ℕ). orElse (ofCell (getD cells line 0)) (editIn codes line)) lines
             ∙ ap (λ (f : ℕ → ℕ). map f lines) (fun-ext (λ line. kept-cell (getD cells line 0) (getD codes line 0)))))

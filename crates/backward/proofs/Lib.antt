@@ -2,7 +2,7 @@
 pub mod Members
 pub mod Edits
 pub mod Runs
-pub mod Reading
+pub mod WalkReads
 pub mod Cells
 pub mod Placed
 pub mod Cases

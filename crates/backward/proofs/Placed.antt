@@ -1,7 +1,7 @@
 -- The answer's 64 places.
 --     named-at                       a line named is one of the frame
 --     placing-again, placing-ends    the first i places hold what the cells, or else the kept codes, say of the lines
---     getD-mapped, placed-at, placed-past    what stands at a place
+--     getD-mapped                    what stands at a place of a list
 -- Assumes nothing.
 use mathlib.Core.Path.{_≡_, refl, sym, ap, ap₂, _∙_}
 use mathlib.Core.List.{List, [], _∷_, _++_, map}
@@ -10,10 +10,10 @@ use native.Mathlib.Nat.{not-suc-le-zero, le-of-suc-le-suc}
 use native.Mathlib.Numerals.{unary-clauses}
 use native.Mathlib.Omega.{arith}
 use lib.Dec.{leb}
-use lib.ListN.{length, getD, set, drop, replicate, length-map, length-replicate, List·getD-append}
-use lib.Seq.{take-all, getD-append-add}
+use lib.ListN.{length, getD, set, drop, replicate, length-map, length-replicate}
+use lib.Seq.{take-all}
 use borrow.Author.Tests.{leb-true}
-use Rattle.lists.proofs.Tests.{all-at, getD-replicate}
+use Rattle.lists.proofs.Tests.{all-at}
 use Rattle.lists.proofs.Fill.{filled, front-step}
 use Rattle.backward.specs.Runs.{Named}
 use Rattle.backward.specs.Cells.{orKept, placed, cellsAt}
@@ -55,12 +55,3 @@ module _ (codes cells lines : List ℕ) where
   placing-ends edits i e q =
       e ∙ ap (λ (l : List ℕ). l ++ drop i (replicate 64 0)) (take-all i (cellsAt codes cells lines) (omega (arith, as-long)))
       ∙ ap (λ (l : List ℕ). cellsAt codes cells lines ++ l) (ap (λ (k : ℕ). drop k (replicate 64 0)) (q ∙ sym as-long) ∙ drop-zeros (length (cellsAt codes cells lines)) 64)
-
-pub placed-at : (edits : List ℕ) (i : ℕ) → i < length edits → getD (placed edits) i 0 ≡ getD edits i 0
-placed-at edits i h = List·getD-append edits (replicate (64 - length edits) 0) 0 i h
-
-pub placed-past : (edits : List ℕ) (i : ℕ) → length edits ≤ i → getD (placed edits) i 0 ≡ 0
-placed-past edits i h = ap (λ (k : ℕ). getD (placed edits) k 0) split ∙ getD-append-add edits (replicate (64 - length edits) 0) (i - length edits) 0 ∙ getD-replicate (64 - length edits) 0 (i - length edits)
-  where
-    split : i ≡ length edits + (i - length edits)
-    split = omega arith

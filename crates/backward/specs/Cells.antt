@@ -1,12 +1,13 @@
 -- What the code keeps on its walk: a cell for each number that a word's line can be. It is 0 if the line is named and has no edit yet; a named line's
 -- edit is its code + 1, and a cell of a line that is not named stays 1. Assumes nothing.
-use mathlib.Core.List.{List, [], _∷_, _++_, map, foldl}
+use mathlib.Core.List.{List, [], _∷_, map, foldl}
 use mathlib.Core.Option.{some}
 use mathlib.Core.Bool.{Bool}
-use Prim.Native.Nat.{ℕ, zero, suc, _+_, _-_}
+use Prim.Native.Nat.{ℕ, zero, suc, _+_}
 use lib.Dec.{eqb}
-use lib.ListN.{length, getD, set, replicate}
+use lib.ListN.{getD, set, replicate}
 use Rattle.lists.specs.Tests.{pick}
+use Rattle.lists.specs.Padded.{padded}
 use Rattle.protocol.specs.Entry.{lineOf, codeOf}
 use Rattle.protocol.specs.Codes.{cell, editIn}
 use Rattle.backward.specs.Walk.{orOther, walkBack}
@@ -36,15 +37,15 @@ askedOf lines = record { left = lacking (namedCells lines); cells = namedCells l
 abbrev pub isFirst : List ℕ → ℕ → Bool
 isFirst cells v = eqb (getD cells (lineOf v) 0) 0
 
-unfoldable pub noted : List ℕ → ℕ → List ℕ
-noted cells v = pick (isFirst cells v) (set cells (lineOf v) (cell (some (codeOf v)))) cells
+unfoldable pub editAdded : List ℕ → ℕ → List ℕ
+editAdded cells v = pick (isFirst cells v) (set cells (lineOf v) (cell (some (codeOf v)))) cells
 
 unfoldable pub newEdits : List ℕ → ℕ → ℕ
 newEdits cells v = pick (isFirst cells v) 1 0
 
 -- "a value with 64 places; those past the named lines hold no edit yet"
 abbrev pub placed : List ℕ → List ℕ
-placed edits = edits ++ replicate (64 - length edits) 0
+placed = padded 64 0
 
 -- an edit as it is stored, or else the kept one
 abbrev pub orKept : ℕ → ℕ → ℕ

@@ -5,7 +5,7 @@ ghost use Prim.Native.Nat.{_<_};
 ghost use lib.ListN.{length};
 ghost use Rattle.protocol.specs.Entry.{lineOf};
 ghost use Rattle.backward.specs.Runs.{Named};
-ghost use Rattle.backward.specs.Cells.{askedOf, noted, newEdits, orKept, placed, cellsAt, walkedOf};
+ghost use Rattle.backward.specs.Cells.{askedOf, editAdded, newEdits, orKept, placed, cellsAt, walkedOf};
 
 // A cell for each number that a word's line can be: 0 if the line is named and has no edit yet, else not 0. `left` of them are 0.
 pub struct Asked {
@@ -41,9 +41,9 @@ fn line_of(word: u32) -> usize
 }
 
 // The word is read: it is the edit of its line if the line is named and has none yet. Answers how many edits that adds.
-fn note(cells: &mut [u32; 256], word: u32) -> u32
+fn add_edit(cells: &mut [u32; 256], word: u32) -> u32
     requires { ⌜ length (now cells) ≡ 256 ⌝ }
-    ensures { λ r. ⌜ (now (cells .exit) ≡ noted (now (cells .entry)) word) × (r ≡ newEdits (now (cells .entry)) word) ⌝ }
+    ensures { λ r. ⌜ (now (cells .exit) ≡ editAdded (now (cells .entry)) word) × (r ≡ newEdits (now (cells .entry)) word) ⌝ }
 {
     let line = line_of(word);
     if cells[line] != 0 {
@@ -91,7 +91,7 @@ pub fn walk(words: &[u32], lines: &[u32], codes: [u32; 64]) -> Walked
             break;
         }
         end = end - 1;
-        left = left - note(&mut cells, words[end]);
+        left = left - add_edit(&mut cells, words[end]);
     }
     let edits = answers(&cells, lines, codes);
     Walked {

@@ -1,7 +1,7 @@
 -- What a fine ballot is, and what the operations on one do to the tail that it holds.
 --     fine                      what the test `ballotFine` says where it passes
 --     tail-fine, fine-tail      a ballot is fine as its cells are in shape and its tail is fine
---     held, held-all            a fine ballot is the one that holds its tail
+--     ballot-held, held-all     a fine ballot is the one that holds its tail
 --     tail-of, tails-of         the tail of the ballot that holds a tail
 --     push-held                 an entry more in the cells is an entry more in the tail
 --     none-empty, empty-none    no ballot is the empty tail
@@ -26,17 +26,17 @@ use Rattle.lists.proofs.Tests.{both-0, both-1, both-true, zeros, all-zeros, get
 use Rattle.ballots.specs.Ballots.{ballotShape, ballotFine, emptyBallot, tailOf, ballotOf, noBallot, pushed, isNoBallot, offEnd}
 use Rattle.ballots.specs.declared.Ballot.{Ballot}
 
-pub record Fine (n settled : ℕ) (b : Ballot) : Type 0 where
+pub record Fine (n held : ℕ) (b : Ballot) : Type 0 where
   pub cells : length (b .cells) ≡ 32
   pub len : b .len ≤ 32
   pub zero : allB (eqb 0) (drop (b .len) (b .cells)) ≡ true
-  pub path : settled + b .len ≤ 1024
+  pub path : held + b .len ≤ 1024
   pub entries : allB (isEntry n) (tailOf b) ≡ true
   pub parts : fair n (tailOf b) ≡ true
 
-pub fine : (n settled : ℕ) (b : Ballot) → ballotFine n settled b ≡ true → Fine n settled b
+pub fine : (n held : ℕ) (b : Ballot) → ballotFine n held b ≡ true → Fine n held b
 unfolding ballotFine ballotShape tailFine
-fine n settled b e =
+fine n held b e =
     let s = both-0 _ _ e in
     let cells = eqb-true (length (b .cells)) 32 (both-0 _ _ s) in
     let len = leb-true (b .len) 32 (both-0 _ _ (both-1 _ _ s)) in
@@ -45,7 +45,7 @@ fine n settled b e =
       cells = cells;
       len = len;
       zero = both-1 _ _ (both-1 _ _ s);
-      path = omega (arith, leb-true (settled + length (tailOf b)) 1024 (both-0 _ _ t), length-take-le (b .len) (b .cells) (omega arith));
+      path = omega (arith, leb-true (held + length (tailOf b)) 1024 (both-0 _ _ t), length-take-le (b .len) (b .cells) (omega arith));
       entries = both-0 _ _ (both-1 _ _ t);
       parts = both-1 _ _ (both-1 _ _ t);
     }
@@ -63,9 +63,9 @@ pub tail-at : (bs : List Ballot) (k : ℕ) → getD (map tailOf bs) k [] ≡ tai
 tail-at bs k = getD-map tailOf offEnd bs k
 
 -- a ballot is fine as its cells are in shape and its tail is fine
-pub tail-fine : (n settled : ℕ) (b : Ballot) → ballotFine n settled b ≡ true → tailFine n settled (tailOf b) ≡ true
+pub tail-fine : (n held : ℕ) (b : Ballot) → ballotFine n held b ≡ true → tailFine n held (tailOf b) ≡ true
 unfolding ballotFine
-tail-fine n settled b e = both-1 (ballotShape b) (tailFine n settled (tailOf b)) e
+tail-fine n held b e = both-1 (ballotShape b) (tailFine n held (tailOf b)) e
 
 shape-of : (t : List ℕ) → length t ≤ 32 → ballotShape (ballotOf t) ≡ true
 unfolding ballotShape
@@ -73,14 +73,14 @@ shape-of t h =
     both-true _ _ (eq-eqb (length (t ++ replicate (32 - length t) 0)) 32 (rw (length-append, length-replicate) (omega arith)))
     (both-true _ _ (le-leb (length t) 32 h) (rw drop-append-seam (all-zeros (32 - length t))))
 
-pub fine-tail : (n settled : ℕ) (t : List ℕ) → tailFine n settled t ≡ true → ballotFine n settled (ballotOf t) ≡ true
+pub fine-tail : (n held : ℕ) (t : List ℕ) → tailFine n held t ≡ true → ballotFine n held (ballotOf t) ≡ true
 unfolding ballotFine tailFine
-fine-tail n settled t e =
-    both-true (ballotShape (ballotOf t)) (tailFine n settled (tailOf (ballotOf t)))
+fine-tail n held t e =
+    both-true (ballotShape (ballotOf t)) (tailFine n held (tailOf (ballotOf t)))
     (shape-of t (leb-true (length t) 32 (both-0 _ _ e)))
-    (ap (tailFine n settled) (tail-of t) ∙ e)
+    (ap (tailFine n held) (tail-of t) ∙ e)
 
-module _ (n settled : ℕ) (b : Ballot) (F : Fine n settled b) where
+module _ (n held : ℕ) (b : Ballot) (F : Fine n held b) where
   unused : drop (b .len) (b .cells) ≡ replicate (32 - b .len) 0
   unused =
       let l : length (drop (b .len) (b .cells)) ≡ 32 - b .len = rw (length-drop, F .cells) in
@@ -94,8 +94,8 @@ module _ (n settled : ℕ) (b : Ballot) (F : Fine n settled b) where
   pub tail-length : length (tailOf b) ≡ b .len
   tail-length = length-take-le (b .len) (b .cells) (omega arith)
 
-  pub held : ballotOf (tailOf b) ≡ b
-  held = λ i. record {
+  pub ballot-held : ballotOf (tailOf b) ≡ b
+  ballot-held = λ i. record {
     len = tail-length i;
     cells = held-cells i;
   }
@@ -113,13 +113,13 @@ module _ (n settled : ℕ) (b : Ballot) (F : Fine n settled b) where
       grown-cells : set (b .cells) (b .len) e ≡ (tailOf b ++ e ∷ []) ++ replicate (32 - length (tailOf b ++ e ∷ [])) 0
       grown-cells = set-split (b .cells) (b .len) e (omega arith) ∙ rw (← grown, ← unused-next h, append-assoc, add-one)
 
-pub held-all : (n settled : ℕ) (bs : List Ballot) → allB (ballotFine n settled) bs ≡ true → map ballotOf (map tailOf bs) ≡ bs
+pub held-all : (n held : ℕ) (bs : List Ballot) → allB (ballotFine n held) bs ≡ true → map ballotOf (map tailOf bs) ≡ bs
 unfolding allB
-held-all n settled [] e = refl
-held-all n settled (b ∷ bs) e =
+held-all n held [] e = refl
+held-all n held (b ∷ bs) e =
     ap₂ (λ (x : Ballot) (l : List Ballot). x ∷ l)
-    (held n settled b (fine n settled b (both-0 _ _ e)))
-    (held-all n settled bs (both-1 _ _ e))
+    (ballot-held n held b (fine n held b (both-0 _ _ e)))
+    (held-all n held bs (both-1 _ _ e))
 
 -- no ballot is the empty tail
 pub none-empty : (b : Ballot) → isNoBallot b ≡ true → isEmpty (tailOf b) ≡ true
@@ -143,9 +143,9 @@ empty-is b e = λ i. record {
     cells = zeros (b .cells) (both-1 _ _ (both-1 _ _ e)) ∙ ap (λ (k : ℕ). replicate k 0) (eqb-true (length (b .cells)) 32 (both-0 _ _ (both-1 _ _ e)))
 
 -- no ballot is fine with any settled log
-pub none-fine : (n settled : ℕ) → settled ≤ 1024 → ballotFine n settled noBallot ≡ true
+pub none-fine : (n held : ℕ) → held ≤ 1024 → ballotFine n held noBallot ≡ true
 unfolding tailFine allB
-none-fine n settled h = fine-tail n settled [] (both-true _ _ refl (both-true _ _ (le-leb (settled + 0) 1024 (omega arith)) (both-true _ _ refl (fair-nil n))))
+none-fine n held h = fine-tail n held [] (both-true _ _ refl (both-true _ _ (le-leb (held + 0) 1024 (omega arith)) (both-true _ _ refl (fair-nil n))))
 
-pub empty-fine : (n settled : ℕ) → settled ≤ 1024 → (b : Ballot) → emptyBallot b ≡ true → (ballotFine n settled b ≡ true) × (isNoBallot b ≡ true)
-empty-fine n settled h b e = (ap (ballotFine n settled) (empty-is b e) ∙ none-fine n settled h, ap isNoBallot (empty-is b e))
+pub empty-fine : (n held : ℕ) → held ≤ 1024 → (b : Ballot) → emptyBallot b ≡ true → (ballotFine n held b ≡ true) × (isNoBallot b ≡ true)
+empty-fine n held h b e = (ap (ballotFine n held) (empty-is b e) ∙ none-fine n held h, ap isNoBallot (empty-is b e))

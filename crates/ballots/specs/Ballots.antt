@@ -1,10 +1,11 @@
 -- A ballot as cells and the tail that it holds; when ballots are within document 01's limits. Assumes nothing.
-use Prim.Native.Nat.{ℕ, _+_, _-_}
+use Prim.Native.Nat.{ℕ, _+_}
 use mathlib.Core.Bool.{Bool}
 use mathlib.Core.List.{List, [], _++_, map}
 use lib.Dec.{ltb, leb, eqb}
 use lib.ListN.{length, take, drop, set, replicate}
 use Rattle.lists.specs.Tests.{both, pick, allB}
+use Rattle.lists.specs.Padded.{padded}
 use Rattle.protocol.specs.Office.{Office}
 use Rattle.protocol.specs.Limits.{tailFine, tailsFine}
 use Rattle.ballots.specs.declared.Ballot.{Ballot}
@@ -15,7 +16,7 @@ tailOf b = take (b .len) (b .cells)
 
 -- the ballot that holds a tail: "unused cells are zero"
 abbrev pub ballotOf : List ℕ → Ballot
-ballotOf t = record { len = length t; cells = t ++ replicate (32 - length t) 0 }
+ballotOf t = record { len = length t; cells = padded 32 0 t }
 
 -- "length 0 means none": no entries, and all cells zero
 abbrev pub noBallot : Ballot
@@ -36,17 +37,17 @@ emptyBallot b = both (isNoBallot b) (both (eqb (length (b .cells)) 32) (allB (eq
 unfoldable pub ballotShape : Ballot → Bool
 ballotShape b = both (eqb (length (b .cells)) 32) (both (leb (b .len) 32) (allB (eqb 0) (drop (b .len) (b .cells))))
 
--- a ballot of a sound record of n offices with this settled length, (xiv) without the dropped entries
+-- a ballot of a sound record of n offices, beside a settled log of which so many entries are held
 unfoldable pub ballotFine : ℕ → ℕ → Ballot → Bool
-ballotFine n settled b = both (ballotShape b) (tailFine n settled (tailOf b))
+ballotFine n held b = both (ballotShape b) (tailFine n held (tailOf b))
 
 -- eight ballots of such a record: each in shape, and the tails that they hold within their limits
 unfoldable pub ballotsFine : ℕ → ℕ → List Ballot → Bool
-ballotsFine n settled bs = both (allB ballotShape bs) (tailsFine n settled (map tailOf bs))
+ballotsFine n held bs = both (allB ballotShape bs) (tailsFine n held (map tailOf bs))
 
 -- the office's state in a log's words and eight ballots: "its first settled-length words are the settled log", (xiv) its undropped part
 abbrev pub officeIn : List ℕ → ℕ → List Ballot → Office
-officeIn words settled bs = record { log = take settled words; tails = map tailOf bs }
+officeIn words held bs = record { log = take held words; tails = map tailOf bs }
 
 -- a log's words with a settled log in front; "the others .. keep their contents"
 abbrev pub wordsWith : List ℕ → List ℕ → List ℕ

@@ -18,7 +18,7 @@ use Rattle.protocol.specs.Entry.{value, lineOf, codeOf}
 use Rattle.protocol.specs.Office.{Office, tail, path}
 use Rattle.protocol.specs.Issue.{withIssue}
 use Rattle.protocol.specs.Codes.{ofCell}
-use Rattle.protocol.specs.Folding.{Folded, withFoldedIssue}
+use Rattle.protocol.specs.Folding.{FoldedOffice, withFoldedIssue}
 use Rattle.protocol.specs.Frames.{editAfter}
 use Rattle.protocol.proofs.Frames.{edit-append}
 use Rattle.protocol.proofs.Issue.{issue-done}
@@ -47,11 +47,11 @@ last-issued office line code before p l c =
     edit-append line before p (value office line code ∷ []) ∙
     ap (λ (b : Bool). pick b (some (codeOf (value office line code))) (editAfter line before p)) (eq-eqb (lineOf (value office line code)) line here) ∙ ap some shown
 
-held-issued : (k e : ℕ) (f : Folded) → withFoldedIssue k e f .held ≡ withIssue k e (f .held)
+held-issued : (k e : ℕ) (f : FoldedOffice) → withFoldedIssue k e f .held ≡ withIssue k e (f .held)
 unfolding withFoldedIssue
 held-issued k e f = refl
 
-dropped-same : (k e : ℕ) (f : Folded) → withFoldedIssue k e f .dropped ≡ f .dropped
+dropped-same : (k e : ℕ) (f : FoldedOffice) → withFoldedIssue k e f .dropped ≡ f .dropped
 unfolding withFoldedIssue
 dropped-same k e f = refl
 
@@ -66,14 +66,15 @@ edit-shows r words line code low q =
     let e = value (r .own) line code in
     let r' = issueOf r words line code .«record» in
     let own : r' .own ≡ r .own = ap (λ (x : Record). x .own) (D .made) in
-    let state : heldBy r' words ≡ withIssue (r .own) e (heldBy r words) = ap (λ (f : Folded). f .held) (issue-state r words line code q) ∙ held-issued (r .own) e (foldedBy r words) in
+    let state : heldBy r' words ≡ withIssue (r .own) e (heldBy r words) = ap (λ (f : FoldedOffice). f .held) (issue-state r words line code q) ∙ held-issued (r .own) e (foldedBy r words) in
     let shown : path (heldBy r' words) (r' .own) ≡ path (heldBy r words) (r .own) ++ (e ∷ []) =
     ap₂ path state own ∙ own-path (r .own) e (heldBy r words) (omega (arith, F .eight, H .member, H .most)) in
     sym (shown-done line (keptEdit r' line) (path (heldBy r' words) (r' .own)) low (Code code)
     (sym (ap (λ (p : List ℕ). editIs (editAfter line (keptEdit r' line) p)) shown ∙ ap editIs (last-issued (r .own) line code (keptEdit r' line) (path (heldBy r words) (r .own)) low (I .code-ok))))
     ∙ frame-shown r' words line (path (heldBy r' words) (r' .own)) (sound-true r' words (issue-sound r words line code q)))
 
-frame-same : (r r' : Record) (words : List ℕ) (line : ℕ) (p p' : List ℕ) → soundB r' words ≡ soundB r words → keptEdit r' line ≡ keptEdit r line → p' ≡ p → frameOf r' words line p' ≡ frameOf r words line p
+frame-same : (r r' : Record) (words : List ℕ) (line : ℕ) (p p' : List ℕ) → soundB r' words ≡ soundB r words → keptEdit r' line ≡ keptEdit r line → p' ≡ p
+    → frameOf r' words line p' ≡ frameOf r words line p
 unfolding frameOf
 frame-same r r' words line p p' s k e = λ i. pick (s i) (shownIn line (k i) (e i)) (refusedFrame 1)
 
@@ -91,5 +92,5 @@ settled-stays r words line code at = go (eqb (issueOf r words line code .number)
         frame-same r (issueOf r words line code .«record») words at (heldBy r words .log) (heldBy (issueOf r words line code .«record») words .log)
         (sound-true (issueOf r words line code .«record») words (issue-sound r words line code q) ∙ sym (sound-true r words (D .was)))
         (ap (λ (k : Kept). ofCell (getD (k .summary .codes) at 0)) (issue-kept r words line code q ∙ kept-stays r words (D .was) (issuedOffice r words line code) (dropped-same (r .own) (value (r .own) line code) (foldedBy r words))))
-        (ap (λ (f : Folded). f .held .log) (issue-state r words line code q) ∙ ap (λ (o : Office). o .log) (held-issued (r .own) (value (r .own) line code) (foldedBy r words)) ∙ log-same (r .own) (value (r .own) line code) (heldBy r words))
+        (ap (λ (f : FoldedOffice). f .held .log) (issue-state r words line code q) ∙ ap (λ (o : Office). o .log) (held-issued (r .own) (value (r .own) line code) (foldedBy r words)) ∙ log-same (r .own) (value (r .own) line code) (heldBy r words))
     go false z = ap (λ (x : Record). settledFrameOf x words at) (issue-keeps r words line code (eqb-false (issueOf r words line code .number) 0 z))

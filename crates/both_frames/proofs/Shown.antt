@@ -62,7 +62,8 @@ stored-code r words S line h = ap (λ (x : Summary). getD (x .codes) line 0) (S 
 cell-said : (stored : ℕ) (o : Option ℕ) → stored ≡ cell o → storedEdit stored ≡ editIs o
 cell-said stored o e = ap storedEdit e ∙ ap editIs (cell-back o)
 
-pub stored-shown : (r : Record) (words : List ℕ) → Sound r words → (line : ℕ) → line ≤ 63 → storedEdit (getD (r .summary .codes) line 0) ≡ editIs (editAfter line (keptEdit r line) (heldBy r words .log))
+pub stored-shown : (r : Record) (words : List ℕ) → Sound r words → (line : ℕ) → line ≤ 63
+    → storedEdit (getD (r .summary .codes) line 0) ≡ editIs (editAfter line (keptEdit r line) (heldBy r words .log))
 stored-shown r words S line h = cell-said (getD (r .summary .codes) line 0) (editAfter line (keptEdit r line) (heldBy r words .log)) (stored-code r words S line h)
 
 pub behind-shown : (line : ℕ) (before : Option ℕ) (base last : ℕ) (x t : List ℕ) → base ≡ cell (editAfter line before x) → last ≡ cell (editAfter line (ofCell base) t)

@@ -1,13 +1,13 @@
 -- Request (xii): "Next round's weights are known only as a lowest and a highest .. for each office .. name the entry that would win the first step
 -- whichever weights within the bounds are chosen, or say that none would." The bounds and a choice are lists of one number for each of the n
 -- offices, office 0's first; `before` is "the tie order of its day". Assumes nothing.
-use mathlib.Core.List.{List, [], _∷_, _++_}
+use mathlib.Core.List.{List, [], _∷_}
 use mathlib.Core.Option.{Option, none, some}
 use mathlib.Core.Bool.{Bool, true, false, cond}
-use Prim.Native.Nat.{ℕ, _-_, _≤_}
+use Prim.Native.Nat.{ℕ, _≤_}
 use lib.Dec.{leb}
-use lib.ListN.{length, replicate}
 use Rattle.lists.specs.Tests.{both}
+use Rattle.lists.specs.Padded.{padded}
 use Rattle.protocol.specs.Vote.{Votes, later, isFor, supported, wins, firstThat}
 use Rattle.protocol.specs.Winning.{Wins}
 
@@ -51,4 +51,4 @@ voteThat t (some e) = t e
 
 -- the weights of n offices in eight cells: zero from place n on
 abbrev pub inEight : List ℕ → List ℕ
-inEight ws = ws ++ replicate (8 - length ws) 0
+inEight = padded 8 0

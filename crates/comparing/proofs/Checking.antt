@@ -33,7 +33,8 @@ module _ (dropped : ℕ) (log : List ℕ) (other : ℕ) (theirs : List ℕ) wher
   pub by-none : (x : Checked) (k number : ℕ) → x ≡ record { number = k; places = 0 } → compares k ≡ false → k ≡ number → x ≡ checkedBy number dropped log other theirs
   by-none x k number is c e = is ∙ answer k 0 number e (sym (pick-false (compares k) (placesFromEnd ownPart theirPart) 0 c))
 
-  pub by-compared : (k p number : ℕ) → compares k ≡ true → k ≡ number → p ≡ placesFromEnd ownPart theirPart → _≡_ {A = Checked} (record { number = k; places = p }) (checkedBy number dropped log other theirs)
+  pub by-compared : (k p number : ℕ) → compares k ≡ true → k ≡ number → p ≡ placesFromEnd ownPart theirPart
+      → _≡_ {A = Checked} (record { number = k; places = p }) (checkedBy number dropped log other theirs)
   by-compared k p number c e q = answer k p number e (q ∙ sym (pick-true (compares k) (placesFromEnd ownPart theirPart) 0 c))
 
   pub past : length log < other - dropped → 16 ≡ logsRefusal dropped log other theirs

@@ -73,7 +73,8 @@ below-alike (suc i) a b c d p q =
     λ t. record { differ = pick (s t) (more t .differ) true; places = suc (pick (s t) (more t .places) 0) }
 
 -- the shorter log has i places, and those of the settled log are the log's words
-pub compared-at : (log rest : List ℕ) (settled k i : ℕ) → settled ≤ length log → i ≡ min settled k → comparedBelow i log (runAt 6 recordAt i rest) ≡ comparedOf (take settled log) (runAt 6 recordAt k rest)
+pub compared-at : (log rest : List ℕ) (settled k i : ℕ) → settled ≤ length log → i ≡ min settled k
+    → comparedBelow i log (runAt 6 recordAt i rest) ≡ comparedOf (take settled log) (runAt 6 recordAt k rest)
 compared-at log rest settled k i h e =
     let own : length (take settled log) ≡ settled = length-take-le settled log h in
     let theirs : length (runAt 6 recordAt k rest) ≡ k = runAt-length 6 recordAt k rest in

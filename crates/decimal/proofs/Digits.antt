@@ -46,7 +46,8 @@ pub put-behind : (out : List ℕ) (at g : ℕ) (xs : List ℕ) → set (sets out
 put-behind out at g xs = sym (sets-append out at xs (g ∷ []))
 
 module _ (out last : List ℕ) (at r g places n : ℕ) (h : 1 ≤ places) (l : 10 ≤ n) where
-  pub put-last : r ≡ at + length (decimalIn (places - 1) (n / 10)) → last ≡ sets out at (decimalIn (places - 1) (n / 10)) → g ≡ glyph (n % 10) → (r + 1 ≡ at + length (decimalIn places n)) × (set last r g ≡ sets out at (decimalIn places n))
+  pub put-last : r ≡ at + length (decimalIn (places - 1) (n / 10)) → last ≡ sets out at (decimalIn (places - 1) (n / 10)) → g ≡ glyph (n % 10)
+      → (r + 1 ≡ at + length (decimalIn places n)) × (set last r g ≡ sets out at (decimalIn places n))
   put-last er el eg =
       let e = digits-more places n h l in
       (rw (e, length-append) (omega arith), rw (er, el, eg, e) (put-behind out at (glyph (n % 10)) (decimalIn (places - 1) (n / 10))))

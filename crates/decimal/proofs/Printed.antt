@@ -24,7 +24,8 @@ module _ (most : ℕ) where
   by-itself (Value v) = refl
   by-itself Not = refl
 
-  last-by : (x : Number) (xs : List ℕ) (d : ℕ) → ((w : ℕ) → digitsOf most w (xs ++ (d ∷ [])) ≡ byNumber (digitsOf most w xs) (λ (u : ℕ). digitOf most u d) Not) → byNumber x (λ (w : ℕ). digitsOf most w (xs ++ (d ∷ []))) Not ≡ byNumber (byNumber x (λ (w : ℕ). digitsOf most w xs) Not) (λ (u : ℕ). digitOf most u d) Not
+  last-by : (x : Number) (xs : List ℕ) (d : ℕ) → ((w : ℕ) → digitsOf most w (xs ++ (d ∷ [])) ≡ byNumber (digitsOf most w xs) (λ (u : ℕ). digitOf most u d) Not)
+      → byNumber x (λ (w : ℕ). digitsOf most w (xs ++ (d ∷ []))) Not ≡ byNumber (byNumber x (λ (w : ℕ). digitsOf most w xs) Not) (λ (u : ℕ). digitOf most u d) Not
   unfolding byNumber
   last-by (Value w) xs d h = h w
   last-by Not xs d h = refl
@@ -54,7 +55,8 @@ module _ (most : ℕ) where
         let z : n / 10 * 10 + n % 10 ≡ n = omega arith in
         rw (digits-more (suc places) n (omega arith) k, p, digits-last, h k, digit-read (n / 10) (n % 10) (omega arith) (omega arith), z)
 
-    starts-by : (t : Bool) → ltb n 10 ≡ t → 1 ≤ n → (10 ≤ n → (0 < length (decimalIn places (n / 10))) × (49 ≤ getD (decimalIn places (n / 10)) 0 0)) → (0 < length (decimalIn (suc places) n)) × (49 ≤ getD (decimalIn (suc places) n) 0 0)
+    starts-by : (t : Bool) → ltb n 10 ≡ t → 1 ≤ n → (10 ≤ n → (0 < length (decimalIn places (n / 10))) × (49 ≤ getD (decimalIn places (n / 10)) 0 0))
+        → (0 < length (decimalIn (suc places) n)) × (49 ≤ getD (decimalIn (suc places) n) 0 0)
     starts-by true e o h =
         let k : n < 10 = ltb-true n 10 e in
         rw (digits-one (suc places) n (omega arith) k) (omega arith, omega arith)

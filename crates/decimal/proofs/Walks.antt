@@ -61,7 +61,8 @@ module _ (most : ℕ) where
 abbrev after : ℕ → List ℕ → List (List ℕ)
 after k s = pick (ltb k (length s)) (fields (drop (suc k) s)) []
 
-split-by : (b : ℕ) (s : List ℕ) (t : Bool) → eqb b 32 ≡ t → fields s ≡ take (partLength 32 s) s ∷ after (partLength 32 s) s → fields (b ∷ s) ≡ take (partLength 32 (b ∷ s)) (b ∷ s) ∷ after (partLength 32 (b ∷ s)) (b ∷ s)
+split-by : (b : ℕ) (s : List ℕ) (t : Bool) → eqb b 32 ≡ t → fields s ≡ take (partLength 32 s) s ∷ after (partLength 32 s) s
+    → fields (b ∷ s) ≡ take (partLength 32 (b ∷ s)) (b ∷ s) ∷ after (partLength 32 (b ∷ s)) (b ∷ s)
 unfolding fields partLength inFirst pick
 split-by b s true e h = rw (e, lt-ltb 0 (length (b ∷ s)) (omega arith))
 split-by b s false e h = rw (e, h, leb·suc-suc (suc (partLength 32 s)) (length s))
@@ -92,7 +93,9 @@ module _ (s : List ℕ) (at : ℕ) where
   fields-none h = rw (lt-leb at (length s) h)
 
 module _ (s cells : List ℕ) (count at : ℕ) where
-  pub numbers-step : (end : ℕ) → at ≤ length s → end ≡ at + partLength 32 (drop at s) → numbersAfter count cells (fieldsFrom s at) ≡ pick (eqb count 8) noNumbers (byNumber (fieldNumber (take (end - at) (drop at s))) (λ (v : ℕ). numbersAfter (count + 1) (set cells count v) (fieldsFrom s (end + 1))) noNumbers)
+  pub numbers-step : (end : ℕ) → at ≤ length s → end ≡ at + partLength 32 (drop at s)
+      → numbersAfter count cells (fieldsFrom s at)
+      ≡ pick (eqb count 8) noNumbers (byNumber (fieldNumber (take (end - at) (drop at s))) (λ (v : ℕ). numbersAfter (count + 1) (set cells count v) (fieldsFrom s (end + 1))) noNumbers)
   unfolding numbersAfter
   numbers-step end h e =
       let k : end - at ≡ partLength 32 (drop at s) = omega arith in

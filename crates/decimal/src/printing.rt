@@ -35,7 +35,8 @@ fn put_digits(out: &mut [u8], at: usize, n: usize, places: usize) -> usize
 
 // Writes the number's digits from `at` on, and answers the place behind them. It wants room for 20, and without it writes nothing.
 pub fn put_number(out: &mut [u8], at: usize, n: usize) -> usize
-    ensures { λ r. ⌜ (r ≡ at + length (printedAt (now (out .entry)) at n)) × (now (out .exit) ≡ sets (now (out .entry)) at (printedAt (now (out .entry)) at n)) ⌝ }
+    ensures end { λ r. ⌜ r ≡ at + length (printedAt (now (out .entry)) at n) ⌝ }
+    ensures output { λ _. ⌜ now (out .exit) ≡ sets (now (out .entry)) at (printedAt (now (out .entry)) at n) ⌝ }
 {
     if at > out.len() {
         return at;

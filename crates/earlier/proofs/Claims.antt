@@ -16,14 +16,15 @@ use lib.Seq.{length-take-le, take-take}
 use borrow.Author.Tests.{leb-true}
 use Rattle.lists.specs.Tests.{pick}
 use Rattle.lists.proofs.Tests.{both-0, both-1}
+use Rattle.lists.proofs.Padded.{padded-at, padded-past}
 use Rattle.protocol.specs.Codes.{cell, noCodes, codesAfter}
 use Rattle.protocol.specs.Frames.{editAfter, lastEdit}
 use Rattle.protocol.proofs.Codes.{cell-back}
 use Rattle.backward.specs.Runs.{ofFrame, editsOf, editsAll, shortestRun, Shortest}
 use Rattle.backward.specs.Cells.{placed}
-use Rattle.backward.proofs.Reading.{kept-front, none-kept}
+use Rattle.backward.proofs.WalkReads.{kept-front, none-kept}
 use Rattle.backward.proofs.Runs.{shortest-is}
-use Rattle.backward.proofs.Placed.{named-at, getD-mapped, placed-at, placed-past}
+use Rattle.backward.proofs.Placed.{named-at, getD-mapped}
 use Rattle.frame.specs.State.{heldLength}
 use Rattle.frame.specs.Soundness.{soundB}
 use Rattle.both_frames.specs.Frames.{editIs, storedEdit, keptEdit, frameOf, settledFrameOf}
@@ -100,7 +101,7 @@ module _ (r : Record) (words : List ℕ) (p : ℕ) (lines : List ℕ) where
     edit-at : (i : ℕ) → i < length lines → getD (earlierOf r words p lines .edits) i 0 ≡ shown (getD lines i 0)
     edit-at i h =
         ap (λ (a : Earlier). getD (a .edits) i 0) is
-        ∙ placed-at (editsOf lines (r .kept .summary .codes) first) i (omega (arith, length-map lines shown))
+        ∙ padded-at 64 0 (editsOf lines (r .kept .summary .codes) first) i (omega (arith, length-map lines shown))
         ∙ getD-mapped shown lines i h
 
     frames : (i : ℕ) → i < length lines → shownAt r words p lines i ≡ frameOf r words (getD lines i 0) (firstOf r words p)
@@ -117,7 +118,7 @@ module _ (r : Record) (words : List ℕ) (p : ℕ) (lines : List ℕ) where
     past : (i : ℕ) → length lines ≤ i → getD (earlierOf r words p lines .edits) i 0 ≡ 0
     past i h =
         ap (λ (a : Earlier). getD (a .edits) i 0) is
-        ∙ placed-past (editsOf lines (r .kept .summary .codes) first) i (omega (arith, length-map lines shown))
+        ∙ padded-past 64 0 (editsOf lines (r .kept .summary .codes) first) i (omega (arith, length-map lines shown))
 
     read : Shortest (p - r .kept .dropped) (runEdits r words p lines) (earlierOf r words p lines .words)
     read = subst (Shortest (p - r .kept .dropped) (runEdits r words p lines)) (ap (λ (a : Earlier). a .words) (sym is))

@@ -16,7 +16,7 @@ use Rattle.lists.proofs.Tests.{both-true, both-false-0, both-false-1}
 use Rattle.backward.specs.Runs.{ofFrame, editsOf, shortestRun}
 use Rattle.backward.specs.Cells.{placed, walkedOf}
 use Rattle.backward.specs.declared.Walked.{Walked}
-use Rattle.backward.proofs.Reading.{walked-is}
+use Rattle.backward.proofs.WalkReads.{walked-is}
 use Rattle.frame.specs.State.{heldLength}
 use Rattle.frame.specs.Soundness.{soundB}
 use Rattle.frame.specs.declared.Record.{Record}

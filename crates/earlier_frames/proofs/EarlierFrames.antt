@@ -13,13 +13,14 @@ use lib.Seq.{length-take-le, take-append-le, take-append-add, drop-append-add}
 use borrow.Author.Tests.{leb-true, leb-false, le-leb}
 use Rattle.lists.specs.Tests.{pick}
 use Rattle.lists.proofs.Tests.{both-true}
+use Rattle.lists.proofs.Padded.{padded-at}
 use Rattle.protocol.specs.Beginning.{_⊑_}
 use Rattle.protocol.specs.Codes.{cell, noCodes, codesAfter}
 use Rattle.protocol.specs.Frames.{lastEdit}
 use Rattle.protocol.proofs.Beginning.{⊑-rest}
 use Rattle.backward.specs.Runs.{Named, ofFrame, editsAll, runHas, shortestRun, Shortest}
 use Rattle.backward.specs.Cells.{placed}
-use Rattle.backward.proofs.Placed.{getD-mapped, placed-at}
+use Rattle.backward.proofs.Placed.{getD-mapped}
 use Rattle.backward.proofs.Runs.{shortest-one, shortest-is}
 use Rattle.kept.specs.declared.Kept.{Kept}
 use Rattle.frame.specs.State.{heldBy}
@@ -34,7 +35,7 @@ use Rattle.earlier.proofs.Made.{earlier-no-line, earlier-many, earlier-done}
 use Rattle.agreement.specs.World.{Replica, World, Call, replicaAt, onSome, after}
 use Rattle.agreement.specs.Demand.{Founded, says, order}
 use Rattle.agreement.proofs.Demand.{one-order}
-use Rattle.agreement.proofs.Calls.{kept}
+use Rattle.agreement.proofs.Calls.{always}
 use Rattle.earlier_frames.specs.EarlierFrames.{answer, first, Within, Answered, EarlierFrames}
 
 -- the shortest of the runs up to a length, by the shortest of all
@@ -78,7 +79,7 @@ module _ (n : ℕ) (weights : List ℕ) (start : World) (founded : Founded n wei
     codes = ap (λ (x : Kept). x .summary .codes) (one-order n weights start founded cs .kept cs [] (append-nil cs) k d e)
 
     sound : soundB (d .held) (d .words) ≡ true
-    sound = kept n weights start founded cs .sound k d e
+    sound = always n weights start founded cs .sound k d e
 
     settled : length (says d .log) ≡ d .held .settled
     settled = omega (arith, length-append (d .former) (heldBy (d .held) (d .words) .log), counted, whole-length (d .held) (d .words) (frame.sound (d .held) (d .words) sound))
@@ -132,7 +133,7 @@ module _ (n : ℕ) (weights : List ℕ) (start : World) (founded : Founded n wei
       answered : answer d p lines .number ≡ 0 → Answered d p lines
       answered h = record {
         within = w;
-        shows = λ i j. ap (λ (l : List ℕ). getD l i 0) (edits-are w h) ∙ placed-at (map last lines) i (omega (arith, length-map lines last)) ∙ getD-mapped last lines i j;
+        shows = λ i j. ap (λ (l : List ℕ). getD l i 0) (edits-are w h) ∙ padded-at 64 0 (map last lines) i (omega (arith, length-map lines last)) ∙ getD-mapped last lines i j;
         past = c .past;
         read =
             least-part (p - d .held .kept .dropped) (length (first d p)) (runEdits (d .held) (d .words) p lines) (runHas lines (first d p)) (answer d p lines .words) (shortestRun lines (first d p))

@@ -29,11 +29,11 @@ use Rattle.ballots.proofs.Laws.{tail-fine, none-empty, empty-fine}
 
 -- ── the definition's halves, ballot by ballot ──
 abbrev pub placesFine : ℕ → ℕ → List Ballot → Bool
-placesFine n settled bs = both (allB (ballotFine n settled) bs) (allB isNoBallot (drop n bs))
+placesFine n held bs = both (allB (ballotFine n held) bs) (allB isNoBallot (drop n bs))
 
-pub shape-of : (n settled : ℕ) (b : Ballot) → ballotFine n settled b ≡ true → ballotShape b ≡ true
+pub shape-of : (n held : ℕ) (b : Ballot) → ballotFine n held b ≡ true → ballotShape b ≡ true
 unfolding ballotFine
-shape-of n settled b e = both-0 (ballotShape b) (tailFine n settled (tailOf b)) e
+shape-of n held b e = both-0 (ballotShape b) (tailFine n held (tailOf b)) e
 
 -- a ballot in shape with an empty tail is none
 none-shaped : (b : Ballot) → ballotShape b ≡ true → isEmpty (tailOf b) ≡ true → isNoBallot b ≡ true
@@ -50,43 +50,43 @@ unfolding allB
 both-halves t u v h [] p q = refl
 both-halves t u v h (b ∷ bs) p q = both-true (v b) (allB v bs) (h b (both-0 _ _ p) (both-0 _ _ q)) (both-halves t u v h bs (both-1 _ _ p) (both-1 _ _ q))
 
-pub places-fine : (n settled : ℕ) (bs : List Ballot) → length bs ≡ 8 → ballotsFine n settled bs ≡ placesFine n settled bs
+pub places-fine : (n held : ℕ) (bs : List Ballot) → length bs ≡ 8 → ballotsFine n held bs ≡ placesFine n held bs
 unfolding ballotsFine tailsFine ballotFine
-places-fine n settled bs eight = alike _ _ to from
+places-fine n held bs eight = alike _ _ to from
   where
-    to : ballotsFine n settled bs ≡ true → placesFine n settled bs ≡ true
+    to : ballotsFine n held bs ≡ true → placesFine n held bs ≡ true
     to e =
         let shape = both-0 _ _ e in
         let tails = both-1 _ _ (both-1 _ _ e) in
         both-true _ _
-        (both-halves ballotShape (λ b. tailFine n settled (tailOf b)) (ballotFine n settled) (λ b p q. both-true (ballotShape b) (tailFine n settled (tailOf b)) p q) bs shape
-        (sym (all-mapped (tailFine n settled) tailOf bs) ∙ both-0 _ _ tails))
+        (both-halves ballotShape (λ b. tailFine n held (tailOf b)) (ballotFine n held) (λ b p q. both-true (ballotShape b) (tailFine n held (tailOf b)) p q) bs shape
+        (sym (all-mapped (tailFine n held) tailOf bs) ∙ both-0 _ _ tails))
         (both-halves ballotShape (λ b. isEmpty (tailOf b)) isNoBallot none-shaped (drop n bs) (all-drop ballotShape n bs shape)
         (sym (all-mapped isEmpty tailOf (drop n bs)) ∙ ap (allB isEmpty) (sym (drop-map tailOf n bs)) ∙ both-1 _ _ tails))
 
-    from : placesFine n settled bs ≡ true → ballotsFine n settled bs ≡ true
+    from : placesFine n held bs ≡ true → ballotsFine n held bs ≡ true
     from e =
         let fine = both-0 _ _ e in
-        both-true _ _ (all-mono (ballotFine n settled) ballotShape (shape-of n settled) bs fine)
+        both-true _ _ (all-mono (ballotFine n held) ballotShape (shape-of n held) bs fine)
         (both-true _ _ (eq-eqb (length (map tailOf bs)) 8 (length-map bs tailOf ∙ eight))
-        (both-true _ _ (all-map (ballotFine n settled) (tailFine n settled) tailOf (tail-fine n settled) bs fine)
+        (both-true _ _ (all-map (ballotFine n held) (tailFine n held) tailOf (tail-fine n held) bs fine)
         (ap (allB isEmpty) (drop-map tailOf n bs) ∙ all-map isNoBallot isEmpty tailOf none-empty (drop n bs) (both-1 _ _ e))))
 
 -- eight ballots that are none are within the limits
-pub none-all : (n settled : ℕ) → settled ≤ 1024 → (bs : List Ballot) → length bs ≡ 8 → allB emptyBallot bs ≡ true → true ≡ ballotsFine n settled bs
-none-all n settled h bs eight e =
-    sym (places-fine n settled bs eight ∙ both-true _ _ (all-mono emptyBallot (ballotFine n settled) (λ b p. empty-fine n settled h b p .0) bs e)
-    (all-drop isNoBallot n bs (all-mono emptyBallot isNoBallot (λ b p. empty-fine n settled h b p .1) bs e)))
+pub none-all : (n held : ℕ) → held ≤ 1024 → (bs : List Ballot) → length bs ≡ 8 → allB emptyBallot bs ≡ true → true ≡ ballotsFine n held bs
+none-all n held h bs eight e =
+    sym (places-fine n held bs eight ∙ both-true _ _ (all-mono emptyBallot (ballotFine n held) (λ b p. empty-fine n held h b p .0) bs e)
+    (all-drop isNoBallot n bs (all-mono emptyBallot isNoBallot (λ b p. empty-fine n held h b p .1) bs e)))
 
 -- ── a ballot at its place ──
 -- within its limits, and none from office n on
 unfoldable fineAt : ℕ → ℕ → ℕ → Ballot → Bool
-fineAt n settled place b = both (ballotFine n settled b) (pick (ltb place n) true (isNoBallot b))
+fineAt n held place b = both (ballotFine n held b) (pick (ltb place n) true (isNoBallot b))
 
 -- the lengths from place i on
 unfoldable pub fitFrom : ℕ → ℕ → ℕ → List Ballot → Bool
-fitFrom n settled i [] = true
-fitFrom n settled i (b ∷ bs) = both (fitsAt n settled i (b .len)) (fitFrom n settled (i + 1) bs)
+fitFrom n held i [] = true
+fitFrom n held i (b ∷ bs) = both (fitsAt n held i (b .len)) (fitFrom n held (i + 1) bs)
 
 -- from office n on, where t is false, only the length 0 passes; it is within the limits
 by-length : (l cells t none : Bool) → (none ≡ true → l ≡ true) → both (both l cells) (pick t true none) ≡ both (pick t l none) cells
@@ -102,47 +102,47 @@ mixed : (x y z l e u : Bool) → both (both x (both y z)) (both l (both e u)) �
 mixed x y z l e u = simp (both-assoc, both-swap)
 
 -- one ballot, and those behind it
-one : (n settled i : ℕ) (b : Ballot) (bs : List Ballot) (t : Bool) → ltb i n ≡ t
-    → both (allB (ballotFine n settled) (b ∷ bs)) (allB isNoBallot (drop (n - i) (b ∷ bs)))
-    ≡ both (fineAt n settled i b) (both (allB (ballotFine n settled) bs) (allB isNoBallot (drop (n - (i + 1)) bs)))
+one : (n held i : ℕ) (b : Ballot) (bs : List Ballot) (t : Bool) → ltb i n ≡ t
+    → both (allB (ballotFine n held) (b ∷ bs)) (allB isNoBallot (drop (n - i) (b ∷ bs)))
+    ≡ both (fineAt n held i b) (both (allB (ballotFine n held) bs) (allB isNoBallot (drop (n - (i + 1)) bs)))
 unfolding allB fineAt pick both
-one n settled i b bs true e =
+one n held i b bs true e =
     let m : n - i ≡ suc (n - (i + 1)) = omega (arith, ltb-true i n e) in
-    rw (m, e) (cross (ballotFine n settled b) (allB (ballotFine n settled) bs) true (allB isNoBallot (drop (n - (i + 1)) bs)))
-one n settled i b bs false e =
+    rw (m, e) (cross (ballotFine n held b) (allB (ballotFine n held) bs) true (allB isNoBallot (drop (n - (i + 1)) bs)))
+one n held i b bs false e =
     let l = ltb-false i n e in
     let m : n - i ≡ 0 = omega arith in
     let k : n - (i + 1) ≡ 0 = omega arith in
-    rw (m, k, e) (cross (ballotFine n settled b) (allB (ballotFine n settled) bs) (isNoBallot b) (allB isNoBallot bs))
+    rw (m, k, e) (cross (ballotFine n held b) (allB (ballotFine n held) bs) (isNoBallot b) (allB isNoBallot bs))
 
 none-left : (k : ℕ) → both true (allB isNoBallot (drop k [])) ≡ true
 unfolding both allB
 none-left zero = refl
 none-left (suc k) = refl
 
-module _ (n settled : ℕ) (some : 1 ≤ n) (most : settled ≤ 1024) where
+module _ (n held : ℕ) (some : 1 ≤ n) (most : held ≤ 1024) where
   -- the test at a place
-  place-tests : (i : ℕ) (b : Ballot) → fineAt n settled i b ≡ both (fitsAt n settled i (b .len)) (both (entryCells n b) (restFine n b))
+  place-tests : (i : ℕ) (b : Ballot) → fineAt n held i b ≡ both (fitsAt n held i (b .len)) (both (entryCells n b) (restFine n b))
   unfolding fineAt fitsAt
   place-tests i b =
-      ap (λ (t : Bool). both t (pick (ltb i n) true (isNoBallot b))) (sym (fine-tests n settled b some))
-      ∙ by-length (both (leb (b .len) 32) (leb (settled + b .len) 1024)) (both (entryCells n b) (restFine n b)) (ltb i n) (isNoBallot b) none-fits
+      ap (λ (t : Bool). both t (pick (ltb i n) true (isNoBallot b))) (sym (fine-tests n held b some))
+      ∙ by-length (both (leb (b .len) 32) (leb (held + b .len) 1024)) (both (entryCells n b) (restFine n b)) (ltb i n) (isNoBallot b) none-fits
     where
-      none-fits : isNoBallot b ≡ true → both (leb (b .len) 32) (leb (settled + b .len) 1024) ≡ true
-      none-fits e = let l : 0 ≡ b .len = eqb-true 0 (b .len) e in both-true _ _ (le-leb (b .len) 32 (omega arith)) (le-leb (settled + b .len) 1024 (omega arith))
+      none-fits : isNoBallot b ≡ true → both (leb (b .len) 32) (leb (held + b .len) 1024) ≡ true
+      none-fits e = let l : 0 ≡ b .len = eqb-true 0 (b .len) e in both-true _ _ (le-leb (b .len) 32 (omega arith)) (le-leb (held + b .len) 1024 (omega arith))
 
-  from-place : (i : ℕ) (bs : List Ballot) → both (allB (ballotFine n settled) bs) (allB isNoBallot (drop (n - i) bs))
-      ≡ both (fitFrom n settled i bs) (both (allB (entryCells n) bs) (allB (restFine n) bs))
+  from-place : (i : ℕ) (bs : List Ballot) → both (allB (ballotFine n held) bs) (allB isNoBallot (drop (n - i) bs))
+      ≡ both (fitFrom n held i bs) (both (allB (entryCells n) bs) (allB (restFine n) bs))
   unfolding allB fitFrom both
   from-place i [] = none-left (n - i)
   from-place i (b ∷ bs) =
-      one n settled i b bs (ltb i n) refl ∙ ap (λ (t : Bool). both t (both (allB (ballotFine n settled) bs) (allB isNoBallot (drop (n - (i + 1)) bs)))) (place-tests i b)
-      ∙ ap (both (both (fitsAt n settled i (b .len)) (both (entryCells n b) (restFine n b)))) (from-place (i + 1) bs)
-      ∙ mixed (fitsAt n settled i (b .len)) (entryCells n b) (restFine n b) (fitFrom n settled (i + 1) bs) (allB (entryCells n) bs) (allB (restFine n) bs)
+      one n held i b bs (ltb i n) refl ∙ ap (λ (t : Bool). both t (both (allB (ballotFine n held) bs) (allB isNoBallot (drop (n - (i + 1)) bs)))) (place-tests i b)
+      ∙ ap (both (both (fitsAt n held i (b .len)) (both (entryCells n b) (restFine n b)))) (from-place (i + 1) bs)
+      ∙ mixed (fitsAt n held i (b .len)) (entryCells n b) (restFine n b) (fitFrom n held (i + 1) bs) (allB (entryCells n) bs) (allB (restFine n) bs)
 
-  pub fine-tests-all : (bs : List Ballot) → length bs ≡ 8 → ballotsFine n settled bs ≡ both (fitFrom n settled 0 bs) (both (allB (entryCells n) bs) (allB (restFine n) bs))
+  pub fine-tests-all : (bs : List Ballot) → length bs ≡ 8 → ballotsFine n held bs ≡ both (fitFrom n held 0 bs) (both (allB (entryCells n) bs) (allB (restFine n) bs))
   fine-tests-all bs eight =
-      places-fine n settled bs eight ∙ ap (λ (k : ℕ). both (allB (ballotFine n settled) bs) (allB isNoBallot (drop k bs))) (sym (sub-zero n)) ∙ from-place 0 bs
+      places-fine n held bs eight ∙ ap (λ (k : ℕ). both (allB (ballotFine n held) bs) (allB isNoBallot (drop k bs))) (sym (sub-zero n)) ∙ from-place 0 bs
 
 -- two tests of every ballot, each of all of them
 pub all-both : (t u : Ballot → Bool) (bs : List Ballot) → both (allB t bs) (allB u bs) ≡ allB (λ (b : Ballot). both (t b) (u b)) bs
@@ -151,29 +151,29 @@ all-both t u [] = refl
 all-both t u (b ∷ bs) = cross (t b) (allB t bs) (u b) (allB u bs) ∙ ap (both (both (t b) (u b))) (all-both t u bs)
 
 -- ── the walk over the lengths ──
-module _ (n settled : ℕ) (bs : List Ballot) (fit : Bool) (i : ℕ) (inv : fitFrom n settled 0 bs ≡ both fit (fitFrom n settled i (drop i bs))) where
-  pub fit-next : i < length bs → (x : Bool) → x ≡ fitsAt n settled i (getD bs i offEnd .len) → fitFrom n settled 0 bs ≡ both (fit && x) (fitFrom n settled (i + 1) (drop (i + 1) bs))
+module _ (n held : ℕ) (bs : List Ballot) (fit : Bool) (i : ℕ) (inv : fitFrom n held 0 bs ≡ both fit (fitFrom n held i (drop i bs))) where
+  pub fit-next : i < length bs → (x : Bool) → x ≡ fitsAt n held i (getD bs i offEnd .len) → fitFrom n held 0 bs ≡ both (fit && x) (fitFrom n held (i + 1) (drop (i + 1) bs))
   unfolding fitFrom
-  fit-next h x e = inv ∙ rw (rest-step offEnd bs i h, sym e) (sym (both-assoc fit x _) ∙ ap (λ (t : Bool). both t (fitFrom n settled (i + 1) (drop (i + 1) bs))) (sym (and-both fit x)))
+  fit-next h x e = inv ∙ rw (rest-step offEnd bs i h, sym e) (sym (both-assoc fit x _) ∙ ap (λ (t : Bool). both t (fitFrom n held (i + 1) (drop (i + 1) bs))) (sym (and-both fit x)))
 
-  pub fit-done : length bs ≤ i → fit ≡ fitFrom n settled 0 bs
+  pub fit-done : length bs ≤ i → fit ≡ fitFrom n held 0 bs
   unfolding fitFrom both
   fit-done h = sym (inv ∙ rw (drop-of-length-le bs h) (both-comm fit true))
 
 -- lengths that fit are at most 32
-fits-few : (n settled place len : ℕ) → fitsAt n settled place len ≡ true → len ≤ 32
+fits-few : (n held place len : ℕ) → fitsAt n held place len ≡ true → len ≤ 32
 unfolding fitsAt pick
-fits-few n settled place len e = go (ltb place n) e
+fits-few n held place len e = go (ltb place n) e
   where
-    go : (t : Bool) → pick t (both (leb len 32) (leb (settled + len) 1024)) (eqb 0 len) ≡ true → len ≤ 32
+    go : (t : Bool) → pick t (both (leb len 32) (leb (held + len) 1024)) (eqb 0 len) ≡ true → len ≤ 32
     go true q = leb-true len 32 (both-0 _ _ q)
     go false q = let z : 0 ≡ len = eqb-true 0 len q in omega arith
 
-pub fit-few : (n settled i : ℕ) (bs : List Ballot) → fitFrom n settled i bs ≡ true → (k : ℕ) → k < length bs → getD bs k offEnd .len ≤ 32
+pub fit-few : (n held i : ℕ) (bs : List Ballot) → fitFrom n held i bs ≡ true → (k : ℕ) → k < length bs → getD bs k offEnd .len ≤ 32
 unfolding fitFrom
-fit-few n settled i [] e k h = absurd (not-suc-le-zero h)
-fit-few n settled i (b ∷ bs) e zero h = fits-few n settled i (b .len) (both-0 _ _ e)
-fit-few n settled i (b ∷ bs) e (suc k) h = fit-few n settled (i + 1) bs (both-1 _ _ e) k (le-of-suc-le-suc h)
+fit-few n held i [] e k h = absurd (not-suc-le-zero h)
+fit-few n held i (b ∷ bs) e zero h = fits-few n held i (b .len) (both-0 _ _ e)
+fit-few n held i (b ∷ bs) e (suc k) h = fit-few n held (i + 1) bs (both-1 _ _ e) k (le-of-suc-le-suc h)
 
 -- ── eight ballots as four and four ──
 abbrev ofEight : (Ballot → Bool) → List Ballot → Bool

@@ -116,11 +116,11 @@ abbrev pub restFine : ℕ → Ballot → Bool
 restFine n b = both (unusedZero b) (fairTail n b)
 
 -- where n is not 0 a cell that is zero is an entry too
-pub fine-tests : (n settled : ℕ) (b : Ballot) → 1 ≤ n → both (both (leb (b .len) 32) (leb (settled + b .len) 1024)) (both (entryCells n b) (restFine n b)) ≡ ballotFine n settled b
+pub fine-tests : (n held : ℕ) (b : Ballot) → 1 ≤ n → both (both (leb (b .len) 32) (leb (held + b .len) 1024)) (both (entryCells n b) (restFine n b)) ≡ ballotFine n held b
 unfolding allCells unusedZero fairTail ballotFine ballotShape tailFine
-fine-tests n settled b some = alike _ _ to from
+fine-tests n held b some = alike _ _ to from
   where
-    to : both (both (leb (b .len) 32) (leb (settled + b .len) 1024)) (both (entryCells n b) (restFine n b)) ≡ true → ballotFine n settled b ≡ true
+    to : both (both (leb (b .len) 32) (leb (held + b .len) 1024)) (both (entryCells n b) (restFine n b)) ≡ true → ballotFine n held b ≡ true
     to e =
         let lens = both-0 _ _ e in
         let cells = both-0 _ _ (both-1 _ _ e) in
@@ -128,10 +128,10 @@ fine-tests n settled b some = alike _ _ to from
         both-true _ _ (both-true _ _ (both-0 _ _ cells) (both-true _ _ (both-0 _ _ lens) (both-0 _ _ (both-1 _ _ (both-1 _ _ e)))))
         (both-true _ _ (rw l (both-0 _ _ lens)) (both-true _ _ (rw l (both-1 _ _ lens)) (both-true _ _ (all-take (isEntry n) (b .len) (b .cells) (both-1 _ _ cells)) (both-1 _ _ (both-1 _ _ (both-1 _ _ e))))))
 
-    from : ballotFine n settled b ≡ true → both (both (leb (b .len) 32) (leb (settled + b .len) 1024)) (both (entryCells n b) (restFine n b)) ≡ true
+    from : ballotFine n held b ≡ true → both (both (leb (b .len) 32) (leb (held + b .len) 1024)) (both (entryCells n b) (restFine n b)) ≡ true
     from e =
-        let F = fine n settled b e in
+        let F = fine n held b e in
         let unused : allB (isEntry n) (drop (b .len) (b .cells)) ≡ true = all-mono (eqb 0) (isEntry n) (λ x z. ap (isEntry n) (sym (eqb-true 0 x z)) ∙ zero-entry n some) (drop (b .len) (b .cells)) (F .zero) in
         let cells : allB (isEntry n) (b .cells) ≡ true = rw (take-append-drop (b .len) (b .cells)) at (all-append (isEntry n) (tailOf b) (drop (b .len) (b .cells)) (F .entries) unused) in
-        both-true _ _ (both-true _ _ (le-leb (b .len) 32 (F .len)) (le-leb (settled + b .len) 1024 (F .path)))
+        both-true _ _ (both-true _ _ (le-leb (b .len) 32 (F .len)) (le-leb (held + b .len) 1024 (F .path)))
         (both-true _ _ (both-true _ _ (eq-eqb (length (b .cells)) 32 (F .cells)) cells) (both-true _ _ (F .zero) (F .parts)))

@@ -13,7 +13,7 @@ use Rattle.ballots.specs.declared.Ballot.{Ballot}
 
 -- a ballot of this length may stand at this place of a record of n offices: no path past 1024, and none from office n on
 unfoldable pub fitsAt : ℕ → ℕ → ℕ → ℕ → Bool
-fitsAt n settled place len = pick (ltb place n) (both (leb len 32) (leb (settled + len) 1024)) (eqb 0 len)
+fitsAt n held place len = pick (ltb place n) (both (leb len 32) (leb (held + len) 1024)) (eqb 0 len)
 
 -- 32 cells that all pass a test, the unused ones too
 unfoldable pub allCells : (ℕ → Bool) → Ballot → Bool

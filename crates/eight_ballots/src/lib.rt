@@ -158,8 +158,8 @@ fn four_unused(a: Ballot, b: Ballot, c: Ballot, d: Ballot, masks: &[u32]) -> boo
 }
 
 // Whether a ballot of this length may stand at this place: with the undropped log it makes no path past 1024, and from place n on it is none.
-fn fits(len: usize, place: usize, n: usize, settled: usize) -> bool
-    ensures { λ r. ⌜ r ≡ fitsAt n settled place len ⌝ }
+fn fits(len: usize, place: usize, n: usize, held: usize) -> bool
+    ensures { λ r. ⌜ r ≡ fitsAt n held place len ⌝ }
 {
     if place >= n {
         return 0 == len;
@@ -167,22 +167,22 @@ fn fits(len: usize, place: usize, n: usize, settled: usize) -> bool
     if len > Ballot::CELLS {
         return false;
     }
-    settled <= Ballot::PATH - len
+    held <= Ballot::PATH - len
 }
 
 // Whether eight ballots are within the limits beside an undropped log of this length: at once where there are none, else their lengths first,
 // then their cells, by the faster test where no cell is a move of weight, and each office's part. It serves a record and a message alike. Public only for the
 // crates above, which prove what it requires.
-pub fn fine(all: [Ballot; 8], n: usize, settled: usize) -> bool
-    requires { ⌜ (1 ≤ n) × ((n ≤ 8) × (settled ≤ 1024)) ⌝ }
-    ensures { λ r. ⌜ r ≡ ballotsFine n settled all ⌝ }
+pub fn fine(all: [Ballot; 8], n: usize, held: usize) -> bool
+    requires { ⌜ (1 ≤ n) × ((n ≤ 8) × (held ≤ 1024)) ⌝ }
+    ensures { λ r. ⌜ r ≡ ballotsFine n held all ⌝ }
 {
     if no_ballots(all) {
         return true;
     }
     let mut fit = true;
     for i in 0..8 {
-        fit = fit & fits(all[i].len, i, n, settled);
+        fit = fit & fits(all[i].len, i, n, held);
     }
     if !fit {
         return false;

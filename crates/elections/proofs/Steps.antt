@@ -60,7 +60,7 @@ unfolding allB
 none-lost n settled e [] f h = refl
 none-lost n settled e (b ∷ bs) f h =
     ap₂ (λ (x : Ballot) (l : List Ballot). x ∷ l)
-    (sym (B.held n settled b (B.fine n settled b (both-0 _ _ f))) ∙ ap ballotOf (lost-none e b (sym (eqb-true 0 (b .len) (both-0 _ _ h)))))
+    (sym (B.ballot-held n settled b (B.fine n settled b (both-0 _ _ f))) ∙ ap ballotOf (lost-none e b (sym (eqb-true 0 (b .len) (both-0 _ _ h)))))
     (none-lost n settled e bs (both-1 _ _ f) (both-1 _ _ h))
 
 lost-all : (e : ℕ) (bs : List Ballot) → map (lost e) bs ≡ map ballotOf (map (lose e) (map tailOf bs))
@@ -160,7 +160,7 @@ module _ (n : ℕ) (s : State) (words : List ℕ) (S : Steppable n s words) wher
       lost-keep q =
           let x = getD bs i offEnd in
           subst (λ (l : List Ballot). Settling e (s .ballots) l (i + 1)) (set-getD bs i offEnd)
-          (lost-write x (sym (B.held n (s .held) x (B.fine n (s .held) x fine-here)) ∙ ap ballotOf (lost-none e x q)))
+          (lost-write x (sym (B.ballot-held n (s .held) x (B.fine n (s .held) x fine-here)) ∙ ap ballotOf (lost-none e x q)))
 
     pub lost-end : (bs : List Ballot) (i : ℕ) → Settling e (s .ballots) bs i → i ≡ n → bs ≡ map ballotOf (map (lose e) (map tailOf (s .ballots)))
     lost-end bs i inv q =

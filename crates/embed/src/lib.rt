@@ -172,7 +172,8 @@ pub extern "C" fn joukerpan_fold(office: Record, log: &mut [u32]) -> Folded
 // The record's message, written to the front of the output.
 #[no_mangle]
 pub extern "C" fn joukerpan_send(office: Record, log: &[u32], output: &mut [u8]) -> Sent
-    ensures { λ r. ⌜ (r ≡ sendOf office (now (log .entry)) (now (output .entry))) × (now (output .exit) ≡ sendBytes office (now (log .entry)) (now (output .entry))) ⌝ }
+    ensures answer { λ r. ⌜ r ≡ sendOf office (now (log .entry)) (now (output .entry)) ⌝ }
+    ensures output { λ _. ⌜ now (output .exit) ≡ sendBytes office (now (log .entry)) (now (output .entry)) ⌝ }
 {
     office.send(log, output)
 }
@@ -180,7 +181,8 @@ pub extern "C" fn joukerpan_send(office: Record, log: &[u32], output: &mut [u8])
 // Another office's message, worked into the record and its log.
 #[no_mangle]
 pub extern "C" fn joukerpan_take(office: Record, log: &mut [u32], message: &[u8]) -> Taken
-    ensures { λ r. ⌜ (r ≡ takeOf office (now (log .entry)) (now (message .entry))) × (now (log .exit) ≡ takeWords office (now (log .entry)) (now (message .entry))) ⌝ }
+    ensures answer { λ r. ⌜ r ≡ takeOf office (now (log .entry)) (now (message .entry)) ⌝ }
+    ensures words { λ _. ⌜ now (log .exit) ≡ takeWords office (now (log .entry)) (now (message .entry)) ⌝ }
 {
     office.take(log, message)
 }
@@ -193,7 +195,8 @@ pub extern "C" fn joukerpan_outcome(
     log: &[u32],
     rest: &mut [u32],
 ) -> Outcome
-    ensures { λ r. ⌜ (r ≡ reportOf before after (now (log .entry)) (now (rest .entry))) × (now (rest .exit) ≡ reportWords before after (now (log .entry)) (now (rest .entry))) ⌝ }
+    ensures answer { λ r. ⌜ r ≡ reportOf before after (now (log .entry)) (now (rest .entry)) ⌝ }
+    ensures words { λ _. ⌜ now (rest .exit) ≡ reportWords before after (now (log .entry)) (now (rest .entry)) ⌝ }
 {
     outcome::report(before, after, log, rest)
 }
@@ -246,7 +249,8 @@ pub extern "C" fn joukerpan_forecast(
 // The version vectors of the settled log and of each office's path, written to the front of the output.
 #[no_mangle]
 pub extern "C" fn joukerpan_write_vectors(office: Record, log: &[u32], output: &mut [u8]) -> Written
-    ensures { λ r. ⌜ (r ≡ writeOf office (now (log .entry)) (now (output .entry))) × (now (output .exit) ≡ writeBytes office (now (log .entry)) (now (output .entry))) ⌝ }
+    ensures answer { λ r. ⌜ r ≡ writeOf office (now (log .entry)) (now (output .entry)) ⌝ }
+    ensures output { λ _. ⌜ now (output .exit) ≡ writeBytes office (now (log .entry)) (now (output .entry)) ⌝ }
 {
     archive::write(office, log, output)
 }

@@ -23,7 +23,7 @@ use Rattle.sheet.proofs.Claims as claims
 use Rattle.agreement.specs.World.{Replica, World, Call, replicaAt, onSome, after}
 use Rattle.agreement.specs.Demand.{Founded, says, order}
 use Rattle.agreement.proofs.Demand.{one-order}
-use Rattle.agreement.proofs.Calls.{kept}
+use Rattle.agreement.proofs.Calls.{always}
 use Rattle.equal_sheets.specs.EqualSheets.{EqualSheets, printed}
 
 -- the lines' settled codes are those of the settled log, dropped entries included
@@ -50,8 +50,8 @@ module _ (n : ℕ) (weights : List ℕ) (start : World) (founded : Founded n wei
   equal : (cs ds : List Call) (j k : ℕ) (d e : Replica) → replicaAt (after start cs) j ≡ some d → replicaAt (after start ds) k ≡ some e
       → says d .log ≡ says e .log → (s : List ℕ) → printed d s ≡ printed e s
   equal cs ds j k d e p q h =
-      let a = kept n weights start founded cs in
-      let b = kept n weights start founded ds in
+      let a = always n weights start founded cs in
+      let b = always n weights start founded ds in
       claims.equal-sheets (d .held) (e .held) (d .words) (e .words)
       (settled-lines (d .held) (d .words) (says d .log) (a .sound j d p) (a .codes j d p)
       ∙ ap (λ (log : List ℕ). record { number = 0; codes = codesAfter noCodes log }) h
@@ -64,5 +64,5 @@ module _ (n : ℕ) (weights : List ℕ) (start : World) (founded : Founded n wei
   equal-sheets = record {
     equal = equal;
     as-long = λ cs j k d e p q h. equal cs cs j k d e p q (same-length (says d .log) (says e .log) (order start cs) (log-at cs j d p) (log-at cs k e q) h);
-    sound = λ cs k d p s. sound-sheet (d .held) (d .words) s (kept n weights start founded cs .sound k d p);
+    sound = λ cs k d p s. sound-sheet (d .held) (d .words) s (always n weights start founded cs .sound k d p);
   }

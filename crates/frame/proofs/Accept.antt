@@ -53,14 +53,14 @@ module _ (r : Record) (words s : List ℕ) (done : takeOf r words s .number ≡ 
   found : Accepted r words s
   found = accepted r words s (sym (number-is r words s) ∙ done)
 
-  abbrev after : F.Folded
+  abbrev after : F.FoldedOffice
   after = withFoldedTake (r .own) (asPacket (found .content)) (foldedBy r words)
 
   left : (takeOf r words s .«record» ≡ holding r words after) × (takeWords r words s ≡ wordsWith (after .held .log) words)
   left =
       let d = take-done-is r words s (sym (number-is r words s) ∙ done) in
       let o = taken-office r words s found in
-      (d .0 ∙ ap (holding r words) o, d .1 ∙ ap (λ (x : F.Folded). wordsWith (x .held .log) words) o)
+      (d .0 ∙ ap (holding r words) o, d .1 ∙ ap (λ (x : F.FoldedOffice). wordsWith (x .held .log) words) o)
 
   -- it drops no more than was settled
   more : r .kept .dropped ≤ after .dropped
@@ -119,7 +119,7 @@ module _ (r : Record) (words s : List ℕ) (done : takeOf r words s .number ≡ 
           total-some = H .total-some;
         }
 
-    abbrev state : F.Folded
+    abbrev state : F.FoldedOffice
     state = record { dropped = found .content .dropped; held = asPacket (found .content) .state; noted = replicate 8 0 }
 
     -- a sender that has dropped so many entries, all of them office 0's and without effect
@@ -164,7 +164,7 @@ module _ (r : Record) (words s : List ℕ) (done : takeOf r words s .number ≡ 
     )
 
 -- ── what is refused with 7 ──
-refuse-seven : (k : ℕ) (m : F.Packet) (f : F.Folded) → refuseFoldedTake k m f ≡ 7 → ⊥
+refuse-seven : (k : ℕ) (m : F.Packet) (f : F.FoldedOffice) → refuseFoldedTake k m f ≡ 7 → ⊥
 refuse-seven k m f e = go (take-values k m f)
   where
     go : (refuseFoldedTake k m f ≡ 0) ⊎ ((refuseFoldedTake k m f ≡ 9) ⊎ ((refuseFoldedTake k m f ≡ 10) ⊎ ((refuseFoldedTake k m f ≡ 16) ⊎ (refuseFoldedTake k m f ≡ 17)))) → ⊥

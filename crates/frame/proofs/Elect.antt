@@ -118,7 +118,7 @@ unfolding withFoldedElect
 elect-grows r words q =
     let D = elect-done r words q in
     let g = elect-log (ruleOf r) (heldBy r words) in
-    (g .0, ap (λ (f : F.Folded). f .held .log) (elect-state r words q) ∙ g .1, g .2 ∙ sym (D .counted))
+    (g .0, ap (λ (f : F.FoldedOffice). f .held .log) (elect-state r words q) ∙ g .1, g .2 ∙ sym (D .counted))
 
 -- "until no entry wins"
 pub elect-ends : (r : Record) (words : List ℕ) → electOf r words .number ≡ 0 → winnerOf (electOf r words .«record») (electWords r words) ≡ none
@@ -126,4 +126,4 @@ unfolding withFoldedElect
 elect-ends r words q =
     let D = elect-done r words q in
     let k = elect-kept r words q ∙ kept-stays r words (D .was) (electedOf r words) refl in
-    ap₂ (λ (x : Kept) (f : F.Folded). ruleBehind x (f .held .log) (votes (f .held))) k (elect-state r words q) ∙ elect-stops (ruleOf r) (rule-voted r) (heldBy r words)
+    ap₂ (λ (x : Kept) (f : F.FoldedOffice). ruleBehind x (f .held .log) (votes (f .held))) k (elect-state r words q) ∙ elect-stops (ruleOf r) (rule-voted r) (heldBy r words)

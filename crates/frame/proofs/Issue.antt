@@ -86,7 +86,7 @@ module _ (r : Record) (words : List ℕ) (S : Sound r words) (line code : ℕ) w
       ∙ λ i. refusalAt (r .n) line code (sym (whole-length r words S) i) (sym (log-length r words S) i) (sym tail-is i) (countIn (r .own) (sym (tail-at r words (r .own)) i)))
 
 -- the office with the entry issued
-abbrev pub issuedOffice : Record → List ℕ → ℕ → ℕ → F.Folded
+abbrev pub issuedOffice : Record → List ℕ → ℕ → ℕ → F.FoldedOffice
 issuedOffice r words line code = withFoldedIssue (r .own) (value (r .own) line code) (foldedBy r words)
 
 issued-words : (r : Record) (words : List ℕ) (S : Sound r words) (line code : ℕ) → wordsWith (issuedOffice r words line code .held .log) words ≡ words
@@ -112,7 +112,7 @@ issue-made r words line code q = go (soundB r words) refl
     }
 
 module _ (r : Record) (words : List ℕ) (line code : ℕ) (q : issueOf r words line code .number ≡ 0) where
-  abbrev office : F.Folded
+  abbrev office : F.FoldedOffice
   office = issuedOffice r words line code
 
   -- it drops nothing

@@ -40,7 +40,7 @@ pub tail-at : (r : Record) (words : List ℕ) (k : ℕ) → tail (heldBy r words
 tail-at r words k = B.tail-at (r .ballots) k
 
 -- the office that a record was made to hold, behind what is kept
-pub held-behind : (r : Record) (k : Kept) (f : F.Folded) → k .dropped ≡ f .dropped → (words : List ℕ) → foldedBy (holdingBehind r k f) (wordsWith (f .held .log) words) ≡ f
+pub held-behind : (r : Record) (k : Kept) (f : F.FoldedOffice) → k .dropped ≡ f .dropped → (words : List ℕ) → foldedBy (holdingBehind r k f) (wordsWith (f .held .log) words) ≡ f
 held-behind r k f e words =
     let n : f .dropped + length (f .held .log) - k .dropped ≡ length (f .held .log) = omega arith in
     let o : heldBy (holdingBehind r k f) (wordsWith (f .held .log) words) ≡ f .held =
@@ -48,7 +48,7 @@ held-behind r k f e words =
     λ i. record { dropped = e i; held = o i; noted = f .noted }
 
 -- a record that holds an office within the limits, behind what may be kept, is sound
-module _ (r : Record) (k : Kept) (f : F.Folded) (words : List ℕ) (H : Head (r .n) (r .own) (r .weights)) (K : KeptFacts (r .n) (r .weights) k) (e : k .dropped ≡ f .dropped)
+module _ (r : Record) (k : Kept) (f : F.FoldedOffice) (words : List ℕ) (H : Head (r .n) (r .own) (r .weights)) (K : KeptFacts (r .n) (r .weights) k) (e : k .dropped ≡ f .dropped)
     (x : FoldedFine (r .n) (r .own) f) (room : 1024 ≤ length words) where
   pub sound-behind : Sound (holdingBehind r k f) (wordsWith (f .held .log) words)
   sound-behind = fields.sound-of (r .n) (r .own) (r .weights) k f words H K e x room
@@ -100,7 +100,7 @@ module _ (r : Record) (words : List ℕ) (S : Sound r words) where
   room-for k h = roomy (r .n) (r .weights) (r .kept) (S .kept) k (omega (arith, h, S .most)) (omega (arith, h, S .within, longest))
 
   -- a call that drops nothing
-  pub kept-stays : (f : F.Folded) → f .dropped ≡ r .kept .dropped → keptBy r words f ≡ r .kept
+  pub kept-stays : (f : F.FoldedOffice) → f .dropped ≡ r .kept .dropped → keptBy r words f ≡ r .kept
   kept-stays f e =
       let n : f .dropped - r .kept .dropped ≡ 0 = omega arith in
       ap (λ (k : ℕ). keptAfter (r .kept) (take k (heldBy r words .log))) n ∙ kept-nil (r .kept)
@@ -112,7 +112,7 @@ module _ (r : Record) (words : List ℕ) (S : Sound r words) where
       λ i. withHeld r (k i) (r .noted) (done i) (whole-length i) (B.held-all (r .n) (heldLength r) (r .ballots) (S .fine) i)
 
   -- a call that leaves the office as f, which has dropped as much as before or more, and no more than was settled
-  module _ (f : F.Folded) (more : r .kept .dropped ≤ f .dropped) (within : f .dropped ≤ r .settled) where
+  module _ (f : F.FoldedOffice) (more : r .kept .dropped ≤ f .dropped) (within : f .dropped ≤ r .settled) where
     goes-length : length (goes r words f) ≡ f .dropped - r .kept .dropped
     goes-length = length-take-le (f .dropped - r .kept .dropped) (heldBy r words .log) (omega (arith, log-length))
 

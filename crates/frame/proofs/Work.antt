@@ -88,7 +88,7 @@ module _ (r : Record) (words s : List ℕ) (m : Reading) (e : takeNumber r words
   ready-in x q = subst (λ (y : State). Ready words y (r .kept) (restOf m s) m) (sym q) ready
 
   -- the office that is made of the message
-  abbrev next : F.Folded
+  abbrev next : F.FoldedOffice
   next = withFoldedTake (r .own) (packetIn (restOf m s) m) (foldedBy r words)
 
   -- no sum wraps: a length is at most 2^63
@@ -155,5 +155,5 @@ module _ (r : Record) (words s : List ℕ) (m : Reading) (e : takeNumber r words
         let o : next ≡ takenOffice r words s = ap (λ (y : F.Packet). withFoldedTake (r .own) y (foldedBy r words)) is-packet ∙ sym (taken-office r words s taken) in
         let d = take-done-is r words s e in (
           take-answer r words s _ l e g (held-is nn n y p ∙ ap (holding r words) o ∙ sym (d .0)),
-          written ∙ ap (λ (y : F.Folded). wordsWith (y .held .log) words) o ∙ sym (d .1),
+          written ∙ ap (λ (y : F.FoldedOffice). wordsWith (y .held .log) words) o ∙ sym (d .1),
         )

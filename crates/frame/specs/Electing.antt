@@ -37,7 +37,7 @@ abbrev pub ruleOf : Record → Rule
 ruleOf r = ruleBehind (r .kept)
 
 -- the office after elect
-abbrev pub electedOf : Record → List ℕ → F.Folded
+abbrev pub electedOf : Record → List ℕ → F.FoldedOffice
 electedOf r words = F.withFoldedElect (ruleOf r) (foldedBy r words)
 
 -- 1: "record unsound, or log below 1024 words", with "count .. 0" and the record as it was

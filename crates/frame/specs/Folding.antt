@@ -11,7 +11,7 @@ use Rattle.frame.specs.declared.Record.{Record}
 use Rattle.frame.specs.declared.folding.Folded.{Folded}
 
 -- the office after fold
-abbrev pub shortenedOf : Record → List ℕ → F.Folded
+abbrev pub shortenedOf : Record → List ℕ → F.FoldedOffice
 shortenedOf r words = F.withFold (r .n) (r .own) (foldedBy r words)
 
 -- 1: "record unsound, or log below 1024 words", with count 0 and the record as it was

@@ -25,7 +25,7 @@ abbrev pub heldBy : Record → List ℕ → Office
 heldBy r words = officeIn words (heldLength r) (r .ballots)
 
 -- with the dropped count and the noted lengths
-abbrev pub foldedBy : Record → List ℕ → F.Folded
+abbrev pub foldedBy : Record → List ℕ → F.FoldedOffice
 foldedBy r words = record { dropped = r .kept .dropped; held = heldBy r words; noted = r .noted }
 
 -- the record r with everything but its offices, own office and founding weights
@@ -52,20 +52,20 @@ abbrev pub ownBallot : Record → Ballot
 ownBallot r = getD (r .ballots) (r .own) B.offEnd
 
 -- the entries that a call drops which leaves the office as f: as many as the dropped count rises by, from the front of what was held
-abbrev pub goes : Record → List ℕ → F.Folded → List ℕ
+abbrev pub goes : Record → List ℕ → F.FoldedOffice → List ℕ
 goes r words f = take (f .dropped - r .kept .dropped) (heldBy r words .log)
 
 -- what is then kept
-abbrev pub keptBy : Record → List ℕ → F.Folded → Kept
+abbrev pub keptBy : Record → List ℕ → F.FoldedOffice → Kept
 keptBy r words f = keptAfter (r .kept) (goes r words f)
 
 -- the record r with kept values, and an office that holds and has noted what f says behind them: what its log has done follows from both
-abbrev pub holdingBehind : Record → Kept → F.Folded → Record
+abbrev pub holdingBehind : Record → Kept → F.FoldedOffice → Record
 holdingBehind r kept f =
     withHeld r kept (f .noted) (summaryAfter (kept .summary) (f .held .log)) (f .dropped + length (f .held .log)) (map ballotOf (f .held .tails))
 
 -- the record after a call that leaves the office as f
-abbrev pub holding : Record → List ℕ → F.Folded → Record
+abbrev pub holding : Record → List ℕ → F.FoldedOffice → Record
 holding r words f = holdingBehind r (keptBy r words f) f
 
 -- "a fresh record has an empty log and no ballots"; nothing is dropped, and no office was heard of

@@ -35,11 +35,11 @@ takeNumber r words s =
     (F.refuseFoldedTake (r .own) (asPacket c) (foldedBy r words))))
 
 -- the office after an accepted message
-unfoldable pub takenOffice : Record → List ℕ → List ℕ → F.Folded
+unfoldable pub takenOffice : Record → List ℕ → List ℕ → F.FoldedOffice
 takenOffice r words s = onReading (reading s) (foldedBy r words) (λ c. F.withFoldedTake (r .own) (asPacket c) (foldedBy r words))
 
 -- the places that a comparison of the two logs needs, on the part that both still have
-abbrev pub sharedPlaces : F.Packet → F.Folded → ℕ
+abbrev pub sharedPlaces : F.Packet → F.FoldedOffice → ℕ
 sharedPlaces m f = placesFromEnd (F.caughtUp m f .log) (F.fromThere m f .state .log)
 
 -- (viii) "how many places that needed: up to and including the first difference met, every shared place if none differs, 0 on any refusal but 10"

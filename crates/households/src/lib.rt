@@ -10,6 +10,7 @@ const SIZE: usize = 7;
 // The most household records.
 const MOST: usize = 1000000;
 
+// The lines of a frame: `entries::LINES`, said again since nothing else here is about entries.
 const LINES: usize = 64;
 
 // For each line whether some household has it, and the sum of the weights under it; all zero where the bytes are no household records.

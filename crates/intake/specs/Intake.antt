@@ -10,7 +10,7 @@ use Rattle.lists.specs.Tests.{both, pick, same}
 use Rattle.protocol.specs.Beginning.{comparable}
 use Rattle.protocol.specs.Office.{Office}
 use Rattle.protocol.specs.Take.{withTake}
-use Rattle.protocol.specs.Folding.{Folded, Packet, caughtUp, fromThere}
+use Rattle.protocol.specs.Folding.{FoldedOffice, Packet, caughtUp, fromThere}
 use Rattle.ballots.specs.declared.Ballot.{Ballot}
 use Rattle.ballots.specs.Ballots.{tailOf, ballotOf, officeIn}
 use Rattle.numbers.specs.Numbers.{runAt}
@@ -29,7 +29,7 @@ abbrev pub packetIn : List ℕ → Reading → Packet
 packetIn rest m = record { sender = m .sender; dropped = m .dropped; state = record { log = runAt 6 recordAt (m .held) rest; tails = map tailOf (m .ballots) } }
 
 -- the office that takes it: its noted lengths are not looked at
-abbrev pub foldedIn : List ℕ → State → Kept → Folded
+abbrev pub foldedIn : List ℕ → State → Kept → FoldedOffice
 foldedIn words s kept = record { dropped = kept .dropped; held = officeIn words (s .held) (s .ballots); noted = [] }
 
 -- ── the number ──

@@ -53,7 +53,8 @@ pub fn check(
 // Where the message's log is the longer, writes the missing entries from the held length onward; answers the new held length.
 fn catch_up(log: &mut [u32], held: usize, rest: &[u8], k: usize) -> usize
     requires { ⌜ (k ≤ length (now log)) × (6 * k ≤ length (now rest)) ⌝ }
-    ensures { λ r. ⌜ (r ≡ caughtLength held (runAt 6 recordAt k (now (rest .entry)))) × (now (log .exit) ≡ caughtWords (now (log .entry)) held (runAt 6 recordAt k (now (rest .entry)))) ⌝ }
+    ensures reached { λ r. ⌜ r ≡ caughtLength held (runAt 6 recordAt k (now (rest .entry))) ⌝ }
+    ensures words { λ _. ⌜ now (log .exit) ≡ caughtWords (now (log .entry)) held (runAt 6 recordAt k (now (rest .entry))) ⌝ }
 {
     if k <= held {
         return held;
@@ -75,7 +76,8 @@ fn take_aligned(
 ) -> State
     requires { ⌜ Aligned (now log) state (runAt 6 recordAt k (now rest)) sender offers × (6 * k ≤ length (now rest)) ⌝ }
     ensures state { λ r. ⌜ r ≡ mergedOf state (alignedTake (now (log .entry)) state own (runAt 6 recordAt k (now (rest .entry))) sender offers) ⌝ }
-    ensures words { λ _. ⌜ now (log .exit) ≡ wordsWith (alignedTake (now (log .entry)) state own (runAt 6 recordAt k (now (rest .entry))) sender offers .log) (now (log .entry)) ⌝ }
+    ensures words { λ _. ⌜ now (log .exit) ≡ wordsWith (alignedTake (now (log .entry)) state own (runAt 6 recordAt k (now (rest .entry))) sender offers .log)
+        (now (log .entry)) ⌝ }
 {
     let summary = state.summary;
     let held = state.held;

@@ -8,11 +8,11 @@ use Prim.Native.Nat.{ℕ, _+_, _<_, _≤_}
 use lib.ListN.{length, getD, drop, drop-of-length-le}
 use Rattle.lists.proofs.Walk.{rest-step}
 
-abbrev pub Folded : {S : Type 0} → (S → ℕ → S) → S → List ℕ → S → ℕ → Type 0
-Folded f start xs made i = foldl f made (drop i xs) ≡ foldl f start xs
+abbrev pub FoldedUpTo : {S : Type 0} → (S → ℕ → S) → S → List ℕ → S → ℕ → Type 0
+FoldedUpTo f start xs made i = foldl f made (drop i xs) ≡ foldl f start xs
 
-module _ {S : Type 0} (f : S → ℕ → S) (start : S) (xs : List ℕ) (made : S) (i : ℕ) (inv : Folded f start xs made i) where
-  pub fold-next : i < length xs → (next : S) → next ≡ f made (getD xs i 0) → Folded f start xs next (i + 1)
+module _ {S : Type 0} (f : S → ℕ → S) (start : S) (xs : List ℕ) (made : S) (i : ℕ) (inv : FoldedUpTo f start xs made i) where
+  pub fold-next : i < length xs → (next : S) → next ≡ f made (getD xs i 0) → FoldedUpTo f start xs next (i + 1)
   fold-next h next e = ap (λ (s : S). foldl f s (drop (i + 1) xs)) e ∙ sym (ap (foldl f made) (rest-step 0 xs i h)) ∙ inv
 
   pub fold-done : length xs ≤ i → made ≡ foldl f start xs

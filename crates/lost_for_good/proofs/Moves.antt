@@ -25,7 +25,7 @@ use Rattle.agreement.proofs.Places.{there, not-there, find}
 use Rattle.agreement.proofs.View.{deskOf, shape, view, callOf, SoundWorld, view-at}
 use Rattle.agreement.proofs.Held.{own-below, few-offices, replica-fine}
 use Rattle.agreement.proofs.Follows.{follows, both-after}
-use Rattle.agreement.proofs.Calls.{kept}
+use Rattle.agreement.proofs.Calls.{always}
 
 -- ── lists of calls ──
 pub after-append : (w : World) (a b : List Call) → after w (a ++ b) ≡ after (after w a) b
@@ -111,7 +111,7 @@ module _ (n : ℕ) (ws : List ℕ) (start : World) (f : Founded n ws start) wher
       after-one start cs (issue k line code) ∙ ap (λ (x : Option Replica). onSome x w (λ r. put w k (issued r line code))) here in (
         ap (λ (x : World). officeAt x k) moved
             ∙ ap (λ (x : Option Replica). onSome x fresh says) (set-at (w .replicas) k (issued d line code) (there (w .replicas) k d here))
-            ∙ kept n ws start f cs .issue-says k line code d here done ∙ ap (withIssue k (value k line code)) (sym is),
+            ∙ always n ws start f cs .issue-says k line code d here done ∙ ap (withIssue k (value k line code)) (sym is),
         omega (arith, own-below n ws k d m, few-offices n ws k d m, ap (λ (o : Office). length (o .tails)) is, replica-fine n ws k d m .held .eight),
       )
 

@@ -18,7 +18,7 @@ use Rattle.protocol.specs.Office.{Office}
 use Rattle.protocol.proofs.World as P
 use Rattle.protocol.proofs.World.{step as stepP}
 use Rattle.protocol.proofs.Kept.{Effect, effectAfter, effectOf, noEffect, ruleBehind, kept-nil, kept-append}
-use Rattle.protocol.specs.Folding.{Folded, settledLength, leastKnown, withFold, withFoldedIssue, withFoldedElect, withFoldedTake}
+use Rattle.protocol.specs.Folding.{FoldedOffice, settledLength, leastKnown, withFold, withFoldedIssue, withFoldedElect, withFoldedTake}
 use Rattle.protocol.proofs.FoldedWorld.{Desk, Posted, World, Call, issue, send, take, elect, fold, idle, newDesk, founded, deskAt, goes, leaving, put, names, refuseTaking, taking, number, done, step, wholeDesk, view, callOf}
 use Rattle.lists.proofs.Tests.{if-cases, and-true, getD-replicate}
 use Rattle.protocol.proofs.Beginning.{⊑-length}
@@ -40,16 +40,17 @@ replicate-cases P (suc n) x d zero p q = p
 replicate-cases P (suc n) x d (suc i) p q = replicate-cases P n x d i p q
 
 -- the entries dropped by then are as many as the count says
-leaving-counted : (d : Desk) (f : Folded) → d .now .dropped ≡ length (d .former) → d .now .dropped ≤ f .dropped → f .dropped ≤ settledLength (d .now .dropped) (d .now .held) → f .dropped ≡ length (leaving d f .former)
+leaving-counted : (d : Desk) (f : FoldedOffice) → d .now .dropped ≡ length (d .former) → d .now .dropped ≤ f .dropped
+    → f .dropped ≤ settledLength (d .now .dropped) (d .now .held) → f .dropped ≡ length (leaving d f .former)
 leaving-counted d f c low high =
     omega (arith, length-append (d .former) (L.take (f .dropped - d .now .dropped) (d .now .held .log)), length-take (f .dropped - d .now .dropped) (d .now .held .log))
 
 -- and what is kept is what is kept of them
-pub leaving-kept : (founding : List ℕ) (d : Desk) (f : Folded) → d .kept ≡ effectOf founding (d .former) → leaving d f .kept ≡ effectOf founding (leaving d f .former)
+pub leaving-kept : (founding : List ℕ) (d : Desk) (f : FoldedOffice) → d .kept ≡ effectOf founding (d .former) → leaving d f .kept ≡ effectOf founding (leaving d f .former)
 leaving-kept founding d f k = ap (λ (x : Effect). effectAfter x (goes d f)) k ∙ kept-append (noEffect founding) (d .former) (goes d f)
 
 -- a call that drops nothing and notes nothing
-same-fit : (n : ℕ) (len : ℕ → ℕ) (d : Desk) (f : Folded) → f .dropped ≡ d .now .dropped → f .noted ≡ d .now .noted → Fit n len d → Fit n len (leaving d f)
+same-fit : (n : ℕ) (len : ℕ → ℕ) (d : Desk) (f : FoldedOffice) → f .dropped ≡ d .now .dropped → f .noted ≡ d .now .noted → Fit n len d → Fit n len (leaving d f)
 same-fit n len d f g t x = record {
   counted = leaving-counted d f (x .counted) (omega arith) (omega arith);
   noted = λ j. subst (λ (l : List ℕ). getD l j 0 ≤ len j) (sym t) (x .noted j);
@@ -111,7 +112,7 @@ module _ (founding : List ℕ) (n : ℕ) (pos : 0 < n) where
   abbrev Keeps : Desk → Type 0
   Keeps d = d .kept ≡ effectOf founding (d .former)
 
-  put-follow : (w : World) (k : ℕ) (f : Folded) → Sound founding n w → Fit n (lengths w) (leaving (deskAt w k) f) → Follow w (put w k f)
+  put-follow : (w : World) (k : ℕ) (f : FoldedOffice) → Sound founding n w → Fit n (lengths w) (leaving (deskAt w k) f) → Follow w (put w k f)
   put-follow w k f s x = record { desks = λ j. go j (set-cases (w .desks) k (leaving (deskAt w k) f) (newDesk []) j); sent = s .sent; kept = λ j b. held j b (set-cases (w .desks) k (leaving (deskAt w k) f) (newDesk []) j) }
     where
       go : (j : ℕ) → (deskAt (put w k f) j ≡ deskAt w j) ⊎ ((j ≡ k) × (k < length (w .desks)) × (deskAt (put w k f) j ≡ leaving (deskAt w k) f)) → Fit n (lengths w) (deskAt (put w k f) j)
@@ -122,7 +123,8 @@ module _ (founding : List ℕ) (n : ℕ) (pos : 0 < n) where
       held j b (inl e) = subst Keeps (sym e) (s .kept j b)
       held j b (inr e) = subst Keeps (sym (e .2)) (leaving-kept founding (deskAt w k) f (s .kept k (omega (arith, e .0))))
 
-  take-follow : (w : World) (k i : ℕ) (s : Sound founding n w) (x : Option Posted) → getElem? (w .sent) i ≡ x → refuseTaking k x (deskAt w k .now) ≡ 0 → Follow w (put w k (taking k x (deskAt w k .now)))
+  take-follow : (w : World) (k i : ℕ) (s : Sound founding n w) (x : Option Posted) → getElem? (w .sent) i ≡ x → refuseTaking k x (deskAt w k .now) ≡ 0
+      → Follow w (put w k (taking k x (deskAt w k .now)))
   take-follow w k i s none e h = put-follow w k (deskAt w k .now) s (same-fit n (lengths w) (deskAt w k) (deskAt w k .now) refl refl (s .desks k))
   take-follow w k i s (some m) e h =
       put-follow w k (withFoldedTake k (m .message) (deskAt w k .now)) s
@@ -142,7 +144,7 @@ module _ (founding : List ℕ) (n : ℕ) (pos : 0 < n) where
       new (suc i) m e = s .sent i m e
   done-follow w (take k i) s h = take-follow w k i s (getElem? (w .sent) i) refl h
   done-follow w (elect k) s h =
-      let f : Folded = withFoldedElect (ruleBehind (deskAt w k .kept)) (deskAt w k .now) in
+      let f : FoldedOffice = withFoldedElect (ruleBehind (deskAt w k .kept)) (deskAt w k .now) in
       put-follow w k f s (same-fit n (lengths w) (deskAt w k) f refl refl (s .desks k))
   done-follow w (fold k) s h =
       put-follow w k (withFold (length (w .desks)) k (deskAt w k .now)) s

@@ -16,7 +16,7 @@ use Rattle.protocol.specs.SettledRule.{ruleFrom, bySettled}
 use Rattle.protocol.specs.Office.{Office, Message, tail}
 use Rattle.protocol.specs.Take.{rebase, catchUp, withTake, refuseTake}
 use Rattle.protocol.specs.Elect.{electCount}
-use Rattle.protocol.specs.Folding.{Folded, Packet, settledLength, shorn, caughtUp, fromThere, note, withFoldedElect, withFoldedTake, refuseFoldedTake}
+use Rattle.protocol.specs.Folding.{FoldedOffice, Packet, settledLength, shorn, caughtUp, fromThere, note, withFoldedElect, withFoldedTake, refuseFoldedTake}
 use Rattle.lists.proofs.Tests.{if-cases}
 use Rattle.protocol.proofs.Beginning.{⊑-length}
 use Rattle.one_order.proofs.Lawful.{from-lawful, settled-lawful}
@@ -38,12 +38,12 @@ note-twice zero len (x ∷ noted) = ap (λ (y : ℕ). y ∷ noted) (omega arith)
 note-twice (suc j) len (x ∷ noted) = ap (λ (l : List ℕ). x ∷ l) (note-twice j len noted)
 
 -- what makes an accepted message
-pub folded-accepts : (k : ℕ) (m : Packet) (f : Folded) → TakeFound k m f → refuseFoldedTake k m f ≡ 0
+pub folded-accepts : (k : ℕ) (m : Packet) (f : FoldedOffice) → TakeFound k m f → refuseFoldedTake k m f ≡ 0
 unfolding refuseFoldedTake pick
 folded-accepts k m f t = rw (ne-eqb (m .sender) k (t .other), le-ltb _ _ (t .reaches), le-ltb _ _ (t .lasts)) (t .agrees)
 
-module _ (k : ℕ) (m : Packet) (f : Folded) (h : refuseFoldedTake k m f ≡ 0) where
-  abbrev once : Folded
+module _ (k : ℕ) (m : Packet) (f : FoldedOffice) (h : refuseFoldedTake k m f ≡ 0) where
+  abbrev once : FoldedOffice
   once = withFoldedTake k m f
 
   found : TakeFound k m f
@@ -92,7 +92,7 @@ module _ (k : ℕ) (m : Packet) (f : Folded) (h : refuseFoldedTake k m f ≡ 0) 
   folded-take-twice = (folded-accepts k m once twice-found, twice-same)
 
 -- ── elect twice, with whatever is kept ──
-pub folded-elect-twice : (weights counts : List ℕ) (f : Folded) → let rule = ruleFrom weights counts in
+pub folded-elect-twice : (weights counts : List ℕ) (f : FoldedOffice) → let rule = ruleFrom weights counts in
     (electCount rule (withFoldedElect rule f .held) ≡ 0) × (withFoldedElect rule (withFoldedElect rule f) ≡ withFoldedElect rule f)
 unfolding withFoldedElect
 folded-elect-twice weights counts f =

@@ -19,7 +19,7 @@ use Rattle.protocol.specs.Elect.{withElect}
 use Rattle.protocol.proofs.World as P
 use Rattle.protocol.proofs.World.{names as namesP, refusal, done as doneP, step as stepP}
 use Rattle.protocol.proofs.Kept.{ruleBehind}
-use Rattle.protocol.specs.Folding.{Folded, packet, withFold, withFoldedIssue, refuseFoldedIssue, withFoldedElect, withFoldedTake, refuseFoldedTake}
+use Rattle.protocol.specs.Folding.{FoldedOffice, packet, withFold, withFoldedIssue, refuseFoldedIssue, withFoldedElect, withFoldedTake, refuseFoldedTake}
 use Rattle.protocol.proofs.FoldedWorld.{Desk, Posted, World, Call, issue, send, take, elect, fold, idle, deskAt, leaving, put, isThere, names, refuseTaking, taking, number, done, step, wholeDesk, wholeMessage, view, callOf}
 use Rattle.lists.proofs.Tests.{map-set}
 use Rattle.one_order.proofs.History.{step-done}
@@ -39,7 +39,7 @@ step-idle rule v = step-unnamed rule v P.idle refl
 view-there : (w : World) (k : ℕ) → P.isThere (view w) k ≡ isThere w k
 view-there w k = ap (ltb k) (length-map (w .desks) wholeDesk)
 
-put-view : (w : World) (k : ℕ) (f : Folded) (o : Office) → wholeDesk (leaving (deskAt w k) f) ≡ o → view (put w k f) ≡ P.put (view w) k o
+put-view : (w : World) (k : ℕ) (f : FoldedOffice) (o : Office) → wholeDesk (leaving (deskAt w k) f) ≡ o → view (put w k f) ≡ P.put (view w) k o
 put-view w k f o e =
     ap (λ (l : List Office). record { offices = l; sent = map wholeMessage (w .sent) }) (map-set wholeDesk (w .desks) k (leaving (deskAt w k) f))
     ∙ ap (λ (x : Office). P.put (view w) k x) e
@@ -74,7 +74,8 @@ module _ (founding : List ℕ) (n : ℕ) (pos : 0 < n) (w : World) (s : Sound fo
       next : World
       next = put w k (withFoldedIssue k (value k line code) (deskAt w k .now))
 
-      go : (a : Bool) → isThere w k ≡ a → (b : Bool) → eqb (refuseFoldedIssue (length (w .desks)) k line code (deskAt w k .now)) 0 ≡ b → view (cond (a && b) next w) ≡ stepP rule (view w) (cond b (P.issue k line code) P.idle)
+      go : (a : Bool) → isThere w k ≡ a → (b : Bool) → eqb (refuseFoldedIssue (length (w .desks)) k line code (deskAt w k .now)) 0 ≡ b
+          → view (cond (a && b) next w) ≡ stepP rule (view w) (cond b (P.issue k line code) P.idle)
       go true p false q = step-idle rule (view w)
       go false p false q = step-idle rule (view w)
       go false p true q = step-unnamed rule (view w) (P.issue k line code) (view-there w k ∙ p)
@@ -149,7 +150,7 @@ module _ (founding : List ℕ) (n : ℕ) (pos : 0 < n) (w : World) (s : Sound fo
   unfolding step names number done namesP refusal doneP
   elect-moves k = go (isThere w k) refl
     where
-      f : Folded
+      f : FoldedOffice
       f = withFoldedElect (ruleBehind (deskAt w k .kept)) (deskAt w k .now)
 
       go : (a : Bool) → isThere w k ≡ a → view (cond (a && true) (put w k f) w) ≡ stepP rule (view w) (P.elect k)
@@ -162,7 +163,7 @@ module _ (founding : List ℕ) (n : ℕ) (pos : 0 < n) (w : World) (s : Sound fo
   unfolding step names number done
   fold-moves k = go (isThere w k) ∙ step-idle rule (view w)
     where
-      f : Folded
+      f : FoldedOffice
       f = withFold (length (w .desks)) k (deskAt w k .now)
 
       go : (a : Bool) → view (cond (a && true) (put w k f) w) ≡ view w

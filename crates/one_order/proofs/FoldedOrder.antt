@@ -67,7 +67,8 @@ send-small false = omega arith
 pub is-issue : (w : World) (c : Call) (k line code : ℕ) → callOf w c ≡ P.issue k line code → (c ≡ issue k line code) × (number w c ≡ 0)
 is-issue w (issue k' line' code') k line code h = go (eqb (number w (issue k' line' code')) 0) refl h
   where
-    go : (b : Bool) → eqb (number w (issue k' line' code')) 0 ≡ b → cond b (P.issue k' line' code') P.idle ≡ P.issue k line code → (issue k' line' code' ≡ issue k line code) × (number w (issue k' line' code') ≡ 0)
+    go : (b : Bool) → eqb (number w (issue k' line' code')) 0 ≡ b → cond b (P.issue k' line' code') P.idle ≡ P.issue k line code
+        → (issue k' line' code' ≡ issue k line code) × (number w (issue k' line' code') ≡ 0)
     go true q h = (cc, eqb-true (number w (issue k' line' code')) 0 q)
     go false q h = let z : _≡_ {A = ℕ} 0 1 = cc in absurd (omega arith)
 is-issue w (send k' room) k line code h = let z : _≡_ {A = ℕ} 0 1 = cc in absurd (omega arith)

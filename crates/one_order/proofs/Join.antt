@@ -17,23 +17,23 @@ use Rattle.protocol.specs.Take.{rebased, rebase, catchUp, adopt, adopts, offers
 use Rattle.lists.proofs.Tests.{if-cases}
 use Rattle.protocol.proofs.Beginning.{⊑-refl, ⊑-trans, ⊏-⊑, ⊑-⊏-trans, ⊏-⊑-trans, ⊏-irrefl, ⊑-cases, ⊑-antisym, ⊑-append, ⊑-rest, extends-true, extends-of}
 use Rattle.protocol.proofs.Limits.{catchUp-log}
-use Rattle.protocol.proofs.Office.{Kept, Offered, Moves, moves-trans, OfficeMoves, rebase-path, adopting-path, catchUp-moves}
+use Rattle.protocol.proofs.Office.{PathUnder, Offered, Moves, moves-trans, OfficeMoves, rebase-path, adopting-path, catchUp-moves}
 
 pub office-trans : (j : ℕ) (a b c : Office) → OfficeMoves j a b → OfficeMoves j b c → OfficeMoves j a c
 office-trans j a b c = moves-trans (a .log) (path a j) (b .log) (path b j) (c .log) (path c j)
 
 -- ── least ──
-kept-least : (l p l' p' l″ p″ : List ℕ) → Kept l' p p' → l' ⊑ l″ → Moves l p l″ p″ → Moves l' p' l″ p″
-kept-least l p l' p' l″ p″ (inl e) h a = (h, λ x. rw e (a .1 (rw e at x)))
-kept-least l p l' p' l″ p″ (inr e) h a = (h, λ x. absurd (⊏-irrefl l″ (⊏-⊑-trans l″ l' l″ (subst (λ (z : List ℕ). l″ ⊏ z) (e .0) x) h)))
+under-least : (l p l' p' l″ p″ : List ℕ) → PathUnder l' p p' → l' ⊑ l″ → Moves l p l″ p″ → Moves l' p' l″ p″
+under-least l p l' p' l″ p″ (inl e) h a = (h, λ x. rw e (a .1 (rw e at x)))
+under-least l p l' p' l″ p″ (inr e) h a = (h, λ x. absurd (⊏-irrefl l″ (⊏-⊑-trans l″ l' l″ (subst (λ (z : List ℕ). l″ ⊏ z) (e .0) x) h)))
 
 offered-least : (l p q r l″ p″ : List ℕ) → Offered q p r → Moves l p l″ p″ → (l″ ⊏ q → q ⊑ p″) → Moves l r l″ p″
 offered-least l p q r l″ p″ (inl e) a b = (a .0, λ x. rw e (a .1 (rw e at x)))
 offered-least l p q r l″ p″ (inr e) a b = (a .0, λ x. rw (e .1) (b (rw (e .1) at x)))
 
-catchUp-path : (l : List ℕ) (o : Office) (j : ℕ) → Kept (catchUp l o .log) (path o j) (path (catchUp l o) j)
+catchUp-path : (l : List ℕ) (o : Office) (j : ℕ) → PathUnder (catchUp l o .log) (path o j) (path (catchUp l o) j)
 unfolding catchUp
-catchUp-path l o j = if-cases (λ r. Kept (r .log) (path o j) (path r j)) (extends l (o .log)) (rebase l o) o
+catchUp-path l o j = if-cases (λ r. PathUnder (r .log) (path o j) (path r j)) (extends l (o .log)) (rebase l o) o
     (λ e. unfold rebase in rebase-path l o j (⊏-⊑ (o .log) l (extends-true l (o .log) e))) (λ _. inl refl)
 
 catchUp-low : (l : List ℕ) (o : Office) (r : List ℕ) → o .log ⊑ r → l ⊑ r → catchUp l o .log ⊑ r
@@ -74,7 +74,7 @@ module _ (k : ℕ) (m : Message) (o : Office) (j : ℕ) (other : j ≡ k → ⊥
   pub take-least : (r : Office) → OfficeMoves j o r → OfficeMoves j (m .state) r → OfficeMoves j (withTake k m o) r
   unfolding withTake
   take-least r a b = offered-least (o₁ .log) (path o₁ j) (path (m .state) j) (path (withTake k m o) j) (r .log) (path r j) offered
-      (kept-least (o .log) (path o j) (o₁ .log) (path o₁ j) (r .log) (path r j) (catchUp-path l o j) (catchUp-low l o (r .log) (a .0) (b .0)) a) (b .1)
+      (under-least (o .log) (path o j) (o₁ .log) (path o₁ j) (r .log) (path r j) (catchUp-path l o j) (catchUp-low l o (r .log) (a .0) (b .0)) a) (b .1)
     where
       l : List ℕ
       l = m .state .log
@@ -130,7 +130,7 @@ module _ (k : ℕ) (m : Message) (o : Office) (j : ℕ) (other : j ≡ k → ⊥
       comparable (inr h) = longer h
 
       -- a path that extends the new log is the old one
-      old : o₁ .log ⊏ p → Kept (o₁ .log) (path o j) p → p ≡ path o j
+      old : o₁ .log ⊏ p → PathUnder (o₁ .log) (path o j) p → p ≡ path o j
       old d (inl e) = e
       old d (inr e) = absurd (⊏-irrefl (o₁ .log) (subst (λ (z : List ℕ). o₁ .log ⊏ z) (e .0) d))
 

@@ -10,7 +10,7 @@ use Rattle.protocol.specs.Office.{Office, path}
 use Rattle.protocol.proofs.World.{Call}
 use Rattle.protocol.proofs.Beginning.{⊑-trans, ⊑-⊏-trans, ⊏-irrefl}
 use Rattle.one_order.proofs.Lawful.{Lawful}
-use Rattle.protocol.proofs.Office.{Kept}
+use Rattle.protocol.proofs.Office.{PathUnder}
 use Rattle.one_order.proofs.History.{before, past-refl, officeAt, logAt}
 use Rattle.one_order.proofs.Known.{Snapshot, BallotsKnown}
 use Rattle.one_order.proofs.Issued.{EachIssued, issued-later, each-issued-wider, each-issued-self}
@@ -31,16 +31,16 @@ module _ (rule : Rule) (n : ℕ) (law : Lawful rule) where
 
   -- the log grows, and the paths that extend it stay
   pub kept-passing : (cs : List Call) (q q' : List ℕ) (k : ℕ) (o o' : Office)
-      → o .log ⊑ o' .log → ((j : ℕ) → Kept (o' .log) (path o j) (path o' j)) → o' .log ⊑ q'
+      → o .log ⊑ o' .log → ((j : ℕ) → PathUnder (o' .log) (path o j) (path o' j)) → o' .log ⊑ q'
       → EachIssued rule n cs q' q' → Passing cs q k o → Passing cs q' k o'
   kept-passing cs q q' k o o' low kept top pr m = record { settled = top; known = λ j x. back j x (kept j); issued = own (kept k) }
     where
-      back : (j : ℕ) → o' .log ⊏ path o' j → Kept (o' .log) (path o j) (path o' j) → Snapshot rule n cs j (o' .log) (path o' j)
+      back : (j : ℕ) → o' .log ⊏ path o' j → PathUnder (o' .log) (path o j) (path o' j) → Snapshot rule n cs j (o' .log) (path o' j)
       back j x (inl e) =
           let s = m .known j (⊑-⊏-trans (o .log) (o' .log) (path o j) low (rw e at x)) in
           record { moment = s .moment; past = s .past; within = ⊑-trans (logAt rule n j (s .moment)) (o .log) (o' .log) (s .within) low; own = s .own ∙ sym e }
       back j x (inr e) = absurd (⊏-irrefl (o' .log) (subst (λ (z : List ℕ). o' .log ⊏ z) (e .0) x))
 
-      own : Kept (o' .log) (path o k) (path o' k) → EachIssued rule n cs (o' .log) (path o' k)
+      own : PathUnder (o' .log) (path o k) (path o' k) → EachIssued rule n cs (o' .log) (path o' k)
       own (inl e) = rw e (each-issued-wider rule n cs (o .log) (o' .log) (path o k) low (m .issued))
       own (inr e) = subst (λ (z : List ℕ). EachIssued rule n cs (o' .log) z) (sym (e .0)) (each-issued-self rule n cs q' (o' .log) q' top pr)

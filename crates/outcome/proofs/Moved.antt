@@ -60,7 +60,7 @@ stays r words S = record {
 
 module _ (r : Record) (words : List ℕ) where
   -- a done call leaves the office as f
-  module _ (r' : Record) (words' : List ℕ) (S : Sound r words) (S' : Sound r' words') (f : F.Folded) (made : r' ≡ holding r words f) (state : foldedBy r' words' ≡ f) where
+  module _ (r' : Record) (words' : List ℕ) (S : Sound r words) (S' : Sound r' words') (f : F.FoldedOffice) (made : r' ≡ holding r words f) (state : foldedBy r' words' ≡ f) where
     leaves : (gone : ℕ) → f .dropped ≡ r .kept .dropped + gone → gone ≤ heldLength r → OfficeMoves (r .own) (shorn gone (heldBy r words)) (f .held) → Moved r words r' words'
     leaves gone d h m = record {
       was = S;
@@ -69,9 +69,9 @@ module _ (r : Record) (words : List ℕ) where
       own = ap (λ (x : Record). x .own) (sym made);
       weights = ap (λ (x : Record). x .weights) (sym made);
       gone = gone;
-      dropped = ap (λ (x : F.Folded). x .dropped) state ∙ d;
+      dropped = ap (λ (x : F.FoldedOffice). x .dropped) state ∙ d;
       held = h;
-      moves = subst (λ (x : F.Folded). OfficeMoves (r .own) (shorn gone (heldBy r words)) (x .held)) (sym state) m;
+      moves = subst (λ (x : F.FoldedOffice). OfficeMoves (r .own) (shorn gone (heldBy r words)) (x .held)) (sym state) m;
     }
 
   -- ── take ──
@@ -79,14 +79,14 @@ module _ (r : Record) (words : List ℕ) where
     abbrev m : F.Packet
     m = asPacket (A .content)
 
-    abbrev after : F.Folded
+    abbrev after : F.FoldedOffice
     after = withFoldedTake (r .own) m (foldedBy r words)
 
     left : (takeOf r words s .«record» ≡ holding r words after) × (takeWords r words s ≡ wordsWith (after .held .log) words)
     left =
         let d = take-done-is r words s q in
         let o = taken-office r words s A in
-        (d .0 ∙ ap (holding r words) o, d .1 ∙ ap (λ (x : F.Folded). wordsWith (x .held .log) words) o)
+        (d .0 ∙ ap (holding r words) o, d .1 ∙ ap (λ (x : F.FoldedOffice). wordsWith (x .held .log) words) o)
 
     taken-dropped : after .dropped ≡ r .kept .dropped + (m .dropped - r .kept .dropped)
     unfolding withFoldedTake
@@ -151,9 +151,10 @@ module _ (r : Record) (words : List ℕ) where
       (gone-within r words S) (subst (OfficeMoves (r .own) o) (sym folded-held) (moves-refl (o .log) (path o (r .own))))
 
   -- what fold holds is what was held, without what it dropped
-  pub fold-same : soundB r words ≡ true → (M : Moved r words (foldOf r words .«record») (foldWords r words)) × (heldBy (foldOf r words .«record») (foldWords r words) ≡ shorn (M .gone) (heldBy r words))
+  pub fold-same : soundB r words ≡ true
+      → (M : Moved r words (foldOf r words .«record») (foldWords r words)) × (heldBy (foldOf r words .«record») (foldWords r words) ≡ shorn (M .gone) (heldBy r words))
   unfolding leaves fold-moved
-  fold-same e = (fold-moved (sound r words e) e, ap (λ (f : F.Folded). f .held) (fold-state r words (fold-zero r words e)) ∙ folded-held)
+  fold-same e = (fold-moved (sound r words e) e, ap (λ (f : F.FoldedOffice). f .held) (fold-state r words (fold-zero r words e)) ∙ folded-held)
 
   pub moved : (r' : Record) (words' : List ℕ) → soundB r words ≡ true → Called r words r' words' → Moved r words r' words'
   moved r' words' e c = go (sound r words e) c

@@ -53,7 +53,8 @@ fn follows(before: Record, after: Record) -> bool
 // What became of the own entries that were pending in `before`, by the record `after` of the same office and its log. Those pending still, and
 // behind them those lost, are written to `rest`.
 pub fn report(before: Record, after: Record, log: &[u32], rest: &mut [u32]) -> Outcome
-    ensures { λ r. ⌜ (r ≡ reportOf before after (now (log .entry)) (now (rest .entry))) × (now (rest .exit) ≡ reportWords before after (now (log .entry)) (now (rest .entry))) ⌝ }
+    ensures report { λ r. ⌜ r ≡ reportOf before after (now (log .entry)) (now (rest .entry)) ⌝ }
+    ensures words { λ _. ⌜ now (rest .exit) ≡ reportWords before after (now (log .entry)) (now (rest .entry)) ⌝ }
 {
     if !after.sound(log) {
         return Outcome {

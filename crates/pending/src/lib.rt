@@ -86,7 +86,8 @@ fn write_of(office: usize, words: &[u32], out: &mut [u32])
 // What became of the office's entries in its tail before a call; `log` has the settled log's words after it from the tail's place on, `after` is the
 // own tail after it. The entries that did not settle are written to `rest`; if it is too short the number is 6.
 pub fn tell(own: usize, tail: &[u32], log: &[u32], after: &[u32], rest: &mut [u32]) -> Told
-    ensures { λ r. ⌜ (r ≡ toldOf own (now (tail .entry)) (now (log .entry)) (now (log .entry) ++ now (after .entry)) (now (rest .entry))) × (now (rest .exit) ≡ toldWords own (now (tail .entry)) (now (log .entry)) (now (rest .entry))) ⌝ }
+    ensures told { λ r. ⌜ r ≡ toldOf own (now (tail .entry)) (now (log .entry)) (now (log .entry) ++ now (after .entry)) (now (rest .entry)) ⌝ }
+    ensures words { λ _. ⌜ now (rest .exit) ≡ toldWords own (now (tail .entry)) (now (log .entry)) (now (rest .entry)) ⌝ }
 {
     let first = alike(tail, log);
     let both = kept(tail, log, first, after);

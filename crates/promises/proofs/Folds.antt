@@ -44,7 +44,7 @@ least-most k own noted (suc j) len h each =
     (λ _. less) (λ e. omega (arith, less, each j (omega arith) (eqb-false j k e)))
 
 -- the second time nothing goes
-fold-none : (n k : ℕ) (f : F.Folded) → foldCount n k (withFold n k f) ≡ 0
+fold-none : (n k : ℕ) (f : F.FoldedOffice) → foldCount n k (withFold n k f) ≡ 0
 unfolding withFold foldCount
 fold-none n k f =
     let least : ℕ = leastKnown k (settledLength (f .dropped) (f .held)) (f .noted) n in
@@ -53,7 +53,7 @@ fold-none n k f =
     omega (arith, length-drop c (f .held .log), least-own k (settledLength (f .dropped) (f .held)) (f .noted) n) in
     ap (λ (l : ℕ). leastKnown k l (f .noted) n - (f .dropped + c)) same ∙ omega arith
 
-fold-stays : (n k : ℕ) (f : F.Folded) → foldCount n k f ≡ 0 → withFold n k f ≡ f
+fold-stays : (n k : ℕ) (f : F.FoldedOffice) → foldCount n k f ≡ 0 → withFold n k f ≡ f
 unfolding withFold
 fold-stays n k f e =
     let d : f .dropped + foldCount n k f ≡ f .dropped = omega (arith, e) in
@@ -65,7 +65,7 @@ module _ (r : Record) (words : List ℕ) (q : foldOf r words .number ≡ 0) wher
 
   went : folded r words .kept .dropped ≡ r .kept .dropped + foldOf r words .count
   unfolding withFold
-  went = ap (λ (f : F.Folded). f .dropped) (Fold.fold-state r words q) ∙ ap (λ (c : ℕ). r .kept .dropped + c) (sym (Fold.fold-done r words q .counted))
+  went = ap (λ (f : F.FoldedOffice). f .dropped) (Fold.fold-state r words q) ∙ ap (λ (c : ℕ). r .kept .dropped + c) (sym (Fold.fold-done r words q .counted))
 
   least : ℕ
   least = leastKnown (r .own) (r .settled) (r .noted) (r .n)
@@ -163,7 +163,7 @@ module _ (r : Record) (words : List ℕ) (q : foldOf r words .number ≡ 0) wher
           number = (again ∙ sym q) i;
           count = (D .counted ∙ second-none) i;
         };
-        words-stay = D .written ∙ ap (λ (f : F.Folded). wordsWith (f .held .log) words') second-stays ∙ State.words-kept r' words' S';
+        words-stay = D .written ∙ ap (λ (f : F.FoldedOffice). wordsWith (f .held .log) words') second-stays ∙ State.words-kept r' words' S';
       }
 
 -- ── every record: a refused fold leaves it ──

@@ -18,7 +18,7 @@ use Rattle.protocol.specs.Limits.{lengthLimit}
 use Rattle.protocol.specs.Issue.{refusalAt}
 use Rattle.protocol.specs.Take.{rebase, catchUp, withTake, refuseTake}
 use Rattle.protocol.specs.Elect.{settle, electing, withElect, electCount}
-use Rattle.protocol.specs.Folding.{Folded, refuseFoldedIssue}
+use Rattle.protocol.specs.Folding.{FoldedOffice, refuseFoldedIssue}
 use Rattle.protocol.proofs.World.{World, take, names, refusal, done, step}
 
 -- ── the cases' entries, weights and states ──
@@ -46,7 +46,7 @@ abbrev pub state : List ℕ → List ℕ → List ℕ → List ℕ → Office
 state l x y z = record { log = l; tails = x ∷ y ∷ z ∷ [] ∷ [] ∷ [] ∷ [] ∷ [] ∷ [] }
 
 -- the state behind so many dropped entries, with nothing noted
-abbrev pub behind : ℕ → Office → Folded
+abbrev pub behind : ℕ → Office → FoldedOffice
 behind dropped o = record { dropped = dropped; held = o; noted = replicate 8 0 }
 
 abbrev from : ℕ → Office → Message
@@ -163,7 +163,7 @@ mistakes = ((refl, refl), refl, refl, (refl, refl, refl, (refl, refl)), (refl, r
 
 -- "Tails of 31 and 32, lengths of 1023 and 1024, line 63 and 64, code 9999 and 10000": the number of an issue at the only office of a frame, whose
 -- part of the tail is all of it, so that 11 stands where 4 stood; line 65 is the first past the lines of moves
-abbrev full : ℕ → ℕ → Folded
+abbrev full : ℕ → ℕ → FoldedOffice
 full settled own = behind 0 (state (replicate settled a) (replicate own a) [] [])
 
 pub limits :

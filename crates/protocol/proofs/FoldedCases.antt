@@ -17,7 +17,7 @@ use Rattle.protocol.specs.Codes.{codesAfter}
 use Rattle.protocol.specs.Issue.{withIssue, refusalAt}
 use Rattle.protocol.specs.Take.{rebase, catchUp, withTake, refuseTake}
 use Rattle.protocol.specs.Elect.{settle, electing, withElect}
-use Rattle.protocol.specs.Folding.{Folded, Packet, leastKnown, foldCount, withFold, withFoldedIssue, refuseFoldedIssue, withFoldedElect, withFoldedTake, refuseFoldedTake}
+use Rattle.protocol.specs.Folding.{FoldedOffice, Packet, leastKnown, foldCount, withFold, withFoldedIssue, refuseFoldedIssue, withFoldedElect, withFoldedTake, refuseFoldedTake}
 use Rattle.protocol.proofs.Cases.{a, b, d, three, state, behind}
 use Rattle.protocol.proofs.FoldedWorld.{World, Call, issue, send, take, elect, fold, founded, deskAt, names, number, done, step, run, logAt}
 
@@ -67,10 +67,10 @@ kept-counts = (refl, refl)
 
 -- ── one office ──
 -- so many entries dropped, this log behind them, no ballots
-abbrev holds : ℕ → List ℕ → Folded
+abbrev holds : ℕ → List ℕ → FoldedOffice
 holds dropped log = behind dropped (state log [] [] [])
 
-abbrev noting : List ℕ → Folded → Folded
+abbrev noting : List ℕ → FoldedOffice → FoldedOffice
 noting noted f = record { dropped = f .dropped; held = f .held; noted = noted }
 
 abbrev from : ℕ → ℕ → List ℕ → Packet
@@ -101,7 +101,7 @@ unfolding pick leastKnown foldCount withFold
 folds = (refl, refl, refl, refl, refl, refl)
 
 -- an own tail of so many entries, with this much dropped and held
-abbrev full : ℕ → ℕ → ℕ → Folded
+abbrev full : ℕ → ℕ → ℕ → FoldedOffice
 full dropped held own = behind dropped (state (replicate held a) (replicate own a) [] [])
 
 pub issues :

@@ -22,11 +22,11 @@ use Rattle.protocol.specs.Limits.{tailFine, lengthLimit, lengthsFine, fo
 use Rattle.protocol.specs.Issue.{withIssue}
 use Rattle.protocol.specs.Take.{rebase, catchUp, adopting, offers, withTake}
 use Rattle.protocol.specs.Elect.{settle, electing, tailEntries, withElect}
-use Rattle.protocol.specs.Folding.{Folded, Packet, unfolded, settledLength, shorn, foldCount, withFold, withFoldedIssue, refuseFoldedIssue, withFoldedElect, caughtUp, fromThere, withFoldedTake, refuseFoldedTake}
+use Rattle.protocol.specs.Folding.{FoldedOffice, Packet, unfolded, settledLength, shorn, foldCount, withFold, withFoldedIssue, refuseFoldedIssue, withFoldedElect, caughtUp, fromThere, withFoldedTake, refuseFoldedTake}
 use Rattle.lists.proofs.Tests.{both-0, both-1, both-true, if-cases, all-getD, all-of, all-drop, all-mono, getD-replicate}
 use Rattle.protocol.proofs.Beginning.{⊏-⊑, ⊑-length, extends-true}
 use Rattle.protocol.proofs.Vote.{NamesVoted}
-use Rattle.protocol.proofs.Office.{Kept, Offered, fresh-path, set-cases, rebase-path, adopting-path, settle-path, issue-path, next-cases, take-moves, elect-moves}
+use Rattle.protocol.proofs.Office.{PathUnder, Offered, fresh-path, set-cases, rebase-path, adopting-path, settle-path, issue-path, next-cases, take-moves, elect-moves}
 use Rattle.protocol.proofs.Limits.{fine-tail, fine-tail-of, Fine, fine, fine-of, fresh-fine, elect-fine, catchUp-log, take-done, take-done-fine}
 use Rattle.protocol.proofs.Issue.{issue-done, issue-done-fine}
 use Rattle.protocol.proofs.Folding.{fold-held, take-found}
@@ -64,7 +64,7 @@ folded-of n dropped o f =
     (λ i _. le-leb (settled + length (tail o i)) lengthLimit (omega (arith, f .short i, path-length o i)))))
 
 -- office k's state among n offices
-pub record FoldedFine (n k : ℕ) (f : Folded) : Type 0 where
+pub record FoldedFine (n k : ℕ) (f : FoldedOffice) : Type 0 where
   pub held : Fine n (f .held)
   pub short : (j : ℕ) → f .dropped + length (path (f .held) j) ≤ lengthLimit
   pub noted : (j : ℕ) → getD (f .noted) j 0 ≤ settledLength (f .dropped) (f .held)
@@ -72,7 +72,7 @@ pub record FoldedFine (n k : ℕ) (f : Folded) : Type 0 where
   pub eight : length (f .noted) ≡ 8
   pub unused : (j : ℕ) → (j ≡ k) ⊎ (n ≤ j) → getD (f .noted) j 0 ≡ 0
 
-pub folded-test : (n k : ℕ) (f : Folded) → FoldedFine n k f → foldedFine n (f .dropped) (f .held) ≡ true
+pub folded-test : (n k : ℕ) (f : FoldedOffice) → FoldedFine n k f → foldedFine n (f .dropped) (f .held) ≡ true
 folded-test n k f x = folded-of n (f .dropped) (f .held) (record { held = x .held; short = x .short })
 
 pub record PacketFine (n : ℕ) (m : Packet) : Type 0 where
@@ -107,9 +107,9 @@ shorn-path : (c : ℕ) (o : Office) (j : ℕ) → c ≤ length (o .log) → c + 
 shorn-path c o j h = omega (arith, path-length o j, path-length (shorn c o) j, length-drop c (o .log))
 
 -- ── how long paths get ──
-kept-short : (b : ℕ) (l q p : List ℕ) → length l ≤ b → length q ≤ b → Kept l q p → length p ≤ b
-kept-short b l q p x y (inl e) = omega (arith, ap length e)
-kept-short b l q p x y (inr e) = omega (arith, ap length (e .0))
+under-short : (b : ℕ) (l q p : List ℕ) → length l ≤ b → length q ≤ b → PathUnder l q p → length p ≤ b
+under-short b l q p x y (inl e) = omega (arith, ap length e)
+under-short b l q p x y (inr e) = omega (arith, ap length (e .0))
 
 offered-short : (b : ℕ) (q p r : List ℕ) → length q ≤ b → length p ≤ b → Offered q p r → length r ≤ b
 offered-short b q p r x y (inl e) = omega (arith, ap length e)
@@ -126,7 +126,7 @@ catchUp-short : (b : ℕ) (new : List ℕ) (o : Office) → length new ≤ b →
 unfolding catchUp
 catchUp-short b new o x h j =
     if-cases (λ r. length (path r j) ≤ b) (extends new (o .log)) (rebase new o) o
-    (λ e. kept-short b new (path o j) (path (rebase new o) j) x (h j) (rebase-path new o j (⊏-⊑ (o .log) new (extends-true new (o .log) e))))
+    (λ e. under-short b new (path o j) (path (rebase new o) j) x (h j) (rebase-path new o j (⊏-⊑ (o .log) new (extends-true new (o .log) e))))
     (λ _. h j)
 
 take-short : (b k : ℕ) (m : Message) (o : Office) → Short b (m .state) → Short b o → Short b (withTake k m o)
@@ -156,14 +156,14 @@ electing-short b rule law (suc fuel) o h j =
     next-cases (λ r. length (path r j) ≤ b) (rule (o .log) (votes o)) o (λ e. electing rule fuel (settle e o)) (h j)
     (λ e q. let v = law (o .log) (votes o) e q in
     electing-short b rule law fuel (settle e o)
-    (λ i. kept-short b (o .log ++ (e ∷ [])) (path o i) (path (settle e o) i) (vote-short b o (v .0) e h (v .1)) (h i) (settle-path e o i)) j)
+    (λ i. under-short b (o .log ++ (e ∷ [])) (path o i) (path (settle e o) i) (vote-short b o (v .0) e h (v .1)) (h i) (settle-path e o i)) j)
 
 elect-short : (b : ℕ) (rule : Rule) → NamesVoted rule → (o : Office) → Short b o → Short b (withElect rule o)
 unfolding withElect
 elect-short b rule law o h = electing-short b rule law (tailEntries (o .tails)) o h
 
 -- ── the calls ──
-pub fold-fine : (n k : ℕ) (f : Folded) → FoldedFine n k f → FoldedFine n k (withFold n k f)
+pub fold-fine : (n k : ℕ) (f : FoldedOffice) → FoldedFine n k f → FoldedFine n k (withFold n k f)
 unfolding withFold
 fold-fine n k f x =
     let c : ℕ = foldCount n k f in
@@ -177,7 +177,7 @@ fold-fine n k f x =
       unused = x .unused;
     }
 
-pub folded-issue-fine : (n k line code : ℕ) (f : Folded) → FoldedFine n k f → k < n → n ≤ 8 → refuseFoldedIssue n k line code f ≡ 0 → FoldedFine n k (withFoldedIssue k (value k line code) f)
+pub folded-issue-fine : (n k line code : ℕ) (f : FoldedOffice) → FoldedFine n k f → k < n → n ≤ 8 → refuseFoldedIssue n k line code f ≡ 0 → FoldedFine n k (withFoldedIssue k (value k line code) f)
 unfolding withFoldedIssue withIssue
 folded-issue-fine n k line code f x h m r =
     let d = issue-done n k line code f r in
@@ -193,13 +193,14 @@ folded-issue-fine n k line code f x h m r =
     e = value k line code
 
     go : (j : ℕ) → (settledLength (f .dropped) (f .held) + length (tail (f .held) k) ≡ lengthLimit → ⊥)
-        → (path (withIssue k e (f .held)) j ≡ path (f .held) j) ⊎ ((j ≡ k) × (path (withIssue k e (f .held)) j ≡ path (f .held) j ++ (e ∷ []))) → f .dropped + length (path (withIssue k e (f .held)) j) ≤ lengthLimit
+        → (path (withIssue k e (f .held)) j ≡ path (f .held) j) ⊎ ((j ≡ k) × (path (withIssue k e (f .held)) j ≡ path (f .held) j ++ (e ∷ [])))
+        → f .dropped + length (path (withIssue k e (f .held)) j) ≤ lengthLimit
     go j d (inl q) = omega (arith, ap length q, x .short j)
     go j d (inr q) =
         let a : length (path (f .held) j) ≡ length (path (f .held) k) = ap (λ (i : ℕ). length (path (f .held) i)) (q .0) in
         omega (arith, ap length (q .1), length-append (path (f .held) j) (e ∷ []), x .short k, path-length (f .held) k, d)
 
-pub folded-elect-fine : (rule : Rule) → NamesVoted rule → (n k : ℕ) (f : Folded) → FoldedFine n k f → FoldedFine n k (withFoldedElect rule f)
+pub folded-elect-fine : (rule : Rule) → NamesVoted rule → (n k : ℕ) (f : FoldedOffice) → FoldedFine n k f → FoldedFine n k (withFoldedElect rule f)
 unfolding withFoldedElect
 folded-elect-fine rule law n k f x =
     let o : Office = f .held in
@@ -237,7 +238,7 @@ sub-short a b c h = omega arith
 low-short : (g q b : ℕ) → g + q ≤ b → g ≤ b
 low-short g q b h = omega arith
 
-pub folded-take-fine : (n k : ℕ) (m : Packet) (f : Folded) → FoldedFine n k f → PacketFine n m → k < n → refuseFoldedTake k m f ≡ 0 → FoldedFine n k (withFoldedTake k m f)
+pub folded-take-fine : (n k : ℕ) (m : Packet) (f : FoldedOffice) → FoldedFine n k f → PacketFine n m → k < n → refuseFoldedTake k m f ≡ 0 → FoldedFine n k (withFoldedTake k m f)
 unfolding withFoldedTake
 folded-take-fine n k m f x y h r =
     let t = take-found k m f r in

@@ -9,12 +9,12 @@ use lib.ListN as L
 use lib.ListN.{length, getD, set, replicate, getElem?}
 use Rattle.protocol.specs.Entry.{value}
 use Rattle.protocol.specs.Office.{Office, Message}
-use Rattle.protocol.specs.Folding.{Folded, Packet, unfolded, packet, withFold, withFoldedIssue, refuseFoldedIssue, withFoldedElect, withFoldedTake, refuseFoldedTake}
+use Rattle.protocol.specs.Folding.{FoldedOffice, Packet, unfolded, packet, withFold, withFoldedIssue, refuseFoldedIssue, withFoldedElect, withFoldedTake, refuseFoldedTake}
 use Rattle.protocol.proofs.World as P
 use Rattle.protocol.proofs.Kept.{Effect, noEffect, effectAfter, ruleBehind}
 
 pub record Desk : Type 0 where
-  pub now : Folded
+  pub now : FoldedOffice
   -- what it keeps of the entries that it has dropped
   pub kept : Effect
   -- those entries, the oldest first
@@ -50,13 +50,13 @@ abbrev pub deskAt : World → ℕ → Desk
 deskAt w k = getD (w .desks) k (newDesk [])
 
 -- what a call that leaves the office as f has dropped: as many entries as the dropped count rises, from the front of the log it was handed
-abbrev pub goes : Desk → Folded → List ℕ
+abbrev pub goes : Desk → FoldedOffice → List ℕ
 goes d f = L.take (f .dropped - d .now .dropped) (d .now .held .log)
 
-abbrev pub leaving : Desk → Folded → Desk
+abbrev pub leaving : Desk → FoldedOffice → Desk
 leaving d f = record { now = f; kept = effectAfter (d .kept) (goes d f); former = d .former ++ goes d f }
 
-abbrev pub put : World → ℕ → Folded → World
+abbrev pub put : World → ℕ → FoldedOffice → World
 put w k f = record { desks = set (w .desks) k (leaving (deskAt w k) f); sent = w .sent }
 
 abbrev pub isThere : World → ℕ → Bool
@@ -71,11 +71,11 @@ names w (elect k) = isThere w k
 names w (fold k) = isThere w k
 names w idle = false
 
-abbrev pub refuseTaking : ℕ → Option Posted → Folded → ℕ
+abbrev pub refuseTaking : ℕ → Option Posted → FoldedOffice → ℕ
 refuseTaking k none f = 0
 refuseTaking k (some m) f = refuseFoldedTake k (m .message) f
 
-abbrev pub taking : ℕ → Option Posted → Folded → Folded
+abbrev pub taking : ℕ → Option Posted → FoldedOffice → FoldedOffice
 taking k none f = f
 taking k (some m) f = withFoldedTake k (m .message) f
 

@@ -28,7 +28,7 @@ use Rattle.protocol.specs.Issue.{withIssue, refuseEntry, refusalAt}
 use Rattle.protocol.specs.SettledRule.{bySettled}
 use Rattle.protocol.specs.Take.{withTake, refuseTake}
 use Rattle.protocol.specs.Elect.{withElect}
-use Rattle.protocol.specs.Folding.{Folded, Packet, settledLength, shorn, leastKnown, foldCount, withFold, withFoldedIssue, refuseFoldedIssue, withFoldedElect, caughtUp, fromThere, withFoldedTake, beginsPast, endsInside, refuseFoldedTake}
+use Rattle.protocol.specs.Folding.{FoldedOffice, Packet, settledLength, shorn, leastKnown, foldCount, withFold, withFoldedIssue, refuseFoldedIssue, withFoldedElect, caughtUp, fromThere, withFoldedTake, beginsPast, endsInside, refuseFoldedTake}
 use Rattle.protocol.proofs.FoldedWorld.{Desk, Posted, leaving, whole, wholeDesk, wholeMessage}
 use Rattle.lists.proofs.Tests.{pick-cases, or-right}
 use Rattle.protocol.proofs.Beginning.{⊑-trans, ⊑-comparable, ⊑-append, ⊑-rest, ⊏-length}
@@ -82,12 +82,12 @@ least-noted k own noted (suc i) j h d =
     least ih (no q) = omega (arith, ih (omega arith))
 
 -- what goes is held
-pub fold-held : (n k : ℕ) (f : Folded) → foldCount n k f ≤ length (f .held .log)
+pub fold-held : (n k : ℕ) (f : FoldedOffice) → foldCount n k f ≤ length (f .held .log)
 unfolding foldCount
 fold-held n k f = omega (arith, least-own k (settledLength (f .dropped) (f .held)) (f .noted) n)
 
 -- the new dropped count: the old one, or the least that is known
-pub fold-dropped : (n k : ℕ) (f : Folded) → (withFold n k f .dropped ≡ f .dropped) ⊎ (withFold n k f .dropped ≡ leastKnown k (settledLength (f .dropped) (f .held)) (f .noted) n)
+pub fold-dropped : (n k : ℕ) (f : FoldedOffice) → (withFold n k f .dropped ≡ f .dropped) ⊎ (withFold n k f .dropped ≡ leastKnown k (settledLength (f .dropped) (f .held)) (f .noted) n)
 unfolding withFold foldCount
 fold-dropped n k f = go (leastKnown k (settledLength (f .dropped) (f .held)) (f .noted) n)
   where
@@ -129,7 +129,7 @@ elect-desk founding d k =
     ∙ sym (elect-whole (d .former) rule (d .now .held))
 
 -- the issue found a line and a code within the limits
-pub folded-issue-found : (n k line code : ℕ) (f : Folded) → refuseFoldedIssue n k line code f ≡ 0 → refuseEntry n line code ≡ 0
+pub folded-issue-found : (n k line code : ℕ) (f : FoldedOffice) → refuseFoldedIssue n k line code f ≡ 0 → refuseEntry n line code ≡ 0
 unfolding refuseFoldedIssue refusalAt refuseEntry pick
 folded-issue-found n k line code f h = go (not (proper n line code)) _ h
   where
@@ -140,7 +140,7 @@ folded-issue-found n k line code f h = go (not (proper n line code)) _ h
 -- ── take ──
 -- of 16, 17 and 10 no two hold together: where one log begins past the other's end there is nothing to compare. So in whatever order the three are
 -- tested, "the smallest number is given"
-pub record Apart (m : Packet) (f : Folded) : Type 0 where
+pub record Apart (m : Packet) (f : FoldedOffice) : Type 0 where
   pub not-both : beginsPast m f ≡ true → endsInside m f ≡ true → ⊥
   pub past-agrees : beginsPast m f ≡ true → comparable (caughtUp m f .log) (fromThere m f .state .log) ≡ true
   pub inside-agrees : endsInside m f ≡ true → comparable (caughtUp m f .log) (fromThere m f .state .log) ≡ true
@@ -155,7 +155,7 @@ unfolding begins
 none-second a [] h = or-right (begins a [])
 none-second a (x ∷ b) h = absurd (omega (arith, h))
 
-pub numbers-apart : (m : Packet) (f : Folded) → Apart m f
+pub numbers-apart : (m : Packet) (f : FoldedOffice) → Apart m f
 numbers-apart m f = record {
   not-both = λ p q. omega (arith, past p, inside q);
   past-agrees = λ p. none-first (caughtUp m f .log) (fromThere m f .state .log) (omega (arith, past p, length-drop (m .dropped - f .dropped) (f .held .log)));
@@ -168,13 +168,13 @@ numbers-apart m f = record {
     inside : endsInside m f ≡ true → settledLength (m .dropped) (m .state) < f .dropped
     inside q = ltb-true (settledLength (m .dropped) (m .state)) (f .dropped) q
 
-pub record TakeFound (k : ℕ) (m : Packet) (f : Folded) : Type 0 where
+pub record TakeFound (k : ℕ) (m : Packet) (f : FoldedOffice) : Type 0 where
   pub other : m .sender ≡ k → ⊥
   pub reaches : m .dropped ≤ settledLength (f .dropped) (f .held)
   pub lasts : f .dropped ≤ settledLength (m .dropped) (m .state)
   pub agrees : refuseTake k (fromThere m f) (caughtUp m f) ≡ 0
 
-module _ (k : ℕ) (m : Packet) (f : Folded) where
+module _ (k : ℕ) (m : Packet) (f : FoldedOffice) where
   pub take-found : refuseFoldedTake k m f ≡ 0 → TakeFound k m f
   unfolding refuseFoldedTake pick
   take-found h = go (eqb (m .sender) k) refl (beginsPast m f) refl (endsInside m f) refl h
@@ -187,7 +187,8 @@ module _ (k : ℕ) (m : Packet) (f : Folded) where
       go false p false q false r x = record { other = eqb-false (m .sender) k p; reaches = ltb-false _ _ q; lasts = ltb-false _ _ r; agrees = x }
 
   -- 10 is met behind both dropped parts
-  pub take-ten : refuseFoldedTake k m f ≡ 10 → (m .dropped ≤ settledLength (f .dropped) (f .held)) × (f .dropped ≤ settledLength (m .dropped) (m .state)) × (refuseTake k (fromThere m f) (caughtUp m f) ≡ 10)
+  pub take-ten : refuseFoldedTake k m f ≡ 10
+      → (m .dropped ≤ settledLength (f .dropped) (f .held)) × (f .dropped ≤ settledLength (m .dropped) (m .state)) × (refuseTake k (fromThere m f) (caughtUp m f) ≡ 10)
   unfolding refuseFoldedTake pick
   take-ten h = go (eqb (m .sender) k) (beginsPast m f) refl (endsInside m f) refl h
     where

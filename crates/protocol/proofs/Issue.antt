@@ -22,7 +22,7 @@ use Rattle.protocol.specs.Fair.{part, fair}
 use Rattle.protocol.specs.Office.{Office, tail}
 use Rattle.protocol.specs.Limits.{tailFine, lengthLimit}
 use Rattle.protocol.specs.Issue.{withIssue, refuseEntry, refusalAt}
-use Rattle.protocol.specs.Folding.{Folded, settledLength, refuseFoldedIssue}
+use Rattle.protocol.specs.Folding.{FoldedOffice, settledLength, refuseFoldedIssue}
 use Rattle.lists.proofs.Tests.{all-one, all-append, all-set}
 use Rattle.protocol.proofs.Limits.{FineTail, fine-tail-of, Fine, tail-at}
 use Rattle.protocol.proofs.Moves.{proper-true, value-parts, value-entry}
@@ -69,13 +69,13 @@ meets-five n line code settled held len count p (inr e) = rw (p, eq-eqb (settled
     five false = refl
 
 -- what a done issue found
-pub record IssueDone (n k line code : ℕ) (f : Folded) : Type 0 where
+pub record IssueDone (n k line code : ℕ) (f : FoldedOffice) : Type 0 where
   pub limits : proper n line code ≡ true
   pub room : length (f .held .log) + length (tail (f .held) k) ≡ 1024 → ⊥
   pub within : settledLength (f .dropped) (f .held) + length (tail (f .held) k) ≡ lengthLimit → ⊥
   pub below : countIn k (tail (f .held) k) < part n
 
-module _ (n k line code : ℕ) (f : Folded) where
+module _ (n k line code : ℕ) (f : FoldedOffice) where
   abbrev own : List ℕ
   own = tail (f .held) k
 
@@ -126,7 +126,7 @@ pub record IssueNever (x : ℕ) : Type 0 where
   pub no-10 : x ≡ 10 → ⊥
   pub no-16 : x ≡ 16 → ⊥
 
-pub issue-never : (n k line code : ℕ) (f : Folded) → IssueNever (refuseFoldedIssue n k line code f)
+pub issue-never : (n k line code : ℕ) (f : FoldedOffice) → IssueNever (refuseFoldedIssue n k line code f)
 unfolding refuseFoldedIssue refusalAt pick
 issue-never n k line code f =
     go (not (proper n line code)) (eqb (held n k line code f + length (own n k line code f)) 1024) (eqb (settled n k line code f + length (own n k line code f)) lengthLimit)
@@ -145,7 +145,7 @@ issue-never n k line code f =
     go false false false true = other 11 (λ e. omega arith) (λ e. omega arith) (λ e. omega arith) (λ e. omega arith)
     go false false false false = other 0 (λ e. omega arith) (λ e. omega arith) (λ e. omega arith) (λ e. omega arith)
 
-pub issue-done-fine : (n k line code : ℕ) (f : Folded) → Fine n (f .held) → k < n → n ≤ 8 → refuseFoldedIssue n k line code f ≡ 0 → Fine n (withIssue k (value k line code) (f .held))
+pub issue-done-fine : (n k line code : ℕ) (f : FoldedOffice) → Fine n (f .held) → k < n → n ≤ 8 → refuseFoldedIssue n k line code f ≡ 0 → Fine n (withIssue k (value k line code) (f .held))
 issue-done-fine n k line code f g h m r =
     let d = issue-done n k line code f r in
     let t = tail-at n (f .held) g k in

@@ -38,12 +38,12 @@ map-at f e (t ∷ ts) zero = refl
 map-at f e (t ∷ ts) (suc j) = map-at f e ts j
 
 -- a path q under a new log: it stays, or it becomes the log, and then it did not extend it
-abbrev pub Kept : List ℕ → List ℕ → List ℕ → Type 0
-Kept l q p = (p ≡ q) ⊎ ((p ≡ l) × (l ⊏ q → ⊥))
+abbrev pub PathUnder : List ℕ → List ℕ → List ℕ → Type 0
+PathUnder l q p = (p ≡ q) ⊎ ((p ≡ l) × (l ⊏ q → ⊥))
 
-rebased-path : (old new t : List ℕ) → Kept new (old ++ t) (new ++ rebased old new t)
+rebased-path : (old new t : List ℕ) → PathUnder new (old ++ t) (new ++ rebased old new t)
 rebased-path old new t =
-    if-cases (λ r. Kept new (old ++ t) (new ++ r)) (extends (old ++ t) new) (drop (length new) (old ++ t)) []
+    if-cases (λ r. PathUnder new (old ++ t) (new ++ r)) (extends (old ++ t) new) (drop (length new) (old ++ t)) []
     (λ e. inl (⊑-rest new (old ++ t) (⊏-⊑ new (old ++ t) (extends-true (old ++ t) new e))))
     (λ e. inr (append-nil new, extends-false (old ++ t) new e))
 
@@ -53,19 +53,19 @@ rebased-nil old new p =
     (λ e. absurd (⊏-irrefl new (⊏-⊑-trans new old new (rw append-nil at (extends-true (old ++ []) new e)) p)))
     (λ e. refl)
 
-pub rebase-path : (new : List ℕ) (o : Office) (j : ℕ) → o .log ⊑ new → Kept new (path o j) (path (rebase new o) j)
+pub rebase-path : (new : List ℕ) (o : Office) (j : ℕ) → o .log ⊑ new → PathUnder new (path o j) (path (rebase new o) j)
 unfolding rebase
 rebase-path new o j p =
     rw (map-at (rebased (o .log) new) (rebased-nil (o .log) new p) (o .tails) j) (rebased-path (o .log) new (tail o j))
 
-lose-path : (l : List ℕ) (e : ℕ) (t : List ℕ) → Kept (l ++ (e ∷ [])) (l ++ t) ((l ++ (e ∷ [])) ++ lose e t)
+lose-path : (l : List ℕ) (e : ℕ) (t : List ℕ) → PathUnder (l ++ (e ∷ [])) (l ++ t) ((l ++ (e ∷ [])) ++ lose e t)
 lose-path l e [] = inr (append-nil (l ++ (e ∷ [])), λ h. ⊏-irrefl l (rw append-nil at (snoc-⊏ l (l ++ []) e (⊏-⊑ (l ++ (e ∷ [])) (l ++ []) h))))
 lose-path l e (x ∷ t) =
-    if-cases (λ r. Kept (l ++ (e ∷ [])) (l ++ (x ∷ t)) ((l ++ (e ∷ [])) ++ r)) (eqb x e) t []
+    if-cases (λ r. PathUnder (l ++ (e ∷ [])) (l ++ (x ∷ t)) ((l ++ (e ∷ [])) ++ r)) (eqb x e) t []
     (λ q. inl (append-assoc l (e ∷ []) t ∙ ap (λ (z : ℕ). l ++ (z ∷ t)) (sym (eqb-true x e q))))
     (λ q. inr (append-nil (l ++ (e ∷ [])), λ h. eqb-false x e q (sym (snoc-same l (l ++ (x ∷ t)) e x (⊏-⊑ (l ++ (e ∷ [])) (l ++ (x ∷ t)) h) (snoc-⊑ l x t)))))
 
-pub settle-path : (e : ℕ) (o : Office) (j : ℕ) → Kept (o .log ++ (e ∷ [])) (path o j) (path (settle e o) j)
+pub settle-path : (e : ℕ) (o : Office) (j : ℕ) → PathUnder (o .log ++ (e ∷ [])) (path o j) (path (settle e o) j)
 unfolding settle
 settle-path e o j = rw (map-at (lose e) refl (o .tails) j) (lose-path (o .log) e (tail o j))
 
@@ -102,9 +102,9 @@ moves-trans l p l' p' l″ p″ a b = (
       ⊑-trans p p' p″ s (b .1 (⊏-⊑-trans l″ p p' h s)),
 )
 
-kept-moves : (l l' p p' : List ℕ) → l ⊑ l' → Kept l' p p' → Moves l p l' p'
-kept-moves l l' p p' a (inl e) = (a, λ h. rw e (⊑-refl p))
-kept-moves l l' p p' a (inr e) = (a, λ h. absurd (e .1 h))
+under-moves : (l l' p p' : List ℕ) → l ⊑ l' → PathUnder l' p p' → Moves l p l' p'
+under-moves l l' p p' a (inl e) = (a, λ h. rw e (⊑-refl p))
+under-moves l l' p p' a (inr e) = (a, λ h. absurd (e .1 h))
 
 offered-moves : (l q p r : List ℕ) → Offered q p r → Moves l p l r
 offered-moves l q p r (inl e) = (⊑-refl l, λ h. rw e (⊑-refl p))
@@ -138,7 +138,7 @@ unfolding catchUp
 catchUp-moves l o j =
     if-cases (λ r. OfficeMoves j o r) (extends l (o .log)) (rebase l o) o
     (λ e. let h : o .log ⊑ l = ⊏-⊑ (o .log) l (extends-true l (o .log) e) in
-    unfold rebase in kept-moves (o .log) l (path o j) (path (rebase l o) j) h (rebase-path l o j h))
+    unfold rebase in under-moves (o .log) l (path o j) (path (rebase l o) j) h (rebase-path l o j h))
     (λ e. moves-refl (o .log) (path o j))
 
 pub take-moves : (k : ℕ) (m : Message) (o : Office) (j : ℕ) → OfficeMoves j o (withTake k m o)
@@ -153,7 +153,7 @@ take-moves k m o j =
 pub settle-moves : (e : ℕ) (o : Office) (j : ℕ) → OfficeMoves j o (settle e o)
 unfolding settle
 settle-moves e o j =
-    kept-moves (o .log) (o .log ++ (e ∷ [])) (path o j) (path (settle e o) j) (⊑-append (o .log) (e ∷ [])) (settle-path e o j)
+    under-moves (o .log) (o .log ++ (e ∷ [])) (path o j) (path (settle e o) j) (⊑-append (o .log) (e ∷ [])) (settle-path e o j)
 
 pub next-cases : (P : Office → Type 0) (r : Option ℕ) (o : Office) (go : ℕ → Office) → P o → ((e : ℕ) → r ≡ some e → P (go e)) → P (next r o go)
 next-cases P none o go a b = a

@@ -62,7 +62,8 @@ module _ {M : Type 1} (𝓤 : URA M) (H : Heap 𝓤) (A : Atoms 𝓤) (W : Given
         qed W ((‵ (lastsOf κs (onSlice m D .params) (all yes (onSlice m D .params)) (d .src, (d .at, xs)) ws) ⊛ raw (fact 𝓤 (r ≡ f κs xs (d .at) (now (d .src))))) ∷ []) ∵
         show ! (readerSays 𝓤 H A m D f κs (d, xs) r) (tt, ws .1 .1) $ split ! $ fsplit ! $ drop ! $ join ! $ done !)
 
-  apart : (C : Calls 𝓤 H) (Λ : Loops 𝓤 H) (g : Name) → FmC 𝓤 H (W .laws) C → Triple 𝓤 (C g) (Slice 𝓤 H A m D f) → Calling 𝓤 H m (layout (shape D)) C Λ g → Triple 𝓤 (WpFn 𝓤 H C Λ (taking m (layout (shape D)) g)) (Held 𝓤 H A m D f)
+  apart : (C : Calls 𝓤 H) (Λ : Loops 𝓤 H) (g : Name) → FmC 𝓤 H (W .laws) C → Triple 𝓤 (C g) (Slice 𝓤 H A m D f) → Calling 𝓤 H m (layout (shape D)) C Λ g
+      → Triple 𝓤 (WpFn 𝓤 H C Λ (taking m (layout (shape D)) g)) (Held 𝓤 H A m D f)
   apart C Λ g fm known runs y =
       let κs : Lfts 1 = y .0 .0 in
       let qs : Shares 1 = y .0 .1 in
@@ -76,7 +77,8 @@ module _ {M : Type 1} (𝓤 : URA M) (H : Heap 𝓤) (A : Atoms 𝓤) (W : Given
 module _ {M : Type 1} (𝓤 : URA M) (H : Heap 𝓤) (𝓜 : Model 𝓤 H) (𝓖 : GhostRules 𝓤 H) (𝓡 : Running 𝓤 H 𝓜) (m : ℕ) (D : Declared) (L : LL.Laws D) (f : (κs : Lfts 1) → Numbers m κs → ℕ → List ℕ → D .D) (γ : Env) where
   -- a function k over the struct meets its contract, where the callee g meets its own
   pub over-reader : (k g : Name) (ρ : Routine) → γ g ≡ ρ → Closed 𝓤 H (tables 𝓤 H 𝓜 𝓡 γ .C) (tables 𝓤 H 𝓜 𝓡 γ .Λ) k (taking m (layout (shape D)) g)
-      → ((A : Atoms 𝓤) (W : Given 𝓤 H A) (τ : Ty) (C : Calls 𝓤 H) (Λ : Loops 𝓤 H) → FmC 𝓤 H (W .laws) C → (n : Name) → Calling 𝓤 H m τ C Λ n) → Triple 𝓤 (𝓡 .run ρ) (Slice 𝓤 H (𝓖 .A) m D f) → Triple 𝓤 (tables 𝓤 H 𝓜 𝓡 γ .C k) (Held 𝓤 H (𝓖 .A) m D f)
+      → ((A : Atoms 𝓤) (W : Given 𝓤 H A) (τ : Ty) (C : Calls 𝓤 H) (Λ : Loops 𝓤 H) → FmC 𝓤 H (W .laws) C → (n : Name) → Calling 𝓤 H m τ C Λ n)
+      → Triple 𝓤 (𝓡 .run ρ) (Slice 𝓤 H (𝓖 .A) m D f) → Triple 𝓤 (tables 𝓤 H 𝓜 𝓡 γ .C k) (Held 𝓤 H (𝓖 .A) m D f)
   unfolding tablesOf
   over-reader k g ρ at closed runs met =
       let 𝓣 : Tables 𝓤 H = tablesOf 𝓤 H 𝓜 (tables 𝓤 H 𝓜 𝓡 γ) in

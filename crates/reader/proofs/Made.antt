@@ -113,8 +113,10 @@ module _ {M : Type 1} (𝓤 : URA M) (H : Heap 𝓤) (A : Atoms 𝓤) (W : Given
 
 module _ {M : Type 1} (𝓤 : URA M) (H : Heap 𝓤) (𝓜 : Model 𝓤 H) (𝓖 : GhostRules 𝓤 H) (𝓡 : Running 𝓤 H 𝓜) (m : ℕ) (D : Declared) (L : LL.Laws D) (f : (κs : Lfts 1) → Numbers m κs → ℕ → List ℕ → D .D) (γ : Env) where
   -- a function k over the slice meets its contract, where the function g over the struct meets its own
-  pub over-slice : (k g : Name) (ρ : Routine) → γ g ≡ ρ → γ new-def.name ≡ new-def.routine → Closed 𝓤 H (tables 𝓤 H 𝓜 𝓡 γ .C) (tables 𝓤 H 𝓜 𝓡 γ .Λ) k (making m (layout (shape D)) sliceMir (T′.mir erased) new-def.name g)
-      → ((A : Atoms 𝓤) (W : Given 𝓤 H A) (τ σ ρ : Ty) (C : Calls 𝓤 H) (Λ : Loops 𝓤 H) → FmC 𝓤 H (W .laws) C → (n g : Name) → Making 𝓤 H m τ σ ρ C Λ n g) → Triple 𝓤 (𝓡 .run ρ) (Held 𝓤 H (𝓖 .A) m D f) → Triple 𝓤 (tables 𝓤 H 𝓜 𝓡 γ .C k) (Slice 𝓤 H (𝓖 .A) m D f)
+  pub over-slice : (k g : Name) (ρ : Routine) → γ g ≡ ρ → γ new-def.name ≡ new-def.routine
+      → Closed 𝓤 H (tables 𝓤 H 𝓜 𝓡 γ .C) (tables 𝓤 H 𝓜 𝓡 γ .Λ) k (making m (layout (shape D)) sliceMir (T′.mir erased) new-def.name g)
+      → ((A : Atoms 𝓤) (W : Given 𝓤 H A) (τ σ ρ : Ty) (C : Calls 𝓤 H) (Λ : Loops 𝓤 H) → FmC 𝓤 H (W .laws) C → (n g : Name) → Making 𝓤 H m τ σ ρ C Λ n g)
+      → Triple 𝓤 (𝓡 .run ρ) (Held 𝓤 H (𝓖 .A) m D f) → Triple 𝓤 (tables 𝓤 H 𝓜 𝓡 γ .C k) (Slice 𝓤 H (𝓖 .A) m D f)
   unfolding tablesOf
   over-slice k g ρ at at-new closed runs met =
       let 𝓣 : Tables 𝓤 H = tablesOf 𝓤 H 𝓜 (tables 𝓤 H 𝓜 𝓡 γ) in

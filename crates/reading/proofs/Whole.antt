@@ -118,37 +118,37 @@ unfolding runAt allB isWeight
 weights-fine zero s b = refl
 weights-fine (suc k) s b = both-true _ _ (lt-ltb (be16 s) 65536 (be16-below s b)) (weights-fine k (drop 2 s) (bytes-drop 2 s b))
 
-shape-fine : (n settled : ℕ) (b : Ballot) → ballotFine n settled b ≡ true → ballotShape b ≡ true
+shape-fine : (n held : ℕ) (b : Ballot) → ballotFine n held b ≡ true → ballotShape b ≡ true
 unfolding ballotFine
-shape-fine n settled b e = both-0 (ballotShape b) _ e
+shape-fine n held b e = both-0 (ballotShape b) _ e
 
-tails-each : (n settled : ℕ) (ts : List (List ℕ)) → tailsFine n settled ts ≡ true → allB (tailFine n settled) ts ≡ true
+tails-each : (n held : ℕ) (ts : List (List ℕ)) → tailsFine n held ts ≡ true → allB (tailFine n held) ts ≡ true
 unfolding tailsFine
-tails-each n settled ts e = both-0 _ _ (both-1 (eqb (length ts) 8) _ e)
+tails-each n held ts e = both-0 _ _ (both-1 (eqb (length ts) 8) _ e)
 
 -- ballots that hold tails are within the limits as the tails are
-pub ballots-fine : (n settled : ℕ) (ts : List (List ℕ)) → ballotsFine n settled (map ballotOf ts) ≡ tailsFine n settled ts
+pub ballots-fine : (n held : ℕ) (ts : List (List ℕ)) → ballotsFine n held (map ballotOf ts) ≡ tailsFine n held ts
 unfolding ballotsFine
-ballots-fine n settled ts = rw (tails-of ts) (alike _ _ (λ e. both-1 (allB ballotShape (map ballotOf ts)) _ e) (λ e. both-true _ _ (shapes e) e))
+ballots-fine n held ts = rw (tails-of ts) (alike _ _ (λ e. both-1 (allB ballotShape (map ballotOf ts)) _ e) (λ e. both-true _ _ (shapes e) e))
   where
-    shape : (t : List ℕ) → tailFine n settled t ≡ true → ballotShape (ballotOf t) ≡ true
-    shape t e = shape-fine n settled (ballotOf t) (fine-tail n settled t e)
+    shape : (t : List ℕ) → tailFine n held t ≡ true → ballotShape (ballotOf t) ≡ true
+    shape t e = shape-fine n held (ballotOf t) (fine-tail n held t e)
 
-    shapes : tailsFine n settled ts ≡ true → allB ballotShape (map ballotOf ts) ≡ true
-    shapes e = all-map (tailFine n settled) ballotShape ballotOf shape ts (tails-each n settled ts e)
+    shapes : tailsFine n held ts ≡ true → allB ballotShape (map ballotOf ts) ≡ true
+    shapes e = all-map (tailFine n held) ballotShape ballotOf shape ts (tails-each n held ts e)
 
 pub stored-tails : (n : ℕ) (ts : List (List ℕ)) (bs : List Ballot) → bs ≡ ballotsOf n ts → map tailOf bs ≡ eightTails n ts
 unfolding ballotsOf
 stored-tails n ts bs e = ap (map tailOf) e ∙ tails-of (eightTails n ts)
 
-pub stored-fine : (n settled : ℕ) (ts : List (List ℕ)) (bs : List Ballot) → bs ≡ ballotsOf n ts → ballotsFine n settled bs ≡ tailsFine n settled (eightTails n ts)
+pub stored-fine : (n held : ℕ) (ts : List (List ℕ)) (bs : List Ballot) → bs ≡ ballotsOf n ts → ballotsFine n held bs ≡ tailsFine n held (eightTails n ts)
 unfolding ballotsOf
-stored-fine n settled ts bs e = ap (ballotsFine n settled) e ∙ ballots-fine n settled (eightTails n ts)
+stored-fine n held ts bs e = ap (ballotsFine n held) e ∙ ballots-fine n held (eightTails n ts)
 
 -- ballots within the limits are in shape
-pub fine-shapes : (n settled : ℕ) (bs : List Ballot) → ballotsFine n settled bs ≡ true → allB ballotShape bs ≡ true
+pub fine-shapes : (n held : ℕ) (bs : List Ballot) → ballotsFine n held bs ≡ true → allB ballotShape bs ≡ true
 unfolding ballotsFine
-fine-shapes n settled bs e = both-0 _ _ e
+fine-shapes n held bs e = both-0 _ _ e
 
 -- the ballots in the rest of a message, and the eight tails that they say
 abbrev after : List ℕ → ℕ → List ℕ

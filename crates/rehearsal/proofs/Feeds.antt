@@ -68,7 +68,8 @@ feed-answers f out₀ w line out count held x e =
     }
 
 -- at the end of the input, with no line held
-pub finish-answers : (w : World) (line out : List ℕ) (held : Held) → length line ≡ 0 → held ≡ nothing → FedAs (finishOf w line) out (record { rehearsal = record { offices = w .offices; held = held }; printed = 0 }) (w .logs) (w .slots) out
+pub finish-answers : (w : World) (line out : List ℕ) (held : Held) → length line ≡ 0 → held ≡ nothing
+    → FedAs (finishOf w line) out (record { rehearsal = record { offices = w .offices; held = held }; printed = 0 }) (w .logs) (w .slots) out
 finish-answers w line out held z e = rw (finish-none sayLine w line z, e) (record { answer = refl; logs = refl; slots = refl; output = refl })
 
 module _ (r : Rehearsal) (logs slots : List ℕ) where

@@ -24,7 +24,7 @@ use Rattle.rehearsal_offices.specs.declared.founding.Reply.{Reply}
 use Rattle.rehearsal_offices.specs.Addressees.{addresseeOf}
 use Rattle.rehearsal_offices.specs.World.{World, logOf}
 use Rattle.rehearsal_offices.specs.Founding.{foundOffices}
-use Rattle.rehearsal.specs.Lines.{Answered, answeredBy, turned, recordAt, officeTurn, answerTo, answerLine, sayLine}
+use Rattle.rehearsal.specs.Lines.{Answered, worldAt, answeredBy, turned, recordAt, officeTurn, answerTo, answerLine, sayLine}
 
 pub say-short : (w : World) (bytes : List ℕ) → length (sayLine w bytes .printed) ≤ 65
 unfolding sayLine answerLine
@@ -37,7 +37,7 @@ pub turn-stored : (w : World) (k : ℕ) (c : Command) (t : Turn) (logs slots : L
     t ≡ turnAt (recordAt (w .offices) k) (w .offices .lengths) (logOf (w .logs) k) (w .slots) c →
     logs ≡ withPiece 1024 (w .logs) k (turnWords (recordAt (w .offices) k) (w .offices .lengths) (logOf (w .logs) k) (w .slots) c) →
     slots ≡ turnSlots (recordAt (w .offices) k) (logOf (w .logs) k) (w .slots) c →
-    answeredBy (record { offices = turned (w .offices) k t; answer = t .answer }) logs slots ≡ officeTurn w k c
+    _≡_ {A = Answered} (record { world = worldAt (turned (w .offices) k t) logs slots; answer = t .answer }) (officeTurn w k c)
 unfolding officeTurn
 turn-stored w k c t logs slots et el es = rw (et, el, es)
 

@@ -31,6 +31,7 @@ pub record Answered : Type 0 where
 abbrev pub worldAt : Offices → List ℕ → List ℕ → World
 worldAt offices logs slots = record { offices = offices; logs = logs; slots = slots }
 
+-- a founding changes the offices
 abbrev pub answeredBy : Reply → List ℕ → List ℕ → Answered
 answeredBy r logs slots = record { world = worldAt (r .offices) logs slots; answer = r .answer }
 
@@ -44,7 +45,7 @@ turned s k t = record { count = s .count; records = set (s .records) k (t .recor
 
 -- an office's turn changes its record, its log and the slots
 abbrev pub turnAnswer : World → ℕ → Turn → List ℕ → List ℕ → Answered
-turnAnswer w k t words slots = answeredBy (record { offices = turned (w .offices) k t; answer = t .answer }) (withPiece 1024 (w .logs) k words) slots
+turnAnswer w k t words slots = record { world = worldAt (turned (w .offices) k t) (withPiece 1024 (w .logs) k words) slots; answer = t .answer }
 
 -- the turn of office k by a command
 unfoldable pub officeTurn : World → ℕ → Command → Answered

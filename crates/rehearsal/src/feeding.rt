@@ -58,7 +58,8 @@ fn office_turn(
 ) -> Turn
     requires { ⌜ (k < 8) × (length (now logs) ≡ 8192) ⌝ }
     ensures { λ r. ⌜ r ≡ turnAt «record» lengths (logOf (now (logs .entry)) k) (now (slots .entry)) command ⌝ }
-    ensures { λ r. ⌜ now (logs .exit) ≡ withPiece 1024 (now (logs .entry)) k (turnWords «record» lengths (logOf (now (logs .entry)) k) (now (slots .entry)) command) ⌝ }
+    ensures { λ r. ⌜ now (logs .exit) ≡ withPiece 1024 (now (logs .entry)) k
+        (turnWords «record» lengths (logOf (now (logs .entry)) k) (now (slots .entry)) command) ⌝ }
     ensures { λ r. ⌜ now (slots .exit) ≡ turnSlots «record» (logOf (now (logs .entry)) k) (now (slots .entry)) command ⌝ }
 {
     let from = k * Record::LOG;
@@ -70,7 +71,8 @@ fn office_turn(
 // answer. The offices change where they stand: handed to a function for each line and back, all eight records would be copied.
 fn feed_all(r: Rehearsal, logs: &mut Logs, slots: &mut Slots, chunk: &[u8], out: &mut Output) -> Fed
     requires { ⌜ length (now chunk) ≤ 8192 ⌝ }
-    ensures { λ f. ⌜ FedAs (feeds r (now (logs .entry)) (now (slots .entry)) (now (chunk .entry))) (now (out .entry)) f (now (logs .exit)) (now (slots .exit)) (now (out .exit)) ⌝ }
+    ensures { λ f. ⌜ FedAs (feeds r (now (logs .entry)) (now (slots .entry)) (now (chunk .entry))) (now (out .entry)) f
+        (now (logs .exit)) (now (slots .exit)) (now (out .exit)) ⌝ }
 {
     let mut offices = r.offices;
     let mut held = r.held;
@@ -127,7 +129,8 @@ impl Rehearsal {
         used: usize,
         out: &mut Output,
     ) -> Fed
-        ensures { λ f. ⌜ FedAs (feeds self (now (logs .entry)) (now (slots .entry)) (take used (now (chunk .entry)))) (now (out .entry)) f (now (logs .exit)) (now (slots .exit)) (now (out .exit)) ⌝ }
+        ensures { λ f. ⌜ FedAs (feeds self (now (logs .entry)) (now (slots .entry)) (take used (now (chunk .entry)))) (now (out .entry)) f
+            (now (logs .exit)) (now (slots .exit)) (now (out .exit)) ⌝ }
     {
         let bytes: &[u8] = chunk;
         let size = within(used, Rehearsal::CHUNK);
@@ -136,7 +139,8 @@ impl Rehearsal {
 
     // The end of the input: a line that is held lacks its newline, and is answered.
     pub fn finish(self, logs: &mut Logs, slots: &mut Slots, out: &mut Output) -> Fed
-        ensures { λ f. ⌜ FedAs (finishes self (now (logs .entry)) (now (slots .entry))) (now (out .entry)) f (now (logs .exit)) (now (slots .exit)) (now (out .exit)) ⌝ }
+        ensures { λ f. ⌜ FedAs (finishes self (now (logs .entry)) (now (slots .entry))) (now (out .entry)) f
+            (now (logs .exit)) (now (slots .exit)) (now (out .exit)) ⌝ }
     {
         let last = self.held;
         if last.length == 0 {

@@ -18,7 +18,8 @@ use Rattle.decimal.specs.Numbers.{fields, fieldsFrom, fieldNumber, numbersFrom}
 use Rattle.decimal.proofs.Walks.{fields-here, fields-all}
 use Rattle.rehearsal_commands.specs.Command.{lineFrom, lineBy, lineOf, withMore, noLine}
 
-pub line-step : (letter : ℕ) (s : List ℕ) (end : ℕ) → 2 ≤ length s → end ≡ 2 + partLength 32 (drop 2 s) → lineFrom letter (drop 2 s) ≡ byNumber (fieldNumber (take (end - 2) (drop 2 s))) (λ (first : ℕ). withMore letter first (numbersFrom s (end + 1))) noLine
+pub line-step : (letter : ℕ) (s : List ℕ) (end : ℕ) → 2 ≤ length s → end ≡ 2 + partLength 32 (drop 2 s)
+    → lineFrom letter (drop 2 s) ≡ byNumber (fieldNumber (take (end - 2) (drop 2 s))) (λ (first : ℕ). withMore letter first (numbersFrom s (end + 1))) noLine
 unfolding lineBy
 line-step letter s end h e =
     let k : end - 2 ≡ partLength 32 (drop 2 s) = omega arith in

@@ -39,7 +39,9 @@ module _ {W : Type 0} (say : W → List ℕ → Said W) where
   abbrev pub fedThen : Fed W → List ℕ → Fed W
   fedThen f b = record { world = feedBy say (f .world) (f .held) b .world; held = feedBy say (f .world) (f .held) b .held; printed = f .printed ++ feedBy say (f .world) (f .held) b .printed }
 
-  append-by : (w : W) (held : List ℕ) (b : ℕ) (x y : List ℕ) (t : Bool) → eqb b 10 ≡ t → ((v : W) (h : List ℕ) → feedBy say v h (x ++ y) ≡ fedThen (feedBy say v h x) y) → feedBy say w held (b ∷ (x ++ y)) ≡ fedThen (feedBy say w held (b ∷ x)) y
+  append-by : (w : W) (held : List ℕ) (b : ℕ) (x y : List ℕ) (t : Bool) → eqb b 10 ≡ t
+      → ((v : W) (h : List ℕ) → feedBy say v h (x ++ y) ≡ fedThen (feedBy say v h x) y)
+      → feedBy say w held (b ∷ (x ++ y)) ≡ fedThen (feedBy say w held (b ∷ x)) y
   unfolding feedBy pick
   append-by w held b x y true e h = rw (e, h (say w held .world) [], append-assoc)
   append-by w held b x y false e h = rw (e, h w (cut (held ++ (b ∷ []))))
@@ -61,7 +63,8 @@ module _ {W : Type 0} (say : W → List ℕ → Said W) where
       let q : partLength 10 s < length s = le-of-suc-le-suc (rw e at k) in
       rw (e, h (cut (held ++ (b ∷ []))) (rw length-take (omega arith)) q, cut-one)
 
-  pub feed-line : (w : W) (held s : List ℕ) → length held ≤ 129 → partLength 10 s < length s → feedBy say w held s ≡ saidThen (say w (cut (held ++ take (partLength 10 s) s))) (feedBy say (say w (cut (held ++ take (partLength 10 s) s)) .world) [] (drop (suc (partLength 10 s)) s))
+  pub feed-line : (w : W) (held s : List ℕ) → length held ≤ 129 → partLength 10 s < length s
+      → feedBy say w held s ≡ saidThen (say w (cut (held ++ take (partLength 10 s) s))) (feedBy say (say w (cut (held ++ take (partLength 10 s) s)) .world) [] (drop (suc (partLength 10 s)) s))
   unfolding partLength
   feed-line w held [] l k = absurd (omega arith)
   feed-line w held (b ∷ s) l k = line-by w held b s (eqb b 10) refl l (λ h n q. feed-line w h s n q) k
@@ -107,7 +110,8 @@ module _ {W : Type 0} (say : W → List ℕ → Said W) where
         let n : at + suc (partLength 10 (drop at s)) ≡ end + 1 = omega arith in
         rw (k, feed-line w h (drop at s) (inv .short) (omega (arith, inv .within)), drop-drop, n)
 
-    pub feed-next : (w′ : W) (out′ : List ℕ) (printed′ : ℕ) → end < length s → w′ ≡ say w lineTo .world → printed′ ≡ printed + length (say w lineTo .printed) → out′ ≡ sets out printed (say w lineTo .printed) → length (say w lineTo .printed) ≤ 65 → FeedRest w₀ h₀ s out₀ w′ [] out′ (end + 1) printed′
+    pub feed-next : (w′ : W) (out′ : List ℕ) (printed′ : ℕ) → end < length s → w′ ≡ say w lineTo .world → printed′ ≡ printed + length (say w lineTo .printed)
+        → out′ ≡ sets out printed (say w lineTo .printed) → length (say w lineTo .printed) ≤ 65 → FeedRest w₀ h₀ s out₀ w′ [] out′ (end + 1) printed′
     feed-next w′ out′ printed′ l ew ep eo short =
         let x = line-here l in
         record {

@@ -1,7 +1,8 @@
 -- A line of which a beginning has been read. "Lines of at most 128 bytes": of a longer one the first 129 are held. Assumes nothing.
-use Prim.Native.Nat.{ℕ, _-_}
-use mathlib.Core.List.{List, _++_}
+use Prim.Native.Nat.{ℕ}
+use mathlib.Core.List.{List}
 use lib.ListN.{length, take, replicate}
+use Rattle.lists.specs.Padded.{padded}
 use Rattle.rehearsal_lines.specs.declared.Held.{Held}
 
 -- the bytes that are held
@@ -12,13 +13,9 @@ lineHeld h = take (h .length) (h .bytes)
 abbrev pub cut : List ℕ → List ℕ
 cut line = take 129 line
 
--- the 129 cells with these bytes in front and zeros behind them
-abbrev pub cellsOf : List ℕ → List ℕ
-cellsOf bytes = bytes ++ replicate (129 - length bytes) 0
-
 -- the struct that holds a line
 abbrev pub heldOf : List ℕ → Held
-heldOf line = record { length = length (cut line); bytes = cellsOf (cut line) }
+heldOf line = record { length = length (cut line); bytes = padded 129 0 (cut line) }
 
 -- no byte is held
 abbrev pub nothing : Held

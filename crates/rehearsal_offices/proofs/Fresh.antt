@@ -53,6 +53,7 @@ module _ (offices : Offices) (n : ℕ) (ws logs : List ℕ) (f : Founded) (a : A
   unfolding foundOffices pick
   found-refused h = rw (ea, number-is, ne-eqb (foundNumber n ws logs) 0 (λ z. h (number-is ∙ z)))
 
-  pub found-done : (fresh : List Record) → f .number ≡ 0 → fresh ≡ freshFrom n ws logs 8 0 → _≡_ {A = Reply} (record { offices = record { count = n; records = fresh; lengths = 0 ∷ 0 ∷ 0 ∷ 0 ∷ [] }; answer = a }) (foundOffices offices n ws logs)
+  pub found-done : (fresh : List Record) → f .number ≡ 0 → fresh ≡ freshFrom n ws logs 8 0
+      → _≡_ {A = Reply} (record { offices = record { count = n; records = fresh; lengths = 0 ∷ 0 ∷ 0 ∷ 0 ∷ [] }; answer = a }) (foundOffices offices n ws logs)
   unfolding foundOffices pick
   found-done fresh h e = rw (ea, e, number-is, eq-eqb (foundNumber n ws logs) 0 (sym number-is ∙ h))

@@ -12,7 +12,7 @@ use rehearsal_turns::says_one;
 // The words of the eight logs, which lie one behind the other.
 pub const ALL_LOGS: usize = Record::OFFICES * Record::LOG;
 
-// The offices after a line, and its answer.
+// The offices after a founding, done or refused, and its answer.
 pub struct Reply {
     pub offices: Offices,
     pub answer: Answer,

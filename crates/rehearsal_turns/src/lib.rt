@@ -137,7 +137,8 @@ fn sent_lengths(lengths: [usize; 4], m: usize, number: u32, size: usize) -> [usi
 // `s k m` sends the office's message into a slot that is there.
 fn send_turn(record: Record, lengths: [usize; 4], log: &[u32], slots: &mut [u8], m: usize) -> Turn
     requires { ⌜ (m < 4) × (length (now slots) ≡ 28184) ⌝ }
-    ensures { λ r. ⌜ (r ≡ sendTurn «record» lengths (now (log .entry)) (now (slots .entry)) m) × (now (slots .exit) ≡ sendSlots «record» (now (log .entry)) (now (slots .entry)) m) ⌝ }
+    ensures turn { λ r. ⌜ r ≡ sendTurn «record» lengths (now (log .entry)) (now (slots .entry)) m ⌝ }
+    ensures sent { λ _. ⌜ now (slots .exit) ≡ sendSlots «record» (now (log .entry)) (now (slots .entry)) m ⌝ }
 {
     let from = m * SLOT;
     let to = from + SLOT;
@@ -154,7 +155,8 @@ fn send_turn(record: Record, lengths: [usize; 4], log: &[u32], slots: &mut [u8],
 // `t k m` takes the message of a slot that is there.
 fn take_turn(record: Record, lengths: [usize; 4], log: &mut [u32], slots: &[u8], m: usize) -> Turn
     requires { ⌜ (m < 4) × (length (now slots) ≡ 28184) ⌝ }
-    ensures { λ r. ⌜ (r ≡ takeTurn «record» lengths (now (log .entry)) (now (slots .entry)) m) × (now (log .exit) ≡ takeTurnWords «record» lengths (now (log .entry)) (now (slots .entry)) m) ⌝ }
+    ensures turn { λ r. ⌜ r ≡ takeTurn «record» lengths (now (log .entry)) (now (slots .entry)) m ⌝ }
+    ensures words { λ _. ⌜ now (log .exit) ≡ takeTurnWords «record» lengths (now (log .entry)) (now (slots .entry)) m ⌝ }
 {
     let from = m * SLOT;
     let size = within(lengths[m], SLOT);

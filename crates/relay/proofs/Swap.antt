@@ -30,7 +30,7 @@ use Rattle.agreement.proofs.View.{deskOf, sentOf, shape, SoundReplica, SoundWor
 use Rattle.agreement.proofs.Held.{replica-fine}
 use Rattle.agreement.proofs.Taken.{take-number}
 use Rattle.agreement.proofs.Follows.{both-after}
-use Rattle.agreement.proofs.Calls.{kept}
+use Rattle.agreement.proofs.Calls.{always}
 use Rattle.relay.specs.Relay.{Accepts, SameButOwn, Swapped, EitherOrder}
 use Rattle.relay.proofs.Twice.{accepted-is, taken-holds, taken-desk, taken-sound}
 
@@ -178,7 +178,7 @@ module _ (n : ℕ) (ws : List ℕ) (start : World) (f : Founded n ws start) (cs 
         ap₂ (λ (x : Option Replica) (y : Option Posted). onSome x 0 (λ r. onSome y 0 (λ s. takeOf (r .held) (r .words) (s .bytes) .number))) at q in
         subst (λ (z : ℕ). (z ≡ 0) ⊎ (z ≡ 17)) numbers
         (subst (λ (u : World). (number u (take k j) ≡ 0) ⊎ (number u (take k j) ≡ 17)) moved
-        (kept n ws start f (cs ++ (take k i ∷ [])) .takes-other k j b (subst (λ (u : World). messageAt u j ≡ some b) (sym moved) q) (λ z. other (means-sender (b .bytes) ∙ z))))
+        (always n ws start f (cs ++ (take k i ∷ [])) .takes-other k j b (subst (λ (u : World). messageAt u j ≡ some b) (sym moved) q) (λ z. other (means-sender (b .bytes) ∙ z))))
 
     swapped : Swapped k d (a .bytes) (b .bytes)
     swapped = record {

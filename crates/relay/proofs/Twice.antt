@@ -16,7 +16,7 @@ use Rattle.protocol.specs.Office.{Office, Message, path}
 use Rattle.protocol.specs.SettledRule.{ruleFrom}
 use Rattle.protocol.specs.Elect.{electCount}
 use Rattle.protocol.specs.Take.{withTake}
-use Rattle.protocol.specs.Folding.{Folded, Packet, shorn, caughtUp, fromThere, withFoldedElect, withFoldedTake, refuseFoldedTake}
+use Rattle.protocol.specs.Folding.{FoldedOffice, Packet, shorn, caughtUp, fromThere, withFoldedElect, withFoldedTake, refuseFoldedTake}
 use Rattle.protocol.proofs.Office.{OfficeMoves, take-moves, moves-refl}
 use Rattle.protocol.proofs.FoldedWorld as F
 use Rattle.one_order.proofs.FoldedLaws.{folded-take-twice, folded-elect-twice}
@@ -42,7 +42,7 @@ use Rattle.relay.specs.Relay.{Accepts, TakeTwice, ElectTwice, NeverUnset
 
 -- ── an accepted message, at a replica of n offices with the weights ws, office k's ──
 module _ (n : ℕ) (ws : List ℕ) (k : ℕ) (d : Replica) (m : SoundReplica n ws k d) (s : List ℕ) (x : Readable n ws s) (a : Accepts d s) where
-  abbrev once : Folded
+  abbrev once : FoldedOffice
   once = withFoldedTake k (means s) (foldedBy (d .held) (d .words))
 
   pub accepted-is : refuseFoldedTake k (means s) (foldedBy (d .held) (d .words)) ≡ 0
@@ -112,18 +112,18 @@ elect-twice d h =
     let ws = d .held .weights in
     let k = d .held .own in
     let mine : SoundReplica n ws k d = sound-replica d h in
-    let f : Folded = electedOf (d .held) (d .words) in
+    let f : FoldedOffice = electedOf (d .held) (d .words) in
     let left = elect-leaves n ws k d mine in
     let e : Replica = elected d in
     let next : SoundReplica n ws k e = left-sound n ws k d mine f (electOf (d .held) (d .words) .«record») (electWords (d .held) (d .words)) left in
     let kept : e .held .kept ≡ d .held .kept = ap (λ (r : Record). r .kept) (left .made) ∙ kept-stays (d .held) (d .words) (mine .sound) f (nothing-drops d) in
     let p = folded-elect-twice (d .held .kept .summary .present) (d .held .kept .counts) (foldedBy (d .held) (d .words)) in
     let again : electedOf (e .held) (e .words) ≡ foldedBy (e .held) (e .words) =
-    ap₂ (λ (x : Kept) (g : Folded). withFoldedElect (ruleFrom (x .summary .present) (x .counts)) g) kept (left .state) ∙ p .1 ∙ sym (left .state) in
+    ap₂ (λ (x : Kept) (g : FoldedOffice). withFoldedElect (ruleFrom (x .summary .present) (x .counts)) g) kept (left .state) ∙ p .1 ∙ sym (left .state) in
     record {
       done = elect-number n ws k e next;
       count = elect-done (e .held) (e .words) (elect-number n ws k e next) .counted
-          ∙ ap₂ (λ (x : Kept) (g : Folded). electCount (ruleFrom (x .summary .present) (x .counts)) (g .held)) kept (left .state) ∙ p .0;
+          ∙ ap₂ (λ (x : Kept) (g : FoldedOffice). electCount (ruleFrom (x .summary .present) (x .counts)) (g .held)) kept (left .state) ∙ p .0;
       same = left-same n ws k e next (electedOf (e .held) (e .words)) (electOf (e .held) (e .words) .«record») (electWords (e .held) (e .words)) (elect-leaves n ws k e next) again;
     }
 

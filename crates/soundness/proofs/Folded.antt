@@ -16,7 +16,7 @@ use Rattle.lists.specs.Tests.{allB}
 use Rattle.lists.proofs.Tests.{both-0, both-1, both-true, all-map}
 use Rattle.protocol.specs.Office.{Office}
 use Rattle.protocol.specs.Limits.{Head, headFine, tailFine, foldedFine}
-use Rattle.protocol.specs.Folding.{Folded, settledLength}
+use Rattle.protocol.specs.Folding.{FoldedOffice, settledLength}
 use Rattle.protocol.proofs.Limits.{head-true}
 use Rattle.protocol.proofs.FoldedLimits.{FoldedFine, folded-facts, folded-of}
 use Rattle.ballots.specs.Ballots.{ballotShape, ballotOf, officeIn, wordsWith}
@@ -65,7 +65,7 @@ module _ (n own : ℕ) (ws : List ℕ) (kept : Kept) (noted : List ℕ) (summary
       unused j (inl e) = ap (λ (i : ℕ). getD noted i 0) e ∙ S .noted .none-own
       unused j (inr h) = S .noted .rest j h
 
-module _ (n own : ℕ) (ws : List ℕ) (kept : Kept) (f : Folded) (words : List ℕ)
+module _ (n own : ℕ) (ws : List ℕ) (kept : Kept) (f : FoldedOffice) (words : List ℕ)
     (H : Head n own ws) (K : KeptFacts n ws kept) (all : kept .dropped ≡ f .dropped) (F : FoldedFine n own f) (room : 1024 ≤ length words) where
   abbrev log : List ℕ
   log = f .held .log

@@ -14,7 +14,7 @@ use Rattle.protocol.specs.Vote.{tally, unheard, supported}
 use Rattle.protocol.proofs.Cases.{a, b, c, d, three, usual, state}
 use Rattle.rows.specs.Rows.{without, distinct, rowEntries, rowsOf, marks}
 use Rattle.standing.specs.Standing.{standingBy}
-use Rattle.standing.specs.Reading.{paired, leader}
+use Rattle.standing.specs.Leader.{paired, leader}
 use Rattle.standing.specs.declared.Standing.{Standing}
 
 -- an answer about three offices: how many rows, U, three entries with their T, and three marks

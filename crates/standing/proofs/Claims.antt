@@ -13,6 +13,7 @@ use lib.Seq.{getD-drop, getD-at, getD-set-same, getD-set-other}
 use borrow.Author.Tests.{eqb-true}
 use Rattle.lists.specs.Tests.{allB}
 use Rattle.lists.proofs.Tests.{all-getD}
+use Rattle.lists.proofs.Padded.{padded-past}
 use Rattle.protocol.specs.Counts.{quieter}
 use Rattle.protocol.specs.Elect.{settle, withElect, electCount}
 use Rattle.protocol.specs.Folding.{withFoldedElect}
@@ -37,7 +38,7 @@ use Rattle.frame.proofs.State.{log-length, tail-at}
 use Rattle.frame.proofs.Sound.{sound-true}
 use Rattle.frame.proofs.Elect.{ElectDone, elect-zero, elect-done}
 use Rattle.standing.specs.Standing.{standingBy, refused, standingOf}
-use Rattle.standing.specs.Reading.{rowsIn, entriesIn, weightsIn, weightIn, times, firstLeader, leader}
+use Rattle.standing.specs.Leader.{rowsIn, entriesIn, weightsIn, weightIn, times, firstLeader, leader}
 use Rattle.standing.specs.Claims.{voteOf, Shows, tieOrder, Decides, OneVoteMore, Adds, withBallot}
 use Rattle.standing.specs.declared.Standing.{Standing}
 use Rattle.standing.proofs.Table as table
@@ -98,7 +99,7 @@ module _ (r : Record) (words : List ℕ) (S : Sound r words) where
         silent-is = table.marks-at (r .n) v;
         silent-weighs = table.marks-weight (r .n) ws v zero-past;
         few = table.rows-few (r .n) ws v (votes-silent r words S);
-        past-rows = λ i h. (table.eight-past ds i h, table.eight-past (map (tally ws v) ds) i (omega (arith, ts)));
+        past-rows = λ i h. (padded-past 8 0 ds i h, padded-past 8 0 (map (tally ws v) ds) i (omega (arith, ts)));
         past-offices = table.marks-past (r .n) v;
       }
 

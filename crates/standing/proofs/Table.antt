@@ -20,7 +20,8 @@ use lib.Dec.{eqb, ltb}
 use lib.ListN.{length, getD, take, replicate, length-map}
 use lib.Seq.{take-at}
 use borrow.Author.Tests.{eqb-true, eq-eqb}
-use Rattle.lists.proofs.Tests.{if-cases, getD-replicate}
+use Rattle.lists.proofs.Tests.{if-cases}
+use Rattle.lists.proofs.Padded.{padded-at, padded-past}
 use Rattle.protocol.specs.Vote.{Votes, later, isFor, isNone, tally, unheard, and-also, supported, beats, beatsAll, wins, firstWinner, winner}
 use Rattle.protocol.specs.Winning.{Supported}
 use Rattle.protocol.specs.Limits.{total}
@@ -29,7 +30,7 @@ use Rattle.bounds.specs.Bounds.{inEight}
 use Rattle.bounds.proofs.Eight.{Silent}
 use Rattle.rows.specs.Rows.{without, distinct, rowEntries, marks}
 use Rattle.rows.proofs.Walks.{marks-length, mark-at}
-use Rattle.standing.specs.Reading.{Row, paired, entriesIn, weightsIn, weightIn, times, jointWeight, ahead, leads, firstLeader}
+use Rattle.standing.specs.Leader.{Row, paired, entriesIn, weightsIn, weightIn, times, jointWeight, ahead, leads, firstLeader}
 
 abbrev pub rowOf : List ℕ → Votes → ℕ → Row
 rowOf ws v e = record { entry = e; weight = tally ws v e }
@@ -48,23 +49,6 @@ pub rows-in : (ws : List ℕ) (v : Votes) (ds : List ℕ) → paired (take (leng
 rows-in ws v ds =
     let ts : List ℕ = map (tally ws v) ds in
     ap₂ paired (take-at ds (replicate (8 - length ds) 0) (length ds) refl) (take-at ts (replicate (8 - length ts) 0) (length ds) (length-map ds (tally ws v))) ∙ paired-map (tally ws v) ds
-
--- the cells past some numbers are zero
-pub eight-past : (ds : List ℕ) (i : ℕ) → length ds ≤ i → getD (inEight ds) i 0 ≡ 0
-eight-past ds i h = go (8 - length ds) ds i h
-  where
-    go : (m : ℕ) (ds : List ℕ) (i : ℕ) → length ds ≤ i → getD (ds ++ replicate m 0) i 0 ≡ 0
-    go m [] i h = getD-replicate m 0 i
-    go m (d ∷ ds) zero h = absurd (not-suc-le-zero h)
-    go m (d ∷ ds) (suc i) h = go m ds i (le-of-suc-le-suc h)
-
-pub eight-at : (ds : List ℕ) (i : ℕ) → i < length ds → getD (inEight ds) i 0 ≡ getD ds i 0
-eight-at ds i h = go (replicate (8 - length ds) 0) ds i h
-  where
-    go : (zs ds : List ℕ) (i : ℕ) → i < length ds → getD (ds ++ zs) i 0 ≡ getD ds i 0
-    go zs [] i h = absurd (not-suc-le-zero h)
-    go zs (d ∷ ds) zero h = refl
-    go zs (d ∷ ds) (suc i) h = go zs ds i (le-of-suc-le-suc h)
 
 -- ── each once ──
 times-self : (x : ℕ) (l : List ℕ) → times x (without x l) ≡ 0
@@ -139,7 +123,8 @@ module _ (ws : List ℕ) (v : Votes) where
   weight-has e [] h = absurd (omega arith)
   weight-has e (d ∷ ds) h = go (eqb e d) refl h (weight-has e ds)
     where
-      go : (t : Bool) → eqb e d ≡ t → 0 < cond t 1 0 + times e ds → (0 < times e ds → weightIn e (map (rowOf ws v) ds) ≡ tally ws v e) → cond t (tally ws v d) (weightIn e (map (rowOf ws v) ds)) ≡ tally ws v e
+      go : (t : Bool) → eqb e d ≡ t → 0 < cond t 1 0 + times e ds → (0 < times e ds → weightIn e (map (rowOf ws v) ds) ≡ tally ws v e)
+          → cond t (tally ws v d) (weightIn e (map (rowOf ws v) ds)) ≡ tally ws v e
       go true q h ih = ap (tally ws v) (sym (eqb-true e d q))
       go false q h ih = ih (omega arith)
 
@@ -252,10 +237,10 @@ rows-total ws v =
 -- ── whose votes are missing ──
 -- an office is marked where it has no vote
 pub marks-at : (n : ℕ) (v : Votes) (k : ℕ) → k < n → getD (inEight (marks n v)) k 0 ≡ cond (isNone (v k)) 1 0
-marks-at n v k h = eight-at (marks n v) k (omega (arith, marks-length n v)) ∙ mark-at n v k h
+marks-at n v k h = padded-at 8 0 (marks n v) k (omega (arith, marks-length n v)) ∙ mark-at n v k h
 
 pub marks-past : (n : ℕ) (v : Votes) (k : ℕ) → n ≤ k → getD (inEight (marks n v)) k 0 ≡ 0
-marks-past n v k h = eight-past (marks n v) k (omega (arith, marks-length n v))
+marks-past n v k h = padded-past 8 0 (marks n v) k (omega (arith, marks-length n v))
 
 joint-zero : (ws : List ℕ) (m : ℕ) → jointWeight ws (replicate m 0) ≡ 0
 unfolding jointWeight
@@ -302,7 +287,8 @@ module _ (ws : List ℕ) (before : ℕ → ℕ → Bool) (v : Votes) where
   beats-distinct e [] = refl
   beats-distinct e (x ∷ l) = go (eqb x e || beats ws before v e x) refl (beats-distinct e l)
     where
-      go : (t : Bool) → (eqb x e || beats ws before v e x) ≡ t → beatsAll ws before v e (distinct l) ≡ beatsAll ws before v e l → (t && beatsAll ws before v e (without x (distinct l))) ≡ (t && beatsAll ws before v e l)
+      go : (t : Bool) → (eqb x e || beats ws before v e x) ≡ t → beatsAll ws before v e (distinct l) ≡ beatsAll ws before v e l
+          → (t && beatsAll ws before v e (without x (distinct l))) ≡ (t && beatsAll ws before v e l)
       go true q ih = beats-without e x (distinct l) q ∙ ih
       go false q ih = refl
 
@@ -319,7 +305,8 @@ module _ (ws : List ℕ) (before : ℕ → ℕ → Bool) (v : Votes) where
   first-distinct [] = refl
   first-distinct (x ∷ l) = go (wins ws before v x) refl (first-distinct l)
     where
-      go : (t : Bool) → wins ws before v x ≡ t → firstWinner ws before v (distinct l) ≡ firstWinner ws before v l → cond t (some x) (firstWinner ws before v (without x (distinct l))) ≡ cond t (some x) (firstWinner ws before v l)
+      go : (t : Bool) → wins ws before v x ≡ t → firstWinner ws before v (distinct l) ≡ firstWinner ws before v l
+          → cond t (some x) (firstWinner ws before v (without x (distinct l))) ≡ cond t (some x) (firstWinner ws before v l)
       go true q ih = refl
       go false q ih = first-without x (distinct l) q ∙ ih
 

@@ -27,7 +27,7 @@ use Rattle.ballots.specs.declared.Ballot.{Ballot}
 use Rattle.frame.specs.State.{heldLength, heldBy, withHeld}
 use Rattle.frame.specs.Electing.{winnerOf, electOf, electWords}
 use Rattle.frame.specs.declared.Record.{Record}
-use Rattle.standing.specs.Reading.{rowsIn, entriesIn, weightsIn, weightIn, times, jointWeight, leader}
+use Rattle.standing.specs.Leader.{rowsIn, entriesIn, weightsIn, weightIn, times, jointWeight, leader}
 use Rattle.standing.specs.declared.Standing.{Standing}
 
 -- office k's vote: "each non-empty ballot supports its first tail entry"

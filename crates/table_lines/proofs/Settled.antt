@@ -21,7 +21,7 @@ use Rattle.protocol.specs.Office.{Office}
 use Rattle.protocol.specs.Limits.{lengthLimit, isEmpty, tailFine}
 use Rattle.protocol.specs.SettledRule.{bySettled}
 use Rattle.protocol.specs.Elect.{tailEntries, withElect}
-use Rattle.protocol.specs.Folding.{Folded, withFoldedElect}
+use Rattle.protocol.specs.Folding.{FoldedOffice, withFoldedElect}
 use Rattle.protocol.proofs.Elect.{elect-most}
 use Rattle.protocol.proofs.Limits as Limits
 use Rattle.protocol.proofs.FoldedLimits.{FoldedFine, unfolded-fine}
@@ -41,7 +41,7 @@ use Rattle.frame.proofs.Elect.{elect-unsound, elect-zero, elect-done, elect-sou
 use Rattle.tables.specs.Tables.{tails}
 use Rattle.tables.specs.Listed.{smallTail, smallTable}
 use Rattle.tables.proofs.Listed.{small-place}
-use Rattle.table_lines.specs.Lines.{emptyLog, withBallots, settledFrom, settledBy, tableOffice, few}
+use Rattle.table_lines.specs.Lines.{emptyLog, withBallots, settledFrom, tableSettled, tableOffice, few}
 use Rattle.table_lines.specs.Answers.{founded}
 use Rattle.table_lines.proofs.Shown.{oneDigit, few-of}
 use Rattle.table_lines.proofs.Small.{Three, three, small-two}
@@ -98,7 +98,7 @@ module _ (r : Record) (t : List (List ℕ)) (small : smallTable t ≡ true) wher
       go true e = is-sound e
       go false e = unsound e
 
-  pub settled-few : few (settledBy r t) ≡ true
+  pub settled-few : few (tableSettled r t) ≡ true
   unfolding R
   settled-few =
       let k = electOf R emptyLog .count in
@@ -144,10 +144,10 @@ module _ (R : Record) (o : Office) (S : Sound R emptyLog) (held : heldBy R empty
       let none : length (heldBy R emptyLog .log) ≡ 0 = ap length (ap (λ (x : Office). x .log) held ∙ empty) in
       let all : electOf R emptyLog .count ≡ heldLength last =
       omega (arith, g .2, ap length (g .1), length-append (heldBy R emptyLog .log) (g .0), none, log-length last (electWords R emptyLog) (elect-sound R emptyLog q)) in
-      (q, ap (λ (k : ℕ). take k (electWords R emptyLog)) all ∙ ap (λ (x : Folded). x .held .log) (elect-state R emptyLog q) ∙ ap (λ (x : Office). withElect (ruleOf R) x .log) held)
+      (q, ap (λ (k : ℕ). take k (electWords R emptyLog)) all ∙ ap (λ (x : FoldedOffice). x .held .log) (elect-state R emptyLog q) ∙ ap (λ (x : Office). withElect (ruleOf R) x .log) held)
 
 -- an office that holds a table, and has dropped and heard nothing
-abbrev tableFolded : List (List ℕ) → Folded
+abbrev tableFolded : List (List ℕ) → FoldedOffice
 tableFolded t = record { dropped = 0; held = tableOffice t; noted = replicate 8 0 }
 
 folded-fine : (t : List (List ℕ)) → Three t → FoldedFine 3 0 (tableFolded t)
@@ -174,10 +174,10 @@ module _ (ws : List ℕ) (done : founded ws .number ≡ 0) (t : List (List ℕ))
           rw (T .are) (λ i. withHeld fresh (fresh .kept) (replicate 8 0) (sym (summary-nil (startWith ws)) i) 0 (ballotOf (T .x) ∷ ballotOf (T .y) ∷ ballotOf (T .z) ∷ replicate 5 noBallot))
 
   -- "with the entries that elect settles from an empty log"
-  pub table-elects : (electOf (withBallots (founded ws .«record») (map ballotOf t)) emptyLog .number ≡ 0) × (settledBy (founded ws .«record») t ≡ withElect (bySettled ws) (tableOffice t) .log)
+  pub table-elects : (electOf (withBallots (founded ws .«record») (map ballotOf t)) emptyLog .number ≡ 0) × (tableSettled (founded ws .«record») t ≡ withElect (bySettled ws) (tableOffice t) .log)
   table-elects =
       let D = found-done 3 0 ws emptyLog done in
       let new : Sound fresh emptyLog = subst (λ (x : Record). Sound x emptyLog) (D .made) (found-sound 3 0 ws emptyLog done) in
       let S : Sound held emptyLog = sound-behind fresh (fresh .kept) (tableFolded t) emptyLog (D .head) (new .kept) refl (folded-fine t (three t small)) (D .room) in
       subst (λ (x : Record). (electOf x emptyLog .number ≡ 0) × (settledFrom x ≡ withElect (bySettled ws) (tableOffice t) .log)) (sym table-held)
-      (elects held (tableOffice t) S (ap (λ (x : Folded). x .held) (held-behind fresh (fresh .kept) (tableFolded t) refl emptyLog)) refl)
+      (elects held (tableOffice t) S (ap (λ (x : FoldedOffice). x .held) (held-behind fresh (fresh .kept) (tableFolded t) refl emptyLog)) refl)

@@ -23,7 +23,7 @@ use Rattle.frame.specs.declared.Record.{Record}
 use Rattle.tables.specs.Tables.{tables, tableAt}
 use Rattle.tables.specs.Listed.{smallTail, smallTable}
 use Rattle.tables.proofs.Places.{tables-2197}
-use Rattle.table_lines.specs.Lines.{shown, lineWith, withBallots, settledFrom, settledBy, lineOf, linesOf, few}
+use Rattle.table_lines.specs.Lines.{shown, lineWith, withBallots, settledFrom, tableSettled, lineOf, linesOf, few}
 use Rattle.table_lines.proofs.Shown.{shown-short}
 use Rattle.table_lines.proofs.Small.{Three, three, small-two, few-small, small-any}
 use Rattle.table_lines.proofs.Settled.{settled-few}
@@ -91,7 +91,7 @@ pub line-short : (r : Record) (t : List (List ℕ)) → smallTable t ≡ true �
 unfolding lineOf lineWith
 line-short r t small =
     let T = three t small in
-    let s = settledBy r t in
+    let s = tableSettled r t in
     let whole : lineWith s t ≡ lineWith s (T .x ∷ T .y ∷ T .z ∷ []) = ap (lineWith s) (T .are) in
     omega (
       arith,

@@ -42,8 +42,8 @@ abbrev pub settledFrom : Record → List ℕ
 settledFrom r = take (electOf r emptyLog .count) (electWords r emptyLog)
 
 -- the same of a founded record with a table of tails
-abbrev pub settledBy : Record → List (List ℕ) → List ℕ
-settledBy r t = settledFrom (withBallots r (map ballotOf t))
+abbrev pub tableSettled : Record → List (List ℕ) → List ℕ
+tableSettled r t = settledFrom (withBallots r (map ballotOf t))
 
 -- the state of the office that elects: an empty log, and no ballots but the three
 abbrev pub tableOffice : List (List ℕ) → Office
@@ -51,7 +51,7 @@ tableOffice t = record { log = []; tails = t ++ replicate 5 [] }
 
 -- the line of a table
 unfoldable pub lineOf : Record → List (List ℕ) → List ℕ
-lineOf r t = lineWith (settledBy r t) t
+lineOf r t = lineWith (tableSettled r t) t
 
 -- "one table to a line"
 unfoldable pub linesOf : Record → List (List (List ℕ)) → List ℕ

@@ -45,7 +45,8 @@ fn put_entries(out: &mut [u8], at: usize, entries: &[u32]) -> usize
 // Writes a ballot's entries and a space.
 fn put_ballot(out: &mut [u8], at: usize, ballot: Ballot) -> usize
     requires { ⌜ (few (tailOf ballot) ≡ true) × ((ballot .len ≤ 32) × (at + 27 ≤ length (now out))) ⌝ }
-    ensures { λ r. ⌜ (r ≡ at + length (shown (tailOf ballot) ++ (32 ∷ []))) × (now (out .exit) ≡ sets (now (out .entry)) at (shown (tailOf ballot) ++ (32 ∷ []))) ⌝ }
+    ensures end { λ r. ⌜ r ≡ at + length (shown (tailOf ballot) ++ (32 ∷ [])) ⌝ }
+    ensures output { λ _. ⌜ now (out .exit) ≡ sets (now (out .entry)) at (shown (tailOf ballot) ++ (32 ∷ [])) ⌝ }
 {
     let len = ballot.len;
     let cells = ballot.cells;
@@ -57,7 +58,8 @@ fn put_ballot(out: &mut [u8], at: usize, ballot: Ballot) -> usize
 // Elects from an empty log, and writes the entries that are settled and a newline.
 fn put_settled(out: &mut [u8], at: usize, record: Record) -> usize
     requires { ⌜ (few (settledFrom «record») ≡ true) × ((electOf «record» emptyLog .count ≤ 1024) × (at + 27 ≤ length (now out))) ⌝ }
-    ensures { λ r. ⌜ (r ≡ at + length (shown (settledFrom «record») ++ (10 ∷ []))) × (now (out .exit) ≡ sets (now (out .entry)) at (shown (settledFrom «record») ++ (10 ∷ []))) ⌝ }
+    ensures end { λ r. ⌜ r ≡ at + length (shown (settledFrom «record») ++ (10 ∷ [])) ⌝ }
+    ensures output { λ _. ⌜ now (out .exit) ≡ sets (now (out .entry)) at (shown (settledFrom «record») ++ (10 ∷ [])) ⌝ }
 {
     let mut log = [0u32; 1024];
     let elected = record.elect(&mut log);

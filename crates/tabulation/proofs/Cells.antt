@@ -13,10 +13,11 @@ use native.Mathlib.Nat.{not-suc-le-zero, le-of-suc-le-suc}
 use native.Mathlib.Numerals.{add-one}
 use native.Mathlib.Omega.{arith}
 use lib.Dec.{ltb}
-use lib.ListN.{length, getD, take, drop, set, replicate, length-append, length-drop, length-set, drop-of-length-le, List·getD-append}
+use lib.ListN.{length, getD, take, drop, set, replicate, length-append, length-drop, length-set, drop-of-length-le}
 use lib.Seq.{take-suc-set, drop-set-lt, length-take-le, take-all, take-append-le, drop-append-le, take-append-add, take-append-seam, set-append-left, take-at}
 use borrow.Author.Tests.{ne-eqb, eq-eqb, le-ltb, lt-ltb, ltb-true, ltb-false}
 use Rattle.lists.specs.Tests.{pick}
+use Rattle.lists.proofs.Padded.{padded-at}
 use Rattle.lists.proofs.Walk.{rest-step}
 use Rattle.tabulation.specs.Rows.{pool, totalOf}
 use Rattle.tabulation.specs.Cells.{noRow, cellsOf, rowsOf, held, placeOf, poolInto, RoomFor}
@@ -89,7 +90,8 @@ pool-same r (s ∷ rows) h e = go (pool-same r rows) (ltb (s .class) (r .class))
     later : Again → s .class < r .class → place (suc (placeOf (r .class) rows))
     later again q b d = pool-behind r s rows q ∙ ap (λ (l : List Row). s ∷ l) (again (le-of-suc-le-suc b) d)
 
-    go : Again → (t : Bool) → ltb (s .class) (r .class) ≡ t → pool r (s ∷ rows) ≡ set (s ∷ rows) (placeOf (r .class) (s ∷ rows)) (record { class = r .class; total = r .total + getD (s ∷ rows) (placeOf (r .class) (s ∷ rows)) noRow .total })
+    go : Again → (t : Bool) → ltb (s .class) (r .class) ≡ t
+        → pool r (s ∷ rows) ≡ set (s ∷ rows) (placeOf (r .class) (s ∷ rows)) (record { class = r .class; total = r .total + getD (s ∷ rows) (placeOf (r .class) (s ∷ rows)) noRow .total })
     go again true q = let l = ltb-true (s .class) (r .class) q in subst place (sym (place-behind (r .class) s rows l)) (later again l) h e
     go again false q = let l = ltb-false (s .class) (r .class) q in subst place (sym (place-here (r .class) s rows l)) (first l) h e
 
@@ -155,7 +157,7 @@ cells-insert xs at r a h = (long, whole)
 -- a row of the list is the array's
 cell-at : (xs : List Row) (i : ℕ) → i < length xs → getD (cellsOf xs) i noRow ≡ getD xs i noRow
 unfolding cellsOf
-cell-at xs i h = List·getD-append xs (replicate (64 - length xs) noRow) noRow i h
+cell-at xs i h = padded-at 64 noRow xs i h
 
 row-total : (xs : List Row) (i : ℕ) → i < length xs → getD xs i noRow .total ≤ totalOf xs
 unfolding totalOf
@@ -193,7 +195,8 @@ module _ (sheet : Rows) (row : Row) (room : RoomFor sheet row) (at : ℕ) (place
       ap₂ (λ (l : List Row) (x : Row). set l at (record { class = row .class; total = row .total + x .total })) rows-held e ∙ cells-set (held sheet) at v b ∙ ap cellsOf (sym made) in
       λ i. record { count = count i; rows = rows i }
 
-  pub into-new : (next : List Row) → at ≤ sheet .count → (at < sheet .count → getD (sheet .rows) at noRow .class ≡ row .class → ⊥) → next ≡ take 64 (take at (sheet .rows) ++ (row ∷ drop at (sheet .rows)))
+  pub into-new : (next : List Row) → at ≤ sheet .count → (at < sheet .count → getD (sheet .rows) at noRow .class ≡ row .class → ⊥)
+      → next ≡ take 64 (take at (sheet .rows) ++ (row ∷ drop at (sheet .rows)))
       → _≡_ {A = Rows} (record { count = sheet .count + 1; rows = next }) (poolInto sheet row)
   into-new next a n e =
       let made : pool row (held sheet) ≡ take at (held sheet) ++ (row ∷ drop at (held sheet)) =

@@ -1,10 +1,11 @@
 -- Up to 64 rows in an array, with their count: "no rows, zeros" past them. Assumes nothing.
 use mathlib.Core.Path.{_≡_}
-use mathlib.Core.List.{List, [], _∷_, _++_}
-use Prim.Native.Nat.{ℕ, suc, _+_, _-_, _<_}
+use mathlib.Core.List.{List, [], _∷_}
+use Prim.Native.Nat.{ℕ, suc, _+_, _<_}
 use lib.Dec.{ltb}
-use lib.ListN.{length, take, replicate}
+use lib.ListN.{length, take}
 use Rattle.lists.specs.Tests.{pick}
+use Rattle.lists.specs.Padded.{padded}
 use Rattle.tabulation.specs.Rows.{pool, totalOf}
 use Rattle.tabulation.specs.declared.Row.{Row}
 use Rattle.tabulation.specs.declared.Rows.{Rows}
@@ -14,7 +15,7 @@ noRow = record { class = 0; total = 0 }
 
 -- rows as an array holds them
 unfoldable pub cellsOf : List Row → List Row
-cellsOf rows = rows ++ replicate (64 - length rows) noRow
+cellsOf rows = padded 64 noRow rows
 
 abbrev pub rowsOf : List Row → Rows
 rowsOf rows = record { count = length rows; rows = cellsOf rows }

@@ -26,7 +26,7 @@ use Rattle.ballots.specs.Ballots.{tailOf, offEnd}
 use Rattle.ballots.specs.declared.Ballot.{Ballot}
 use Rattle.ballots.proofs.Laws.{tail-at}
 use Rattle.spelling.proofs.Items.{roomFor}
-use Rattle.vectors.specs.Vectors.{EachAtMost, mostKept, vectorOf, vectorBytes, versionsBytes, versionsIn}
+use Rattle.vectors.specs.Vectors.{EachAtMost, keptCountLimit, vectorOf, vectorBytes, versionsBytes, versionsIn}
 use Rattle.vectors.proofs.Items.{isCount, countItem}
 
 -- ── one vector ──
@@ -60,7 +60,7 @@ kept-vector n h p q =
     none = ext-getD 0 (take n (noCounts 8)) (noCounts n) (long ∙ sym (length-replicate n 0))
         (λ k l. getD-take n (noCounts 8) k 0 (omega (arith, long)) ∙ getD-replicate {A = ℕ} 8 0 k ∙ sym (getD-replicate {A = ℕ} n 0 k))
 
-pub log-most : (start log base : List ℕ) → base ≡ countsAfter start log → EachAtMost mostKept start → length log ≤ 1024 → EachAtMost (mostKept + 1024) base
+pub log-most : (start log base : List ℕ) → base ≡ countsAfter start log → EachAtMost keptCountLimit start → length log ≤ 1024 → EachAtMost (keptCountLimit + 1024) base
 log-most start log base e m h k = omega (arith, ap (λ (c : List ℕ). countOf c k) e, counts-most start log k, m k)
 
 -- ── the paths ──

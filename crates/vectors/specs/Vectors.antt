@@ -39,14 +39,14 @@ versionsIn n log ballots = versionsOf n (record { log = log; tails = map tailOf 
 abbrev pub EachAtMost : ℕ → List ℕ → Type 0
 EachAtMost m counts = (k : ℕ) → countOf counts k ≤ m
 
--- the most that is kept of an office's dropped entries: as many as a log has, dropped entries included
-abbrev pub mostKept : ℕ
-mostKept = 9223372036854775808
+-- the most that the kept count of an office may be: `lengthLimit`, as many entries as a log may have
+abbrev pub keptCountLimit : ℕ
+keptCountLimit = 9223372036854775808
 
 -- what the walks over the ballots ask of their caller: every sound record has it
 pub record Countable (n : ℕ) (start log : List ℕ) (ballots : List Ballot) : Type 0 where
   pub some : 1 ≤ n
   pub most : n ≤ 8
-  pub kept : EachAtMost mostKept start
+  pub kept : EachAtMost keptCountLimit start
   pub few : length log ≤ 1024
   pub shapes : allB ballotShape ballots ≡ true

@@ -9,11 +9,11 @@ ghost use Rattle.numbers.specs.Numbers.{bytes64, run};
 ghost use Rattle.protocol.specs.Counts.{countsAfter};
 ghost use Rattle.ballots.specs.Ballots.{tailOf};
 ghost use Rattle.writer.specs.Written.{Writes};
-ghost use Rattle.vectors.specs.Vectors.{Countable, EachAtMost, mostKept, versionsBytes, versionsIn};
+ghost use Rattle.vectors.specs.Vectors.{Countable, EachAtMost, keptCountLimit, versionsBytes, versionsIn};
 
 // The counts of a ballot's path: those of the settled log, and then its tail's.
 pub fn path_counts(base: [u64; 8], b: Ballot) -> [u64; 8]
-    requires { ⌜ (b .len ≤ 32) × EachAtMost (mostKept + 1024) base ⌝ }
+    requires { ⌜ (b .len ≤ 32) × EachAtMost (keptCountLimit + 1024) base ⌝ }
     ensures { λ r. ⌜ r ≡ countsAfter base (tailOf b) ⌝ }
 {
     let len = b.len;

@@ -1,11 +1,12 @@
 -- Request (xi): "Read one vector to answer, for the log and then each of those paths, whether by counts it comes before, equals, comes after or
 -- stands beside that vector"; (xiv) "Archive counts become 8 bytes and lose that limit" of 1024. Assumes nothing.
-use Prim.Native.Nat.{ℕ, _*_, _-_}
+use Prim.Native.Nat.{ℕ, _*_}
 use mathlib.Core.Bool.{Bool, true, false}
-use mathlib.Core.List.{List, [], _∷_, _++_, map}
+use mathlib.Core.List.{List, [], _∷_, map}
 use lib.Dec.{eqb, leb}
-use lib.ListN.{length, replicate}
+use lib.ListN.{length}
 use Rattle.lists.specs.Tests.{both}
+use Rattle.lists.specs.Padded.{padded}
 use Rattle.numbers.specs.Numbers.{be64, runAt}
 use Rattle.vectors.specs.Vectors.{vectorOf}
 
@@ -56,4 +57,4 @@ answersTo start v ps = map (λ p. comparedTo (vectorOf start p) v) ps
 
 -- nine answers, beside past the last version
 abbrev pub nine : List ℕ → List ℕ
-nine answers = answers ++ replicate (9 - length answers) beside
+nine = padded 9 beside

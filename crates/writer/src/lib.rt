@@ -111,8 +111,10 @@ fn put_front(
     log: &[u32],
     held: usize,
 ) -> usize
-    requires { ⌜ (n ≤ 8) × ((sender < 256) × ((dropped + held < 18446744073709551616) × ((held ≤ length (now log)) × (headSize n + 6 * held ≤ length (now out))))) ⌝ }
-    ensures { λ r. ⌜ (r ≡ headSize n + 6 * held) × (now (out .exit) ≡ sets (now (out .entry)) 0 (frontBytes sender n weights dropped (now (log .entry)) held)) ⌝ }
+    requires { ⌜ (n ≤ 8) × ((sender < 256) × ((dropped + held < 18446744073709551616)
+        × ((held ≤ length (now log)) × (headSize n + 6 * held ≤ length (now out))))) ⌝ }
+    ensures { λ r. ⌜ (r ≡ headSize n + 6 * held)
+        × (now (out .exit) ≡ sets (now (out .entry)) 0 (frontBytes sender n weights dropped (now (log .entry)) held)) ⌝ }
 {
     let h = put_head(out, sender, n, weights, dropped, held);
     put_log(out, h, log, held)

@@ -19,13 +19,13 @@ abbrev μ-loop : tie.MeasureT-loop
 abbrev start : tie.At-loop Inv-loop μ-loop → tie.Start Inv-loop μ-loop
 start c = c .before .before .before .before .before
 
-abbrev turn : tie.After-note Inv-loop μ-loop → tie.At-loop Inv-loop μ-loop
+abbrev turn : tie.After-add-edit Inv-loop μ-loop → tie.At-loop Inv-loop μ-loop
 turn c = c .before .before .before .before .before
 
 loop-holds : tie.Need-loop-holds Inv-loop μ-loop
 loop-holds c = let s = c .before .before .before .before in walking-begins (s .args .lines .now) (s .args .words .now) (s .pre) _ (c .before .ask .ensures)
 
-before-last : (c : tie.After-note Inv-loop μ-loop) → turn c .loop .end ≡ suc (turn c .loop .end - 1)
+before-last : (c : tie.After-add-edit Inv-loop μ-loop) → turn c .loop .end ≡ suc (turn c .loop .end - 1)
 before-last c = omega (arith, c .before .before .before .if1 .left)
 
 sub-left : tie.Need-sub-left Inv-loop μ-loop
@@ -33,14 +33,14 @@ sub-left c =
     let l = turn c .loop in
     let s = start (turn c) in
     new-within (s .args .lines .now) (s .args .words .now) (s .pre) (l .left) (l .cells) (l .end) (l .inv) (omega (arith, c .before .before .before .before .loop-test .taken))
-    (l .end - 1) (before-last c) _ (c .note .result) (c .note .ensures .0) (c .note .ensures .1)
+    (l .end - 1) (before-last c) _ (c .add-edit .result) (c .add-edit .ensures .0) (c .add-edit .ensures .1)
 
 loop-again : tie.Need-loop-again Inv-loop μ-loop
 loop-again c =
     let l = turn c .loop in
     let s = start (turn c) in
     walking-again (s .args .lines .now) (s .args .words .now) (s .pre) (l .left) (l .cells) (l .end) (l .inv) (omega (arith, c .before .before .before .before .loop-test .taken))
-    (l .end - 1) (before-last c) _ (c .note .result) (c .note .ensures .0) (c .note .ensures .1)
+    (l .end - 1) (before-last c) _ (c .add-edit .result) (c .add-edit .ensures .0) (c .add-edit .ensures .1)
 
 returns : tie.Need-returns Inv-loop μ-loop
 returns c =

@@ -46,7 +46,8 @@ returns-2 c = let s = c .before .before .before .before .before .before .before 
 
 -- the parts of both logs that are lent, from the places a and b on
 parts : (log rest : List ℕ) (held k a b : ℕ) → b ≤ k
-    → comparedOf (take (held - a) (take (length log - a) (drop a log))) (runAt 6 recordAt (k - b) (take (length rest - 6 * b) (drop (6 * b) rest))) ≡ comparedOf (drop a (take held log)) (drop b (runAt 6 recordAt k rest))
+    → comparedOf (take (held - a) (take (length log - a) (drop a log))) (runAt 6 recordAt (k - b) (take (length rest - 6 * b) (drop (6 * b) rest)))
+    ≡ comparedOf (drop a (take held log)) (drop b (runAt 6 recordAt k rest))
 parts log rest held k a b h =
     ap₂ comparedOf (ap (take (held - a)) (rest-part (length log) a log refl) ∙ take-from a held log)
     (ap (runAt 6 recordAt (k - b)) (rest-part (length rest) (6 * b) rest refl) ∙ sym (run-rest 6 recordAt k b rest h))

@@ -28,7 +28,8 @@ loop-holds : tie.Need-loop-holds Inv-loop μ-loop
 loop-holds c = let a = c .before .before .args in (omega arith, walk-first (a .k) (a .log .now) (runAt 6 recordAt (a .k) (a .rest .now)))
 
 -- the record at place j has its value
-value : (x : tie.After-read-entry Inv-loop μ-loop) → let a = start (turn x) .args in let i = turn x .loop .i in x .read-entry .result .value ≡ getD (runAt 6 recordAt (a .k) (a .rest .now)) (a .k - 1 - i) 0
+value : (x : tie.After-read-entry Inv-loop μ-loop)
+    → let a = start (turn x) .args in let i = turn x .loop .i in x .read-entry .result .value ≡ getD (runAt 6 recordAt (a .k) (a .rest .now)) (a .k - 1 - i) 0
 value x =
     let a = start (turn x) .args in
     let j = a .k - 1 - turn x .loop .i in

@@ -17,10 +17,10 @@ use Rattle.eight_ballots.proofs.Eight.{none-all, fitFrom, fit-next, fit
 use Rattle.eight_ballots.proofs.Fours.{coding-cells, restFine}
 
 abbrev Inv-loop : tie.InvT-loop
-Inv-loop n settled all fit₀ i₀ fit i = (i ≤ 8) × (fitFrom n settled 0 all ≡ both fit (fitFrom n settled i (drop i all)))
+Inv-loop n held all fit₀ i₀ fit i = (i ≤ 8) × (fitFrom n held 0 all ≡ both fit (fitFrom n held i (drop i all)))
 
 abbrev μ-loop : tie.MeasureT-loop
-μ-loop n settled all fit₀ i₀ fit i = 8 - i
+μ-loop n held all fit₀ i₀ fit i = 8 - i
 
 loop-holds : tie.Need-loop-holds Inv-loop μ-loop
 unfolding both
@@ -30,7 +30,7 @@ eight : (s : tie.Start Inv-loop μ-loop) → length (s .args .t1) ≡ 8
 eight s = search needs
 
 returns : tie.Need-returns Inv-loop μ-loop
-returns c = let s = c .before .before in none-all (s .args .n) (s .args .settled) (s .pre .1 .1) (s .args .t1) (eight s) (sym (c .before .no-ballots .ensures) ∙ c .if1 .taken)
+returns c = let s = c .before .before in none-all (s .args .n) (s .args .held) (s .pre .1 .1) (s .args .t1) (eight s) (sym (c .before .no-ballots .ensures) ∙ c .if1 .taken)
 
 -- the places of the code: the call's start, behind the test for no ballots
 abbrev begun : tie.Else1 Inv-loop μ-loop → tie.Start Inv-loop μ-loop
@@ -40,32 +40,32 @@ loop-again : tie.Need-loop-again Inv-loop μ-loop
 loop-again c =
     let l = c .before .before .loop in
     let s = begun (c .before .before .before) in
-    (search needs, fit-next (s .args .n) (s .args .settled) (s .args .t1) (l .fit) (l .i) (l .inv .1) (omega (arith, eight s)) _ (c .fits2 .ensures))
+    (search needs, fit-next (s .args .n) (s .args .held) (s .args .t1) (l .fit) (l .i) (l .inv .1) (omega (arith, eight s)) _ (c .fits2 .ensures))
 
 -- the tests of all ballots, once their lengths were walked
-tests : (s : tie.Start Inv-loop μ-loop) → ballotsFine (s .args .n) (s .args .settled) (s .args .t1)
-    ≡ both (fitFrom (s .args .n) (s .args .settled) 0 (s .args .t1)) (both (allB (entryCells (s .args .n)) (s .args .t1)) (allB (restFine (s .args .n)) (s .args .t1)))
-tests s = fine-tests-all (s .args .n) (s .args .settled) (s .pre .0) (s .pre .1 .1) (s .args .t1) (eight s)
+tests : (s : tie.Start Inv-loop μ-loop) → ballotsFine (s .args .n) (s .args .held) (s .args .t1)
+    ≡ both (fitFrom (s .args .n) (s .args .held) 0 (s .args .t1)) (both (allB (entryCells (s .args .n)) (s .args .t1)) (allB (restFine (s .args .n)) (s .args .t1)))
+tests s = fine-tests-all (s .args .n) (s .args .held) (s .pre .0) (s .pre .1 .1) (s .args .t1) (eight s)
 
 returns-2 : tie.Need-returns-2 Inv-loop μ-loop
 returns-2 c =
     let l = c .before .before .loop in
     let s = begun (c .before .before .before) in
-    let fit = fit-done (s .args .n) (s .args .settled) (s .args .t1) (l .fit) (l .i) (l .inv .1) (omega (arith, eight s)) in
+    let fit = fit-done (s .args .n) (s .args .held) (s .args .t1) (l .fit) (l .i) (l .inv .1) (omega (arith, eight s)) in
     sym (tests s ∙ both-false-0 _ _ (sym fit ∙ not-true _ (c .if2 .taken)))
 
 -- the lengths fit
 abbrev walked : tie.Else2 Inv-loop μ-loop → tie.Start Inv-loop μ-loop
 walked c = begun (c .before .before .before)
 
-fitting : (c : tie.Else2 Inv-loop μ-loop) → let s = walked c in fitFrom (s .args .n) (s .args .settled) 0 (s .args .t1) ≡ true
+fitting : (c : tie.Else2 Inv-loop μ-loop) → let s = walked c in fitFrom (s .args .n) (s .args .held) 0 (s .args .t1) ≡ true
 fitting c =
     let l = c .before .before .loop in
     let s = walked c in
-    sym (fit-done (s .args .n) (s .args .settled) (s .args .t1) (l .fit) (l .i) (l .inv .1) (omega (arith, eight s))) ∙ not-false _ (c .if2 .left)
+    sym (fit-done (s .args .n) (s .args .held) (s .args .t1) (l .fit) (l .i) (l .inv .1) (omega (arith, eight s))) ∙ not-false _ (c .if2 .left)
 
 few : (c : tie.Else2 Inv-loop μ-loop) (k : ℕ) → k < 8 → getD (walked c .args .t1) k offEnd .len ≤ 32
-few c k h = let s = walked c in fit-few (s .args .n) (s .args .settled) 0 (s .args .t1) (fitting c) k (omega (arith, eight s))
+few c k h = let s = walked c in fit-few (s .args .n) (s .args .held) 0 (s .args .t1) (fitting c) k (omega (arith, eight s))
 
 -- behind the lengths, where the eight ballots are named
 abbrev named : tie.After-four-coding2 Inv-loop μ-loop → tie.Else2 Inv-loop μ-loop
@@ -99,13 +99,15 @@ four-unused-requires-2 c κs =
     (c .before .before .before .masks .ensures, (few n 4 (omega arith), (few n 5 (omega arith), (few n 6 (omega arith), few n 7 (omega arith)))))
 
 -- the unused cells and the parts, where the lengths and the cells are right
-rest : (j : tie.Joined3 Inv-loop μ-loop) → let s = start (j .before) in both (allB unusedZero (s .args .t1)) (allB (fairTail (s .args .n)) (s .args .t1)) ≡ ballotsFine (s .args .n) (s .args .settled) (s .args .t1)
+rest : (j : tie.Joined3 Inv-loop μ-loop)
+    → let s = start (j .before) in both (allB unusedZero (s .args .t1)) (allB (fairTail (s .args .n)) (s .args .t1)) ≡ ballotsFine (s .args .n) (s .args .held) (s .args .t1)
 rest j =
     let s = start (j .before) in
     all-both unusedZero (fairTail (s .args .n)) (s .args .t1) ∙ sym (tests s ∙ both-passed _ _ _ (fitting (named (j .before))) (entries-all j))
 
 -- what the two tests of the unused cells found
-unused : (c : tie.After-four-unused2 Inv-loop μ-loop) → let s = start (c .before .before .before .before .before .before) in (c .before .before .four-unused .result && c .four-unused2 .result) ≡ allB unusedZero (s .args .t1)
+unused : (c : tie.After-four-unused2 Inv-loop μ-loop)
+    → let s = start (c .before .before .before .before .before .before) in (c .before .before .four-unused .result && c .four-unused2 .result) ≡ allB unusedZero (s .args .t1)
 unused c = let s = start (c .before .before .before .before .before .before) in eight-tests unusedZero (s .args .t1) (eight s) _ _ (c .before .before .four-unused .ensures) (c .four-unused2 .ensures)
 
 returns-4 : tie.Need-returns-4 Inv-loop μ-loop

@@ -23,9 +23,9 @@ unfolding fitsAt both pick
 returns-3 c =
     let a = c .before .before .args in
     rw (lt-ltb (a .place) (a .n) (omega arith), le-leb (a .len) 32 (omega arith))
-    (alike (leb (a .settled) (1024 - a .len)) (leb (a .settled + a .len) 1024)
-    (λ e. le-leb (a .settled + a .len) 1024 (omega (arith, leb-true (a .settled) (1024 - a .len) e)))
-    (λ e. le-leb (a .settled) (1024 - a .len) (omega (arith, leb-true (a .settled + a .len) 1024 e))))
+    (alike (leb (a .held) (1024 - a .len)) (leb (a .held + a .len) 1024)
+    (λ e. le-leb (a .held + a .len) 1024 (omega (arith, leb-true (a .held) (1024 - a .len) e)))
+    (λ e. le-leb (a .held) (1024 - a .len) (omega (arith, leb-true (a .held + a .len) 1024 e))))
 
 pub fits-spec : {M : Type 1} → statement M
 fits-spec = tie.close (tie.spec returns returns-2 (λ c. search needs) returns-3)

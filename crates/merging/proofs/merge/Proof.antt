@@ -30,7 +30,8 @@ eight : (s : tie.Start Inv-loop μ-loop) → (length (s .args .ballots) ≡ 8) �
 eight s = (search needs, search needs)
 
 -- a turn's first store
-brought : (c : tie.Joined1 Inv-loop μ-loop) → let l = c .before .before .loop in let a = start (c .before .before) .args in c .if1 .next ≡ set (l .next) (l .i) (pastBallot (a .grown .now) (getD (l .next) (l .i) offEnd))
+brought : (c : tie.Joined1 Inv-loop μ-loop)
+    → let l = c .before .before .loop in let a = start (c .before .before) .args in c .if1 .next ≡ set (l .next) (l .i) (pastBallot (a .grown .now) (getD (l .next) (l .i) offEnd))
 brought c =
     let l = c .before .before .loop in
     let s = start (c .before .before) in

@@ -62,7 +62,8 @@ module _ {M : Type 1} (𝓤 : URA M) (H : Heap 𝓤) (A : Atoms 𝓤) (W : Given
         move ! (1 ∷ []) $ use1 W (‵ (T.the-row (namedLft 1 0 tt κs) .own reader (T′.lowered reader ∷ []))) (own-shut 𝓤 H A W (T.the-type (namedLft 1 0 tt κs)) (T′.the-laws (namedLft 1 0 tt κs)) (s, (i, tt))) $ move ! (1 ∷ 0 ∷ []) $ join ! $ frame ! $
         show ! (λ ws. sep 𝓤 (sem 𝓤 H A (lasts new.ended κs (s, (i, tt)) ws)) (new.clauses 𝓤 H A mem run κs (s, (i, tt)) .ensures tt reader (atExit new.ended κs (s, (i, tt)) ws))) (tt, (tt, tt)) $ says ! (refl, refl) $ nothing ! $ nothing ! $ fjoin ! $ nothing ! $ fjoin ! $ done !
 
-    walk : (C : Calls 𝓤 H) (Λ : Loops 𝓤 H) → Is (ShrSlice (named 0) (κs .0) u8) s (slice-vals s) → i < 2 ^ 64 → ent 𝓤 Entry (WpFn 𝓤 H C Λ code.function (sliceVal (s .ptr) (length (s .now)) ∷ vint w64 i ∷ []) Exit)
+    walk : (C : Calls 𝓤 H) (Λ : Loops 𝓤 H) → Is (ShrSlice (named 0) (κs .0) u8) s (slice-vals s) → i < 2 ^ 64
+        → ent 𝓤 Entry (WpFn 𝓤 H C Λ code.function (sliceVal (s .ptr) (length (s .now)) ∷ vint w64 i ∷ []) Exit)
     walk C Λ p fits =
         qed W (raw Entry ∷ []) ∵ enter ! C Λ code.function (sliceVal (s .ptr) (length (s .now)) ∷ vint w64 i ∷ []) Exit $
         alloc1 ! (λ l₀. alloc1 ! (λ l₁. alloc1 ! (λ l₂. alloc0 ! $ params1 ! $ pass1 ! (init ! 2 refl (shr-slice-lawful 𝓤 H A W (named 0) (κs .0) u8 .typed s _ p .0)) $ pass1 ! (init ! 0 refl (tt, record { fits = fits })) $ pass0 ! $

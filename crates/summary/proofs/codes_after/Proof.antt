@@ -5,14 +5,14 @@ use mathlib.Core.Path.{_≡_, refl, sym, ap, ap₂, _∙_}
 use mathlib.Core.List.{List, [], _∷_}
 use Prim.Native.Nat.{ℕ, _-_, _≤_}
 use lib.ListN.{length, set}
-use Rattle.lists.proofs.Fold.{Folded, fold-next, fold-done}
+use Rattle.lists.proofs.Fold.{FoldedUpTo, fold-next, fold-done}
 use Rattle.protocol.specs.Codes.{coded, codesAfter}
 use Rattle.summary.proofs.Cells.{codes-made}
 use Rattle.summary.proofs.codes_after.Statement.{statement}
 use Rattle.summary.proofs.codes_after.Tie as tie
 
 abbrev Inv-loop : tie.InvT-loop
-Inv-loop words wide₀ i₀ i-end wide i = (i ≤ length words) × Folded coded wide₀ words wide i
+Inv-loop words wide₀ i₀ i-end wide i = (i ≤ length words) × FoldedUpTo coded wide₀ words wide i
 
 abbrev μ-loop : tie.MeasureT-loop
 μ-loop words wide₀ i₀ i-end wide i = length words - i

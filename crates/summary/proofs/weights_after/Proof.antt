@@ -3,7 +3,7 @@ use borrow.Author.Needs.{needs}
 use mathlib.Core.Path.{_≡_, refl, sym, ap, _∙_}
 use Prim.Native.Nat.{_-_, _≤_}
 use lib.ListN.{length}
-use Rattle.lists.proofs.Fold.{Folded, fold-next, fold-done}
+use Rattle.lists.proofs.Fold.{FoldedUpTo, fold-next, fold-done}
 use Rattle.protocol.specs.Moves.{move, weightsAfter}
 use Rattle.protocol.proofs.Moves.{move-length}
 use Rattle.summary.proofs.Moves.{no-moves-stay}
@@ -11,7 +11,7 @@ use Rattle.summary.proofs.weights_after.Statement.{statement}
 use Rattle.summary.proofs.weights_after.Tie as tie
 
 abbrev Inv-loop : tie.InvT-loop
-Inv-loop words present₀ i₀ i-end present i = (i ≤ length words) × (length present ≡ 8) × Folded move present₀ words present i
+Inv-loop words present₀ i₀ i-end present i = (i ≤ length words) × (length present ≡ 8) × FoldedUpTo move present₀ words present i
 
 abbrev μ-loop : tie.MeasureT-loop
 μ-loop words present₀ i₀ i-end present i = length words - i

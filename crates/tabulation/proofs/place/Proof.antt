@@ -23,7 +23,8 @@ abbrev start : tie.At-loop Inv-loop μ-loop → tie.Start Inv-loop μ-loop
 start c = c .before
 
 -- a turn's row is the row of the first `count`
-there : (c : tie.In-loop Inv-loop μ-loop) → let a = start (c .before) .args in let i = c .before .loop .i in (length (take (a .count) (a .t1)) ≡ a .count) × (getD (take (a .count) (a .t1)) i noRow ≡ getD (a .t1) i noRow)
+there : (c : tie.In-loop Inv-loop μ-loop)
+    → let a = start (c .before) .args in let i = c .before .loop .i in (length (take (a .count) (a .t1)) ≡ a .count) × (getD (take (a .count) (a .t1)) i noRow ≡ getD (a .t1) i noRow)
 there c =
     let a = start (c .before) .args in
     let full : length (a .t1) ≡ 64 = search (needs, length-mapped) in

@@ -6,7 +6,7 @@ use Prim.Native.Nat.{_+_, _-_}
 use lib.ListN.{length}
 use lib.Seq.{length-take-le}
 use Rattle.ballots.specs.Ballots.{tailOf}
-use Rattle.vectors.specs.Vectors.{mostKept}
+use Rattle.vectors.specs.Vectors.{keptCountLimit}
 use Rattle.vectors.proofs.Paths.{Walked, path-next, path-done, path-room}
 use Rattle.vectors.proofs.path_counts.Statement.{statement}
 use Rattle.vectors.proofs.path_counts.Tie as tie
@@ -34,7 +34,7 @@ add-counts : tie.Need-add-counts Inv-loop μ-loop
 add-counts c =
     let t = c .before .before in
     let s = start t in
-    omega (arith, path-room (s .args .t1) (tailOf (s .args .b)) (mostKept + 1024) (s .pre .1) (t .in-words .result) (t .in-words .ensures) (c .before .loop .k), taken s, s .pre .0)
+    omega (arith, path-room (s .args .t1) (tailOf (s .args .b)) (keptCountLimit + 1024) (s .pre .1) (t .in-words .result) (t .in-words .ensures) (c .before .loop .k), taken s, s .pre .0)
 
 loop-again : tie.Need-loop-again Inv-loop μ-loop
 loop-again c =

@@ -9,7 +9,7 @@ use borrow.Author.Needs.{needs}
 use Rattle.ballots.specs.Ballots.{offEnd, tailOf}
 use Rattle.writer.proofs.Ballots.{len-at}
 use Rattle.writer.proofs.Whole.{refused, written}
-use Rattle.vectors.specs.Vectors.{EachAtMost, mostKept, vectorOf, versionsBytes, versionsIn}
+use Rattle.vectors.specs.Vectors.{EachAtMost, keptCountLimit, vectorOf, versionsBytes, versionsIn}
 use Rattle.vectors.proofs.Vectors.{ToWrite, log-most, log-vector, all-is, row-few, size-is, tailsIn, whole, write-again, write-begins, write-ends, write-room}
 use Rattle.vectors.proofs.write.Statement.{statement}
 use Rattle.vectors.proofs.write.Tie as tie
@@ -66,7 +66,7 @@ returns c = let s = c .before .before .before in refused (all s) (s .args .out .
 all-long : (c : tie.After-counts-after Inv-loop μ-loop) → begin (fitted c) .args .n ≤ length (c .counts-after .result)
 all-long c = let e : length (c .counts-after .result) ≡ 8 = search needs in omega (arith, begin (fitted c) .pre .most)
 
-log-few : (c : tie.After-counts-after Inv-loop μ-loop) → EachAtMost (mostKept + 1024) (c .counts-after .result)
+log-few : (c : tie.After-counts-after Inv-loop μ-loop) → EachAtMost (keptCountLimit + 1024) (c .counts-after .result)
 log-few c = let s = begin (fitted c) in log-most (s .args .start) (s .args .log .now) (c .counts-after .result) (c .counts-after .ensures) (s .pre .kept) (s .pre .few)
 
 abbrev base : tie.After-counts-after Inv-loop μ-loop → List ℕ
@@ -85,7 +85,8 @@ put-vector-requires : tie.Need-put-vector-requires Inv-loop μ-loop
 put-vector-requires c κs = let s = begin (fitted (c .before)) in (s .pre .most, omega (arith, fits (fitted (c .before)), size s))
 
 -- behind the log's vector there is room for the paths'
-room : (c : tie.At-loop Inv-loop μ-loop) → headed c .put-vector .result + length (versionsBytes (base (counted c)) (tailsIn (begun c .args .n) (begun c .args .t4))) ≤ length (headed c .put-vector .last .0)
+room : (c : tie.At-loop Inv-loop μ-loop)
+    → headed c .put-vector .result + length (versionsBytes (base (counted c)) (tailsIn (begun c .args .n) (begun c .args .t4))) ≤ length (headed c .put-vector .last .0)
 room c =
     let s = begun c in
     let put = headed c .put-vector in

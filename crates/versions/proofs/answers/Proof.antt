@@ -10,7 +10,7 @@ use Rattle.numbers.specs.Numbers.{be64}
 use Rattle.numbers.proofs.Runs.{runAt-length}
 use Rattle.ballots.specs.Ballots.{offEnd, tailOf}
 use Rattle.writer.proofs.Ballots.{len-at}
-use Rattle.vectors.specs.Vectors.{EachAtMost, mostKept, versionsIn}
+use Rattle.vectors.specs.Vectors.{EachAtMost, keptCountLimit, versionsIn}
 use Rattle.vectors.proofs.Vectors.{log-most, log-vector}
 use Rattle.versions.specs.Versions.{answersTo, comparedTo, countsIn, nine}
 use Rattle.versions.proofs.Paths.{ToAnswer, answer-again, answer-begins, answer-ends, nine-answers}
@@ -44,7 +44,7 @@ given c =
     let a = begin c .args in
     ap (take (a .n)) (read c .counts-in .ensures) ∙ take-at (countsIn (a .n) (a .s .now)) _ (a .n) (runAt-length 8 be64 (a .n) (a .s .now))
 
-log-few : (c : tie.At-loop Inv-loop μ-loop) → EachAtMost (mostKept + 1024) (counted c .counts-after .result)
+log-few : (c : tie.At-loop Inv-loop μ-loop) → EachAtMost (keptCountLimit + 1024) (counted c .counts-after .result)
 log-few c = let s = begin c in log-most (s .args .start) (s .args .log .now) (counted c .counts-after .result) (counted c .counts-after .ensures) (s .pre .0 .kept) (s .pre .0 .few)
 
 base-long : (c : tie.At-loop Inv-loop μ-loop) → begin c .args .n ≤ length (counted c .counts-after .result)

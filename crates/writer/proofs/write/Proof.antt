@@ -76,7 +76,8 @@ returns : tie.Need-returns Inv-loop μ-loop Inv-loop2 μ-loop2
 returns c = refused (message (start (c .before .before))) _ _ (size-counted (c .before)) (c .if1 .taken)
 
 -- past the test the buffer has room for the message: the head, the log records and the end, and the ballots
-fits : (c : tie.After-put-front-arg Inv-loop μ-loop Inv-loop2 μ-loop2) → let a = begun c .args in headSize (a .n) + 6 * a .held + 2 + length (ballotsBytes 0 (tailsOf (a .n) (a .t7))) ≤ length (a .out .now)
+fits : (c : tie.After-put-front-arg Inv-loop μ-loop Inv-loop2 μ-loop2)
+    → let a = begun c .args in headSize (a .n) + 6 * a .held + 2 + length (ballotsBytes 0 (tailsOf (a .n) (a .t7))) ≤ length (a .out .now)
 fits c =
     let s = begun c in
     omega (arith, size-counted (tested c), c .before .if1 .left, message-length (s .args .sender) (s .args .n) (s .args .weights) (s .args .dropped) (s .args .log .now) (s .args .held) (s .args .t7) (weights-long s) (s .pre .log-long))
@@ -86,7 +87,8 @@ unfolding lengthLimit
 put-front-requires c κs = let s = begun c in omega (arith, fits c, s .pre)
 
 -- behind the log records there is room for the ballots and the end
-room : (c : tie.At-loop2 Inv-loop μ-loop Inv-loop2 μ-loop2) → let a = begun (fronted c .before) .args in fronted c .put-front .result + (length (ballotsBytes 0 (tailsOf (a .n) (a .t7))) + 2) ≤ length (fronted c .put-front .last .0)
+room : (c : tie.At-loop2 Inv-loop μ-loop Inv-loop2 μ-loop2)
+    → let a = begun (fronted c .before) .args in fronted c .put-front .result + (length (ballotsBytes 0 (tailsOf (a .n) (a .t7))) + 2) ≤ length (fronted c .put-front .last .0)
 room c = let front = fronted c .put-front in omega (arith, fits (fronted c .before), front .kept .0, front .ensures .0)
 
 put-ballot-requires : tie.Need-put-ballot-requires Inv-loop μ-loop Inv-loop2 μ-loop2

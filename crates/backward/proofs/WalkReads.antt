@@ -25,7 +25,7 @@ use Rattle.protocol.specs.Frames.{editAfter, lastEdit, orElse, editBy}
 use Rattle.protocol.proofs.Codes.{cell-back, codes-at}
 use Rattle.protocol.proofs.Frames.{edit-append, edit-behind, edit-cons}
 use Rattle.backward.specs.Runs.{ofFrame, editsOf, editsAll, runHas, shortestRun, Shortest}
-use Rattle.backward.specs.Walk.{Reading, orOther, noting, answered, behind, walk, walkBack}
+use Rattle.backward.specs.Walk.{FrameRead, orOther, withWord, answered, behind, walk, walkBack}
 use Rattle.backward.specs.Cells.{placed, walkedOf}
 use Rattle.backward.proofs.Members.{all-mem, map-each}
 use Rattle.backward.proofs.Edits.{some-edits, edits-front}
@@ -42,8 +42,8 @@ pub other-map : (other o : ℕ → Option ℕ) (lines : List ℕ) → orOther ot
 other-map other o [] = refl
 other-map other o (line ∷ lines) = ap (λ (os : List (Option ℕ)). orElse (o line) (other line) ∷ os) (other-map other o lines)
 
-noting-is : (v : ℕ) (lines l : List ℕ) → noting v lines (from lines l) ≡ from lines (v ∷ l)
-noting-is v lines l =
+with-word : (v : ℕ) (lines l : List ℕ) → withWord v lines (from lines l) ≡ from lines (v ∷ l)
+with-word v lines l =
     other-map (editBy v) (λ (line : ℕ). lastEdit line l) lines ∙ ap (λ (f : ℕ → Option ℕ). map f lines) (fun-ext (λ line. sym (edit-cons line v l)))
 
 module _ (lines entries : List ℕ) where
@@ -55,20 +55,20 @@ module _ (lines entries : List ℕ) where
   part i = drop i entries
 
   -- the reading w from place i: where it stopped, what it shows, and that no run up to there had every edit
-  record Stopped (i : ℕ) (w : Reading) : Type 0 where
+  record Stopped (i : ℕ) (w : FrameRead) : Type 0 where
     stop : ℕ
     read : stop + w .words ≡ i
     shows : w .frame ≡ from lines (part stop)
     lacks : (j : ℕ) → stop < j → j ≤ i → editsAll lines (part j) ≡ false
     ends : (editsAll lines (part stop) ≡ true) ⊎ (stop ≡ 0)
 
-  here : ℕ → Reading
+  here : ℕ → FrameRead
   here i = record { frame = from lines (part i); words = 0 }
 
   walk-on : (i : ℕ) → i < p → walk (suc i) lines entries (from lines (part (suc i)))
       ≡ pick (editsAll lines (part (suc i))) (here (suc i)) (behind 1 (walk i lines entries (from lines (part i))))
   unfolding walk here
-  walk-on i b = rw (answered-is lines (part (suc i)), noting-is (getD entries i 0) lines (part (suc i)), ← drop-cons entries i 0 b)
+  walk-on i b = rw (answered-is lines (part (suc i)), with-word (getD entries i 0) lines (part (suc i)), ← drop-cons entries i 0 b)
 
   stopped : (i : ℕ) → i ≤ p → Stopped i (walk i lines entries (from lines (part i)))
   unfolding walk here
