@@ -1,0 +1,2 @@
+-- Laws of a line's numbers and of the loops that write them.
+pub mod Putting

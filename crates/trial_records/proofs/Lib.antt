@@ -1,0 +1,3 @@
+-- Laws of the digest, and of the letters.
+pub mod Digests
+pub mod Letters
