@@ -1,6 +1,5 @@
 -- A line's numbers, and the loops that write them into a list.
 --     said-length, said-at      the line's numbers from a place on
---     over-length, over-at      a list over and over
 --     room-test, put-refused, put-taken      when they have room
 --     PutRest, put-begins, put-inside, put-some, put-next, put-ends      the loop: what is left to write from here on gives what all of it gives from the start
 -- Assumes nothing.
@@ -8,13 +7,12 @@ use Prim.Native.Nat.{ℕ, zero, suc, _+_, _-_, _*_, _%_, _<_, _≤_, min}
 use mathlib.Core.Bool.{Bool, true, false}
 use mathlib.Core.List.{List, [], _∷_, _++_, map}
 use mathlib.Core.Path.{_≡_, refl, sym, ap, _∙_}
-use native.Mathlib.Nat.{suc-mul, mod-eq-of-lt, mod-eq-sub-mod, min-le-right, sub-self, not-suc-le-zero}
+use native.Mathlib.Nat.{suc-mul, mod-eq-of-lt, mod-eq-sub-mod, min-le-right, sub-self}
 use native.Mathlib.Omega.{arith}
 use lib.Dec.{ltb, leb}
 use lib.ListN.{length, getD, take, drop, set, length-drop, length-append, length-map, drop-of-length-le, List·getD-append, List·getD-map}
 use lib.Seq.{sets, length-take-le, getD-drop, getD-take, getD-append-add}
 use borrow.Author.Tests.{lt-ltb, ltb-true, ltb-false, le-leb, leb-true}
-use Rattle.lists.specs.Tests.{both, pick}
 use Rattle.lists.proofs.Tests.{both-0, both-1, both-true, pick-true, pick-false, pick-cases}
 use Rattle.lists.proofs.Stores.{Left, left-all, left-next, left-none}
 use Rattle.lists.proofs.Walk.{rest-step}

@@ -67,7 +67,8 @@ pub fn set(
     let mut next = trial;
     let first = line.first;
     let words = within(trial.words, log.len());
-    let size = within(trial.message, message.len());
+    let before = trial.message;
+    let size = within(before, message.len());
     let letter = line.letter;
     match letter {
         b'd' => return start(),
@@ -76,17 +77,11 @@ pub fn set(
             taken(put_words(line, 2, 1, first, &mut log[..words]), 0);
         }
         b'o' => next.output = taken(put_bytes(line, 2, first, 0, output), trial.output),
-        b'm' => {
-            let put = put_bytes(line, 2, first, trial.message as u64, message);
-            next.message = taken(put, trial.message);
-        }
+        b'm' => next.message = taken(put_bytes(line, 2, first, before as u64, message), before),
         b'x' => {
             taken(put_bytes(line, 2, 1, first, &mut message[..size]), 0);
         }
-        b'c' => {
-            let put = put_bytes(line, 1, 0, first, &mut message[..size]);
-            next.message = taken(put, trial.message);
-        }
+        b'c' => next.message = taken(put_bytes(line, 1, 0, first, &mut message[..size]), before),
         b'g' => {
             if first > trial.output as u64 {
                 refuse();

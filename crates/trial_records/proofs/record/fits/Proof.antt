@@ -3,9 +3,8 @@ use borrow.Author.Needs.{needs}
 use native.Mathlib.Nat.{eq-or-lt-of-le}
 use native.Mathlib.Omega.{arith}
 use mathlib.Core.Logic.{_⊎_, inl, inr}
-use mathlib.Core.Path.{_≡_, sym, ap, _∙_}
-use Prim.Native.Nat.{ℕ, _+_, _≤_, _<_}
-use Rattle.trial_lines.specs.declared.writing.Put.{Put}
+use mathlib.Core.Path.{_≡_, sym, _∙_}
+use Prim.Native.Nat.{ℕ, _≤_, _<_}
 use Rattle.trial_lines.proofs.Putting.{room-test}
 use Rattle.trial_records.proofs.Letters.{fits-64, fits-8, fits-32, fits-any}
 use Rattle.trial_records.proofs.record.fits.Statement.{statement}

@@ -1,10 +1,7 @@
 -- Each field is what the definition has.
 use borrow.Author.Needs.{needs}
-use mathlib.Core.List.{List}
 use mathlib.Core.Path.{_≡_, ap, _∙_}
-use Prim.Native.Nat.{ℕ}
 use lib.ListN.{getD}
-use Rattle.summary.specs.declared.Summary.{Summary}
 use Rattle.trial_lines.specs.Writing.{weightsFrom}
 use Rattle.trial_records.specs.Setting.{withPresent, withDone}
 use Rattle.trial_records.proofs.record.set_head.Statement.{statement}

@@ -3,7 +3,6 @@ use borrow.Author.Needs.{needs}
 use mathlib.Core.List.{List}
 use mathlib.Core.Path.{sym, ap, _∙_}
 use Prim.Native.Nat.{ℕ}
-use Rattle.kept.specs.declared.Kept.{Kept}
 use Rattle.trial_records.specs.Setting.{withPresent, withDone}
 use Rattle.trial_records.proofs.Letters.{kept-f, kept-q, kept-j, kept-t}
 use Rattle.trial_records.proofs.record.set_kept.Statement.{statement}
