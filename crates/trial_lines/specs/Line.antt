@@ -17,7 +17,7 @@ withLetter l b = record { letter = b; count = l .count; first = l .first; second
 abbrev pub withSpace : Line → Line
 withSpace l = record { letter = l .letter; count = l .count % 24 + 1; first = l .first; second = l .second; numbers = l .numbers }
 
--- a number with one digit more, in 64 bits
+-- a number with one digit behind it, in 64 bits; where that has room it is ten times the number and the digit (`digit-behind`)
 abbrev pub withDigit : ℕ → ℕ → ℕ
 withDigit x digit = (x % 1844674407370955162 * 10 + digit) % 2 ^ 64
 

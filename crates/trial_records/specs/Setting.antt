@@ -14,6 +14,7 @@ use Rattle.frame.specs.State.{withHeld, withNoted}
 use Rattle.trial_lines.specs.declared.line.Line.{Line}
 use Rattle.trial_lines.specs.Writing.{hasRoom, putInto, low32, whole, weightsFrom}
 
+-- the letters
 abbrev pub letterA : ℕ
 letterA = 97
 
@@ -94,12 +95,13 @@ setHead r l = record {
 abbrev pub withCells : Ballot → Line → Ballot
 withCells b l = record { len = b .len; cells = putInto low32 l 3 1 (l .second) (b .cells) }
 
--- `b` gives a ballot its length field and no cells, `a` writes its cells
+-- `b` gives a ballot its length field and 32 zero cells, `a` writes its cells
 unfoldable pub setBallots : List Ballot → Line → List Ballot
 setBallots bs l =
     set bs (l .first % 8)
     (pick (is l letterB) (record { len = l .second; cells = replicate 32 0 }) (withCells (getD bs (l .first % 8) offEnd) l))
 
+-- the record with one part of it set
 abbrev pub withSummary : Record → Summary → Record
 withSummary r s = withHeld r (r .kept) (r .noted) s (r .settled) (r .ballots)
 
@@ -109,7 +111,7 @@ withKept r k = withHeld r k (r .noted) (r .summary) (r .settled) (r .ballots)
 abbrev pub withBallots : Record → List Ballot → Record
 withBallots r bs = withHeld r (r .kept) (r .noted) (r .summary) (r .settled) bs
 
--- `p` sets the present weights, `k` writes stored codes, `n` noted lengths
+-- `p` sets the present weights, `k` writes stored codes, `n` noted lengths; a letter of no line is taken for `a`
 unfoldable pub setRecord : Record → Line → Record
 setRecord r l =
     pick (is l letterR) (setHead r l)

@@ -134,7 +134,7 @@ fn set_ballots(before: [Ballot; 8], line: Line) -> [Ballot; 8]
     ballots
 }
 
-// The record with what the line says; nothing is written where it has no room. Another letter is taken for `a`.
+// The record with what the line says; nothing is written where it has no room. A letter of no line is taken for `a`.
 pub fn set(record: Record, line: Line) -> Record
     ensures { λ r. ⌜ r ≡ setRecord «record» line ⌝ }
 {
