@@ -3,8 +3,9 @@ mod line;
 mod writing;
 
 pub use line::Line;
+pub use writing::Put;
 pub use writing::put_bytes;
 pub use writing::put_numbers;
 pub use writing::put_words;
-pub use writing::refuse;
+pub use writing::room_for;
 pub use writing::weights;

@@ -1,4 +1,6 @@
 // What a line of a script says: a letter, and up to 24 numbers behind it.
+ghost use mathlib.Core.Path.{_≡_};
+ghost use Rattle.trial_lines.specs.Line.{noLine, withByte};
 
 // The numbers stand from place 1 on, as many as there are spaces; the first two stand apart too once the line is whole.
 pub struct Line {
@@ -11,7 +13,9 @@ pub struct Line {
 
 impl Line {
     // Nothing was read yet.
-    pub fn none() -> Line {
+    pub fn none() -> Line
+        ensures { λ r. ⌜ r ≡ noLine ⌝ }
+    {
         Line {
             letter: 0,
             count: 0,
@@ -23,7 +27,9 @@ impl Line {
 
     // The line with one more byte: a digit of the last number, a space before the next one, or the letter. Ten times a remainder by 1844674407370955162
     // is below 2^64, so the largest number of 64 bits is read whole; a larger one, or more than 24, is none that a script has.
-    pub fn with(self, byte: u8) -> Line {
+    pub fn with(self, byte: u8) -> Line
+        ensures { λ r. ⌜ r ≡ withByte self byte ⌝ }
+    {
         let mut next = self;
         if byte > b'9' {
             next.letter = byte;

@@ -1,100 +1,98 @@
 // Numbers of a line, written into a list.
-ghost use Prim.Native.Nat.{_+_, _<_, _≤_};
+ghost use mathlib.Core.Path.{_≡_};
+ghost use Prim.Native.Nat.{_<_, _%_};
+ghost use lib.ListN.{getD, length};
+ghost use Rattle.trial_lines.specs.Writing.{saidFrom, roomFor, putInto, low8, low32, whole, weightsFrom};
 use crate::line::Line;
 use lists::within;
 
-// Where numbers are written, and how many: from place `from` of the line on, `each` of them over and over.
-struct Span {
-    at: usize,
-    total: usize,
-    from: usize,
-    each: usize,
+// Whether a line's numbers had room in a list, and where they end there.
+pub struct Put {
+    pub done: bool,
+    pub end: usize,
 }
 
-// Prints that a line is not taken.
-pub fn refuse() {
-    io::write_all(1, b"?\n");
-}
-
-// The same, where nothing is written.
-fn refused(at: u64, room: usize) -> Span
-    ensures { λ r. ⌜ (r .at + r .total ≤ room) × (0 < r .each) ⌝ }
+// Whether the line's numbers from place `from` on have room, `times` times over, from place `at` of a list on, and where they end.
+pub fn room_for(line: Line, from: usize, times: u64, at: u64, room: usize) -> Put
+    ensures { λ r. ⌜ r ≡ roomFor line from times at room ⌝ }
 {
-    refuse();
-    Span {
-        at: within(at as usize, room),
-        total: 0,
-        from: 0,
-        each: 1,
-    }
-}
-
-// Where the line's numbers from place `from` on are written, `times` times over, if there is room for them from place `at` on.
-fn span_of(line: Line, from: usize, times: u64, at: u64, room: usize) -> Span
-    ensures { λ r. ⌜ (r .at + r .total ≤ room) × (0 < r .each) ⌝ }
-{
+    let none = Put {
+        done: false,
+        end: 0,
+    };
     let count = within(line.count, 24);
     if from > count {
-        return refused(at, room);
+        return none;
     }
     if at > room as u64 {
-        return refused(at, room);
+        return none;
     }
     let each = count - from + 1;
     let most = (room - at as usize) / each;
     if times > most as u64 {
-        return refused(at, room);
+        return none;
     }
-    Span {
-        at: at as usize,
-        total: times as usize * each,
-        from,
-        each,
+    Put {
+        done: true,
+        end: at as usize + times as usize * each,
     }
 }
 
-// The number of the line that is written at turn i.
-fn value(line: Line, span: Span, i: usize) -> u64
-    requires { ⌜ 0 < span .each ⌝ }
+// The number that is written at turn i: the line's numbers from place `from` on follow each other over and over.
+fn value(line: Line, from: usize, i: usize) -> u64
+    requires { ⌜ 0 < length (saidFrom line from) ⌝ }
+    ensures { λ r. ⌜ r ≡ getD (saidFrom line from) (i % length (saidFrom line from)) 0 ⌝ }
 {
-    let at = (span.from % 25 + i % span.each % 25) % 25;
+    let each = within(line.count, 24) + 1 - from;
+    let at = from + i % each;
     line.numbers[at]
 }
 
-// Writes the low 32 bits of the line's numbers from place `from` on, `times` times over, from place `at` of a list on, and answers where they end. Where
-// there is no room for them it prints `?` and writes nothing.
-pub fn put_words(line: Line, from: usize, times: u64, at: u64, to: &mut [u32]) -> usize {
-    let span = span_of(line, from, times, at, to.len());
-    for i in 0..span.total {
-        to[span.at + i] = (value(line, span, i) % 4294967296) as u32;
+// Writes the low 32 bits of the line's numbers from place `from` on, `times` times over, from place `at` of a list on. Where there is no room for
+// them it writes nothing.
+pub fn put_words(line: Line, from: usize, times: u64, at: u64, to: &mut [u32]) -> Put
+    ensures { λ r. ⌜ (r ≡ roomFor line from times at (length (now (to .entry)))) × (now (to .exit) ≡ putInto low32 line from times at (now (to .entry))) ⌝ }
+{
+    let put = room_for(line, from, times, at, to.len());
+    let start = at as usize;
+    for i in start..put.end {
+        to[i] = (value(line, from, i - start) % 4294967296) as u32;
     }
-    span.at + span.total
+    put
 }
 
 // The same with bytes: the low 8 bits of each number.
-pub fn put_bytes(line: Line, from: usize, times: u64, at: u64, to: &mut [u8]) -> usize {
-    let span = span_of(line, from, times, at, to.len());
-    for i in 0..span.total {
-        to[span.at + i] = (value(line, span, i) % 256) as u8;
+pub fn put_bytes(line: Line, from: usize, times: u64, at: u64, to: &mut [u8]) -> Put
+    ensures { λ r. ⌜ (r ≡ roomFor line from times at (length (now (to .entry)))) × (now (to .exit) ≡ putInto low8 line from times at (now (to .entry))) ⌝ }
+{
+    let put = room_for(line, from, times, at, to.len());
+    let start = at as usize;
+    for i in start..put.end {
+        to[i] = (value(line, from, i - start) % 256) as u8;
     }
-    span.at + span.total
+    put
 }
 
 // The same with numbers as they are.
-pub fn put_numbers(line: Line, from: usize, times: u64, at: u64, to: &mut [u64]) -> usize {
-    let span = span_of(line, from, times, at, to.len());
-    for i in 0..span.total {
-        to[span.at + i] = value(line, span, i);
+pub fn put_numbers(line: Line, from: usize, times: u64, at: u64, to: &mut [u64]) -> Put
+    ensures { λ r. ⌜ (r ≡ roomFor line from times at (length (now (to .entry)))) × (now (to .exit) ≡ putInto whole line from times at (now (to .entry))) ⌝ }
+{
+    let put = room_for(line, from, times, at, to.len());
+    let start = at as usize;
+    for i in start..put.end {
+        to[i] = value(line, from, i - start);
     }
-    span.at + span.total
+    put
 }
 
-// Eight numbers of the line from this place on, as weights: the low 16 bits of each.
-pub fn weights(line: Line, from: usize) -> [u16; 8] {
+// Eight numbers of the line from this place on, as weights: the low 16 bits of each. Behind place 17 fewer are left than eight.
+pub fn weights(line: Line, from: usize) -> [u16; 8]
+    ensures { λ r. ⌜ r ≡ weightsFrom line from ⌝ }
+{
     let mut weights = [0u16; 8];
+    let start = within(from, 17);
     for i in 0..8 {
-        let at = (from % 25 + i) % 25;
-        weights[i] = (line.numbers[at] % 65536) as u16;
+        weights[i] = (line.numbers[start + i] % 65536) as u16;
     }
     weights
 }

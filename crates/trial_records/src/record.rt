@@ -1,4 +1,7 @@
 // The lines that set a part of the record.
+ghost use mathlib.Core.Path.{_≡_};
+ghost use Rattle.frame.specs.State.{zeroRecord};
+ghost use Rattle.trial_records.specs.Setting.{fitsRecord, withPresent, withCodes, withNumbers, setKept, setHead, withCells, setBallots, setRecord};
 use ballots::Ballot;
 use frame::Record;
 use kept::Kept;
@@ -6,34 +9,106 @@ use summary::Summary;
 use trial_lines::Line;
 use trial_lines::put_numbers;
 use trial_lines::put_words;
+use trial_lines::room_for;
 use trial_lines::weights;
 
-// All zero.
-pub fn none() -> Record {
-    let ballot = Ballot::none();
-    let summary = Summary {
-        present: [0; 8],
-        codes: [0; 64],
-    };
-    let kept = Kept {
-        dropped: 0,
-        summary,
-        counts: [0; 8],
-    };
-    Record {
-        n: 0,
-        own: 0,
-        weights: [0; 8],
-        kept,
-        noted: [0; 8],
-        summary,
-        settled: 0,
-        ballots: [ballot; 8],
+// All zero, as what a founding with zeros answers, which is refused.
+pub fn none() -> Record
+    ensures { λ r. ⌜ r ≡ zeroRecord ⌝ }
+{
+    let log = [0u32; 1];
+    Record::found(0, 0, [0; 8], &log).record
+}
+
+// Whether the part of the record that the line writes into has room for its numbers.
+pub fn fits(line: Line) -> bool
+    ensures { λ r. ⌜ r ≡ fitsRecord line ⌝ }
+{
+    let letter = line.letter;
+    match letter {
+        b'j' | b'k' => return room_for(line, 2, 1, line.first, 64).done,
+        b'n' | b't' => return room_for(line, 2, 1, line.first, 8).done,
+        b'a' => return room_for(line, 3, 1, line.second, 32).done,
+        _ => return true,
     }
 }
 
+// With other present weights.
+fn with_present(summary: Summary, present: [u16; 8]) -> Summary
+    ensures { λ r. ⌜ r ≡ withPresent summary present ⌝ }
+{
+    let codes = summary.codes;
+    Summary { present, codes }
+}
+
+// With codes that the line writes.
+fn with_codes(summary: Summary, line: Line) -> Summary
+    ensures { λ r. ⌜ r ≡ withCodes summary line ⌝ }
+{
+    let present = summary.present;
+    let mut codes = summary.codes;
+    put_words(line, 2, 1, line.first, &mut codes);
+    Summary { present, codes }
+}
+
+// The eight numbers with those that the line writes.
+fn with_numbers(before: [u64; 8], line: Line) -> [u64; 8]
+    ensures { λ r. ⌜ r ≡ withNumbers before line ⌝ }
+{
+    let mut numbers = before;
+    put_numbers(line, 2, 1, line.first, &mut numbers);
+    numbers
+}
+
+// `f`, `q`, `j` and `t`: the dropped count, the kept weights, codes and counts.
+fn set_kept(kept: Kept, line: Line) -> Kept
+    ensures { λ r. ⌜ r ≡ setKept kept line ⌝ }
+{
+    let mut next = kept;
+    let letter = line.letter;
+    match letter {
+        b'f' => {
+            next.dropped = line.first;
+            return next;
+        }
+        b'q' => {
+            next.summary = with_present(kept.summary, weights(line, 1));
+            return next;
+        }
+        b'j' => {
+            next.summary = with_codes(kept.summary, line);
+            return next;
+        }
+        _ => {
+            let counts = kept.counts;
+            let written = with_numbers(counts, line);
+            next.counts = written;
+            return next;
+        }
+    }
+}
+
+// `r`: the offices, the own one, the weights three times over, the settled length.
+fn set_head(record: Record, line: Line) -> Record
+    ensures { λ r. ⌜ r ≡ setHead «record» line ⌝ }
+{
+    let founding = weights(line, 3);
+    let mut kept = record.kept;
+    kept.summary = with_present(kept.summary, founding);
+    let mut next = record;
+    next.n = line.first as usize;
+    next.own = line.second as usize;
+    next.weights = founding;
+    next.kept = kept;
+    next.summary = with_present(record.summary, founding);
+    next.settled = line.numbers[11];
+    next
+}
+
 // The ballot with cells that the line says.
-fn with_cells(ballot: Ballot, line: Line) -> Ballot {
+fn with_cells(ballot: Ballot, line: Line) -> Ballot
+    ensures { λ r. ⌜ r ≡ withCells ballot line ⌝ }
+{
     let mut cells = ballot.cells;
     put_words(line, 3, 1, line.second, &mut cells);
     Ballot {
@@ -43,7 +118,9 @@ fn with_cells(ballot: Ballot, line: Line) -> Ballot {
 }
 
 // `b` and `a`: the ballots with one of them set.
-fn set_ballot(before: [Ballot; 8], line: Line) -> [Ballot; 8] {
+fn set_ballots(before: [Ballot; 8], line: Line) -> [Ballot; 8]
+    ensures { λ r. ⌜ r ≡ setBallots before line ⌝ }
+{
     let mut ballots = before;
     let k = (line.first % 8) as usize;
     if line.letter == b'b' {
@@ -57,60 +134,37 @@ fn set_ballot(before: [Ballot; 8], line: Line) -> [Ballot; 8] {
     ballots
 }
 
-// The record with what the line says.
-pub fn set(record: Record, line: Line) -> Record {
+// The record with what the line says; nothing is written where it has no room. A letter of no line is taken for `a`.
+pub fn set(record: Record, line: Line) -> Record
+    ensures { λ r. ⌜ r ≡ setRecord «record» line ⌝ }
+{
     let mut next = record;
-    let mut summary = record.summary;
-    let mut kept = record.kept;
-    let mut before = kept.summary;
     let letter = line.letter;
     match letter {
-        b'r' => {
-            let founding = weights(line, 3);
-            next.n = line.first as usize;
-            next.own = line.second as usize;
-            next.weights = founding;
-            summary.present = founding;
-            before.present = founding;
-            next.settled = line.numbers[11];
-        }
+        b'r' => return set_head(record, line),
         b'p' => {
-            let present = weights(line, 1);
-            summary.present = present;
+            next.summary = with_present(record.summary, weights(line, 1));
+            return next;
         }
-        b'q' => {
-            let present = weights(line, 1);
-            before.present = present;
-        }
-        b'f' => kept.dropped = line.first,
         b'k' => {
-            let mut codes = summary.codes;
-            put_words(line, 2, 1, line.first, &mut codes);
-            summary.codes = codes;
-        }
-        b'j' => {
-            let mut codes = before.codes;
-            put_words(line, 2, 1, line.first, &mut codes);
-            before.codes = codes;
-        }
-        b't' => {
-            let mut counts = kept.counts;
-            put_numbers(line, 2, 1, line.first, &mut counts);
-            kept.counts = counts;
+            next.summary = with_codes(record.summary, line);
+            return next;
         }
         b'n' => {
-            let mut noted = record.noted;
-            put_numbers(line, 2, 1, line.first, &mut noted);
-            next.noted = noted;
+            let noted = record.noted;
+            let written = with_numbers(noted, line);
+            next.noted = written;
+            return next;
+        }
+        b'f' | b'j' | b'q' | b't' => {
+            next.kept = set_kept(record.kept, line);
+            return next;
         }
         _ => {
             let ballots = record.ballots;
-            let with_one = set_ballot(ballots, line);
-            next.ballots = with_one;
+            let written = set_ballots(ballots, line);
+            next.ballots = written;
+            return next;
         }
     }
-    kept.summary = before;
-    next.kept = kept;
-    next.summary = summary;
-    next
 }

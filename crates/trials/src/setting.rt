@@ -2,9 +2,9 @@
 use frame::Record;
 use lists::within;
 use trial_lines::Line;
+use trial_lines::Put;
 use trial_lines::put_bytes;
 use trial_lines::put_words;
-use trial_lines::refuse;
 use trial_records::record;
 
 // The record, and how long the log, the output and the message are.
@@ -33,6 +33,29 @@ fn copy(output: &[u8], message: &mut [u8]) {
     }
 }
 
+// Prints that a line is not taken.
+fn refuse() {
+    io::write_all(1, b"?\n");
+}
+
+// Where what was written ends; as before where it is not taken.
+fn taken(put: Put, before: usize) -> usize {
+    if put.done {
+        return put.end;
+    }
+    refuse();
+    before
+}
+
+// The record with what the line says, if it is taken.
+fn set_record(before: Record, line: Line) -> Record {
+    if record::fits(line) {
+        return record::set(before, line);
+    }
+    refuse();
+    before
+}
+
 // Writes what the line says, or prints that it is not taken.
 pub fn set(
     trial: Trial,
@@ -44,20 +67,21 @@ pub fn set(
     let mut next = trial;
     let first = line.first;
     let words = within(trial.words, log.len());
-    let size = within(trial.message, message.len());
+    let before = trial.message;
+    let size = within(before, message.len());
     let letter = line.letter;
     match letter {
         b'd' => return start(),
-        b'l' => next.words = put_words(line, 2, first, 0, log),
+        b'l' => next.words = taken(put_words(line, 2, first, 0, log), trial.words),
         b'w' => {
-            put_words(line, 2, 1, first, &mut log[..words]);
+            taken(put_words(line, 2, 1, first, &mut log[..words]), 0);
         }
-        b'o' => next.output = put_bytes(line, 2, first, 0, output),
-        b'm' => next.message = put_bytes(line, 2, first, trial.message as u64, message),
+        b'o' => next.output = taken(put_bytes(line, 2, first, 0, output), trial.output),
+        b'm' => next.message = taken(put_bytes(line, 2, first, before as u64, message), before),
         b'x' => {
-            put_bytes(line, 2, 1, first, &mut message[..size]);
+            taken(put_bytes(line, 2, 1, first, &mut message[..size]), 0);
         }
-        b'c' => next.message = put_bytes(line, 1, 0, first, &mut message[..size]),
+        b'c' => next.message = taken(put_bytes(line, 1, 0, first, &mut message[..size]), before),
         b'g' => {
             if first > trial.output as u64 {
                 refuse();
@@ -66,7 +90,7 @@ pub fn set(
             next.message = first as usize;
             copy(output, message);
         }
-        _ => next.record = record::set(trial.record, line),
+        _ => next.record = set_record(trial.record, line),
     }
     next
 }
