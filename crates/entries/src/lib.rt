@@ -39,8 +39,7 @@ pub fn proper(n: u32, line: u32, code: u32) -> bool
     (line - LINES < n) & ((1 <= code) & (code < CODES))
 }
 
-// Whether the word is the value of an entry for n offices: one that codes a line, or a move of weight. A walk that leaves at the first word that is
-// no entry is fast by these branches, and a walk over all words of a slice runs on vectors all the same.
+// Whether the word is the value of an entry for n offices: one that codes a line, or a move of weight.
 pub fn is_entry(word: u32, n: usize) -> bool
     ensures { λ r. ⌜ r ≡ isEntry n word ⌝ }
 {

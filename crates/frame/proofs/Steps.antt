@@ -25,7 +25,7 @@ use Rattle.elections.specs.declared.State.{State}
 use Rattle.elections.proofs.Run as E
 use Rattle.elections.proofs.Run.{Running}
 use Rattle.elections.proofs.Steps.{Settling}
-use Rattle.frame.specs.State.{heldLength, stateIn, withHeld, withState}
+use Rattle.frame.specs.State.{heldLength, stateIn, withHeld, withState, withBallots}
 use Rattle.frame.specs.Soundness.{Sound}
 use Rattle.frame.specs.Electing.{Stepping, settledIn, stepIn, stepWordsIn}
 use Rattle.frame.specs.declared.Record.{Record}
@@ -35,10 +35,7 @@ use Rattle.frame.proofs.State.{longest, electable}
 state-of : (r : Record) (s : State) → stateIn (withState r s) ≡ s
 state-of r s = let same : r .kept .dropped + s .held - r .kept .dropped ≡ s .held = omega arith in λ i. record { summary = s .summary; held = same i; ballots = s .ballots }
 
--- the record with these ballots, and what a turn that makes xs of the ballots leaves of it
-abbrev pub withBallots : Record → List Ballot → Record
-withBallots r bs = withHeld r (r .kept) (r .noted) (r .summary) (r .settled) bs
-
+-- what a turn that makes xs of the ballots leaves of the record
 pub next-turn : (r next out : Record) (e : ℕ) (bs : List Ballot) (k : ℕ) → next ≡ withBallots r (next .ballots) → (xs : List Ballot) → out ≡ withBallots next xs → Settling e bs xs k
     → (out ≡ withBallots r (out .ballots)) × Settling e bs (out .ballots) k
 next-turn r next out e bs k p xs q t =

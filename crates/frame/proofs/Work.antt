@@ -31,7 +31,7 @@ use Rattle.elections.specs.declared.State.{State}
 use Rattle.summary.specs.Summary.{summaryAfter}
 use Rattle.kept.specs.Kept.{keptAfter}
 use Rattle.kept.specs.declared.Kept.{Kept}
-use Rattle.frame.specs.State.{heldLength, stateIn, withHeld, withState, withKept, heldBy, foldedBy, keptBy, holding}
+use Rattle.frame.specs.State.{heldLength, stateIn, withHeld, withState, withKept, withNoted, heldBy, foldedBy, keptBy, holding}
 use Rattle.frame.specs.Taking.{takeNumber, takePlaces, takenOffice, takeOf, takeWords}
 use Rattle.frame.specs.declared.Record.{Record}
 use Rattle.frame.specs.declared.taking.Taken.{Taken}
@@ -135,10 +135,10 @@ module _ (r : Record) (words s : List ℕ) (m : Reading) (e : takeNumber r words
     unfolding withFoldedTake
     noted-is = ap (λ (k : ℕ). note (m .sender) (m .dropped + k) (r .noted)) (sym (runAt-length 6 recordAt (m .held) (restOf m s)))
 
-    held-is : (nn : List ℕ) → nn ≡ note (m .sender) (m .dropped + m .held) (r .noted) → (y : Record) → y ≡ withState (withKept r (q .kept) nn) (q .state) → y ≡ holding r words next
+    held-is : (nn : List ℕ) → nn ≡ note (m .sender) (m .dropped + m .held) (r .noted) → (y : Record) → y ≡ withState (withNoted (withKept r (q .kept)) nn) (q .state) → y ≡ holding r words next
     unfolding withFoldedTake
     held-is nn e y p =
-        p ∙ ap (λ (z : Intaken). withState (withKept r (z .kept) nn) (z .state)) made
+        p ∙ ap (λ (z : Intaken). withState (withNoted (withKept r (z .kept)) nn) (z .state)) made
         ∙ λ i. withHeld r (kept-is i) ((e ∙ noted-is) i) (done-is i) (settled-is i) (after .state .ballots)
 
     -- no sum wraps
@@ -149,7 +149,7 @@ module _ (r : Record) (words s : List ℕ) (m : Reading) (e : takeNumber r words
         let x = subst (λ (p : F.Packet). FoldedFine (r .n) (r .own) (withFoldedTake (r .own) p (foldedBy r words))) (sym is-packet) fine in
         omega (arith, ap (λ (z : Intaken). z .kept .dropped + z .state .held) made, settled-is, x .short 0, length-append (next .held .log) (tail (next .held) 0))
 
-    pub take-made : (l : ℕ) → l ≡ takePlaces r words s → (nn : List ℕ) → nn ≡ note (m .sender) (m .dropped + m .held) (r .noted) → (y : Record) → y ≡ withState (withKept r (q .kept) nn) (q .state)
+    pub take-made : (l : ℕ) → l ≡ takePlaces r words s → (nn : List ℕ) → nn ≡ note (m .sender) (m .dropped + m .held) (r .noted) → (y : Record) → y ≡ withState (withNoted (withKept r (q .kept)) nn) (q .state)
         → (_≡_ {A = Taken} (record { number = 0; places = l; «record» = y }) (takeOf r words s)) × (ws ≡ takeWords r words s)
     take-made l g nn n y p =
         let o : next ≡ takenOffice r words s = ap (λ (y : F.Packet). withFoldedTake (r .own) y (foldedBy r words)) is-packet ∙ sym (taken-office r words s taken) in

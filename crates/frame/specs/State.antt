@@ -40,13 +40,19 @@ withState r s = withHeld r (r .kept) (r .noted) (s .summary) (r .kept .dropped +
 abbrev pub stateIn : Record → State
 stateIn r = record { summary = r .summary; held = heldLength r; ballots = r .ballots }
 
--- with other kept values and other noted lengths: what a take changes besides
-abbrev pub withKept : Record → Kept → List ℕ → Record
-withKept r kept noted = withHeld r kept noted (r .summary) (r .settled) (r .ballots)
+-- with other kept values, with other noted lengths, with other ballots
+abbrev pub withKept : Record → Kept → Record
+withKept r kept = withHeld r kept (r .noted) (r .summary) (r .settled) (r .ballots)
+
+abbrev pub withNoted : Record → List ℕ → Record
+withNoted r noted = withHeld r (r .kept) noted (r .summary) (r .settled) (r .ballots)
+
+abbrev pub withBallots : Record → List Ballot → Record
+withBallots r ballots = withHeld r (r .kept) (r .noted) (r .summary) (r .settled) ballots
 
 -- with another own ballot, and the own ballot
 abbrev pub withOwn : Record → Ballot → Record
-withOwn r b = withHeld r (r .kept) (r .noted) (r .summary) (r .settled) (set (r .ballots) (r .own) b)
+withOwn r b = withBallots r (set (r .ballots) (r .own) b)
 
 abbrev pub ownBallot : Record → Ballot
 ownBallot r = getD (r .ballots) (r .own) B.offEnd

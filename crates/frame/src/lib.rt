@@ -3,7 +3,7 @@
 ghost use mathlib.Core.Path.{_≡_};
 ghost use Rattle.frame.specs.Soundness.{soundB};
 ghost use Prim.Native.Nat.{_+_, _<_, _≤_};
-ghost use Rattle.frame.specs.State.{heldLength, stateIn, withKept, withState, ownBallot, withOwn};
+ghost use Rattle.frame.specs.State.{heldLength, stateIn, withKept, withNoted, withState, ownBallot, withOwn};
 use ballots::Ballot;
 use elections::State;
 use kept::Kept;
@@ -77,7 +77,7 @@ impl Record {
 
     // The record with other kept values and other noted lengths: what a take changes besides.
     fn with_kept(self, kept: Kept, noted: [u64; 8]) -> Record
-        ensures { λ r. ⌜ r ≡ withKept self kept noted ⌝ }
+        ensures { λ r. ⌜ r ≡ withNoted (withKept self kept) noted ⌝ }
     {
         let mut next = self;
         next.kept = kept;

@@ -11,7 +11,7 @@ use Rattle.protocol.specs.Office.{Office}
 use Rattle.ballots.specs.Ballots.{ballotOf, noBallot}
 use Rattle.ballots.specs.declared.Ballot.{Ballot}
 use Rattle.decimal.specs.Printing.{glyph}
-use Rattle.frame.specs.State.{withHeld}
+use Rattle.frame.specs.State.{withBallots}
 use Rattle.frame.specs.Electing.{electOf, electWords}
 use Rattle.frame.specs.declared.Record.{Record}
 
@@ -34,8 +34,8 @@ abbrev pub emptyLog : List ℕ
 emptyLog = replicate 1024 0
 
 -- the record with these ballots of the first three offices, and no others
-abbrev pub withBallots : Record → List Ballot → Record
-withBallots r bs = withHeld r (r .kept) (r .noted) (r .summary) (r .settled) (bs ++ replicate 5 noBallot)
+abbrev pub withThree : Record → List Ballot → Record
+withThree r bs = withBallots r (bs ++ replicate 5 noBallot)
 
 -- "the entries that elect settles from an empty log": as many as it answers, at the log's front
 abbrev pub settledFrom : Record → List ℕ
@@ -43,7 +43,7 @@ settledFrom r = take (electOf r emptyLog .count) (electWords r emptyLog)
 
 -- the same of a founded record with a table of tails
 abbrev pub tableSettled : Record → List (List ℕ) → List ℕ
-tableSettled r t = settledFrom (withBallots r (map ballotOf t))
+tableSettled r t = settledFrom (withThree r (map ballotOf t))
 
 -- the state of the office that elects: an empty log, and no ballots but the three
 abbrev pub tableOffice : List (List ℕ) → Office

@@ -9,7 +9,7 @@ ghost use Rattle.protocol.specs.Entry.{officeOf};
 ghost use Rattle.ballots.specs.Ballots.{tailOf};
 ghost use Rattle.frame.specs.Electing.{electOf};
 ghost use Rattle.tables.specs.Tables.{tables, tableAt};
-ghost use Rattle.table_lines.specs.Lines.{shown, emptyLog, withBallots, settledFrom, lineOf, linesOf, few};
+ghost use Rattle.table_lines.specs.Lines.{shown, emptyLog, withThree, settledFrom, lineOf, linesOf, few};
 use ballots::Ballot;
 use decimal::put_number;
 use frame::Record;
@@ -71,7 +71,7 @@ fn put_settled(out: &mut [u8], at: usize, record: Record) -> usize
 
 // The record with three ballots, and no others.
 fn with_ballots(record: Record, a: Ballot, b: Ballot, c: Ballot) -> Record
-    ensures { λ r. ⌜ r ≡ withBallots «record» (a ∷ b ∷ c ∷ []) ⌝ }
+    ensures { λ r. ⌜ r ≡ withThree «record» (a ∷ b ∷ c ∷ []) ⌝ }
 {
     let none = Ballot::none();
     let mut ballots = [none; 8];

@@ -11,10 +11,10 @@ use borrow.Author.Tests.{ne-eqb}
 use Rattle.lists.specs.Tests.{pick}
 use Rattle.kept.specs.declared.Kept.{Kept}
 use Rattle.frame.specs.declared.Record.{Record}
-use Rattle.frame.specs.State.{withNoted}
+use Rattle.frame.specs.State.{withKept, withNoted, withBallots}
 use Rattle.trial_lines.specs.declared.line.Line.{Line}
 use Rattle.trial_lines.specs.Writing.{hasRoom, weightsFrom}
-use Rattle.trial_records.specs.Setting.{letterA, letterF, letterJ, letterK, letterN, letterP, letterQ, letterR, letterT, fitsRecord, withPresent, withCodes, withDone, withNumbers, setKept, setHead, setBallots, withSummary, withKept, withBallots, setRecord}
+use Rattle.trial_records.specs.Setting.{letterA, letterF, letterJ, letterK, letterN, letterP, letterQ, letterR, letterT, fitsRecord, withPresent, withCodes, withDone, withNumbers, setKept, setHead, setBallots, withSummary, setRecord}
 
 module _ (l : Line) where
   -- the line has another letter

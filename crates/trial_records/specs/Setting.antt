@@ -10,7 +10,7 @@ use Rattle.ballots.specs.declared.Ballot.{Ballot}
 use Rattle.summary.specs.declared.Summary.{Summary}
 use Rattle.kept.specs.declared.Kept.{Kept}
 use Rattle.frame.specs.declared.Record.{Record}
-use Rattle.frame.specs.State.{withHeld, withNoted}
+use Rattle.frame.specs.State.{withHeld, withKept, withNoted, withBallots}
 use Rattle.trial_lines.specs.declared.line.Line.{Line}
 use Rattle.trial_lines.specs.Writing.{hasRoom, putInto, low32, whole, weightsFrom}
 
@@ -101,15 +101,9 @@ setBallots bs l =
     set bs (l .first % 8)
     (pick (is l letterB) (record { len = l .second; cells = replicate 32 0 }) (withCells (getD bs (l .first % 8) offEnd) l))
 
--- the record with one part of it set
+-- the record with another summary
 abbrev pub withSummary : Record → Summary → Record
 withSummary r s = withHeld r (r .kept) (r .noted) s (r .settled) (r .ballots)
-
-abbrev pub withKept : Record → Kept → Record
-withKept r k = withHeld r k (r .noted) (r .summary) (r .settled) (r .ballots)
-
-abbrev pub withBallots : Record → List Ballot → Record
-withBallots r bs = withHeld r (r .kept) (r .noted) (r .summary) (r .settled) bs
 
 -- `p` sets the present weights, `k` writes stored codes, `n` noted lengths; a letter of no line is taken for `a`
 unfoldable pub setRecord : Record → Line → Record

@@ -6,8 +6,8 @@ use Prim.Native.Nat.{ℕ, _+_, _-_, _<_, _≤_}
 use lib.ListN.{length, set, length-set}
 use borrow.Author.Needs.{needs}
 use Rattle.elections.proofs.Steps.{Settling, shape-here, lost-first, lost-rival, lost-keep, lost-end}
-use Rattle.frame.specs.State.{withHeld}
-use Rattle.frame.proofs.Steps.{withBallots, next-turn, settled-is}
+use Rattle.frame.specs.State.{withHeld, withBallots}
+use Rattle.frame.proofs.Steps.{next-turn, settled-is}
 use Rattle.frame.proofs.Record.settle.Statement.{statement}
 use Rattle.frame.proofs.Record.settle.Tie as tie
 

@@ -4,13 +4,13 @@ use native.Mathlib.Omega.{arith}
 use mathlib.Core.Path.{_≡_, refl, ap, _∙_}
 use Prim.Native.Nat.{ℕ, _-_}
 use lib.ListN.{length}
-use Rattle.lists.proofs.Fold.{Folded, fold-next, fold-done}
+use Rattle.lists.proofs.Fold.{FoldedUpTo, fold-next, fold-done}
 use Rattle.trial_records.specs.Digest.{digestWith, digestFrom}
 use Rattle.trial_records.proofs.digest.with_bytes.Statement.{statement}
 use Rattle.trial_records.proofs.digest.with_bytes.Tie as tie
 
 abbrev Inv-loop : tie.InvT-loop
-Inv-loop start bytes h₀ i₀ i-end h i = (i-end ≡ length bytes) × Folded digestWith h₀ bytes h i
+Inv-loop start bytes h₀ i₀ i-end h i = (i-end ≡ length bytes) × FoldedUpTo digestWith h₀ bytes h i
 
 abbrev μ-loop : tie.MeasureT-loop
 μ-loop start bytes h₀ i₀ i-end h i = i-end - i

@@ -4,13 +4,13 @@ use native.Mathlib.Omega.{arith}
 use mathlib.Core.Path.{_≡_, refl}
 use Prim.Native.Nat.{_-_}
 use lib.ListN.{length}
-use Rattle.lists.proofs.Fold.{Folded, fold-next, fold-done}
+use Rattle.lists.proofs.Fold.{FoldedUpTo, fold-next, fold-done}
 use Rattle.trial_records.specs.Digest.{digestWith}
 use Rattle.trial_records.proofs.digest.with_eight.Statement.{statement}
 use Rattle.trial_records.proofs.digest.with_eight.Tie as tie
 
 abbrev Inv-loop : tie.InvT-loop
-Inv-loop start numbers h₀ i₀ h i = Folded digestWith start numbers h i
+Inv-loop start numbers h₀ i₀ h i = FoldedUpTo digestWith start numbers h i
 
 abbrev μ-loop : tie.MeasureT-loop
 μ-loop start numbers h₀ i₀ h i = 8 - i

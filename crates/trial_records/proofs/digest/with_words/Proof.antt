@@ -4,13 +4,13 @@ use native.Mathlib.Omega.{arith}
 use mathlib.Core.Path.{_≡_, refl}
 use Prim.Native.Nat.{_-_}
 use lib.ListN.{length}
-use Rattle.lists.proofs.Fold.{Folded, fold-next, fold-done}
+use Rattle.lists.proofs.Fold.{FoldedUpTo, fold-next, fold-done}
 use Rattle.trial_records.specs.Digest.{digestWith}
 use Rattle.trial_records.proofs.digest.with_words.Statement.{statement}
 use Rattle.trial_records.proofs.digest.with_words.Tie as tie
 
 abbrev Inv-loop : tie.InvT-loop
-Inv-loop start words h₀ i₀ i-end h i = (i-end ≡ length words) × Folded digestWith start words h i
+Inv-loop start words h₀ i₀ i-end h i = (i-end ≡ length words) × FoldedUpTo digestWith start words h i
 
 abbrev μ-loop : tie.MeasureT-loop
 μ-loop start words h₀ i₀ i-end h i = i-end - i

@@ -1,8 +1,8 @@
 -- At each letter the definition picks what the arm makes.
 use borrow.Author.Needs.{needs}
 use mathlib.Core.Path.{sym, ap, _∙_}
-use Rattle.frame.specs.State.{withNoted}
-use Rattle.trial_records.specs.Setting.{withPresent, withSummary, withKept, withBallots}
+use Rattle.frame.specs.State.{withKept, withNoted, withBallots}
+use Rattle.trial_records.specs.Setting.{withPresent, withSummary}
 use Rattle.trial_records.proofs.Letters.{set-r, set-p, set-k, set-n, set-kept, set-ballots}
 use Rattle.trial_records.proofs.record.set.Statement.{statement}
 use Rattle.trial_records.proofs.record.set.Tie as tie
