@@ -1,7 +1,6 @@
 -- The number of a take by the logs, and the places of their comparison, each way out in the order of the definitions.
 --     by-none, by-compared          the answer with a number that came to no comparison, and with one that did
 --     past, inside, apart, meets    16, 17, 10 and 0
---     meeting                       what is known where the number is 0
 -- Assumes nothing.
 use mathlib.Core.Path.{_≡_, refl, sym, ap, _∙_}
 use mathlib.Core.Bool.{Bool, true, false}
@@ -60,18 +59,3 @@ module _ (dropped : ℕ) (log : List ℕ) (other : ℕ) (theirs : List ℕ) wher
       pub meets : comparable ownPart theirPart ≡ true → 0 ≡ logsRefusal dropped log other theirs
       unfolding logsRefusal pick
       meets c = rw (begins-within, ends-past, c)
-
-  -- what is known where the number is 0
-  abbrev pub Meeting : Type 0
-  Meeting = (other ≤ dropped + length log) × ((dropped ≤ other + length theirs) × (comparable ownPart theirPart ≡ true))
-
-  pub meeting : logsRefusal dropped log other theirs ≡ 0 → Meeting
-  unfolding logsRefusal pick
-  meeting e = go (ltb (dropped + length log) other) refl (ltb (other + length theirs) dropped) refl (comparable ownPart theirPart) refl e
-    where
-      go : (a : Bool) → ltb (dropped + length log) other ≡ a → (b : Bool) → ltb (other + length theirs) dropped ≡ b → (c : Bool) → comparable ownPart theirPart ≡ c
-          → _≡_ {A = ℕ} (pick a 16 (pick b 17 (pick c 0 10))) 0 → Meeting
-      go true p b q c r z = absurd (omega arith)
-      go false p true q c r z = absurd (omega arith)
-      go false p false q false r z = absurd (omega arith)
-      go false p false q true r z = (omega (arith, ltb-false (dropped + length log) other p), (omega (arith, ltb-false (other + length theirs) dropped q), r))

@@ -1,6 +1,6 @@
 -- The election step, and the run of steps.
 --     winning            a winner is an entry, and the log has room for it
---     step-won, step-nobody, step-most   what the step answers and writes
+--     step-won, step-nobody      what the step answers and writes
 --     rule-voted         the rule's winner has a vote
 --     Running            what a run of steps keeps; run-start, run-more, run-last, run-end; run-counts, counts-room of the counts of the settled log
 -- Assumes nothing.
@@ -64,15 +64,6 @@ module _ (counts : List ℕ) (s : State) (words : List ℕ) where
   pub step-nobody : winnerIn counts s words ≡ none → (s ≡ stepOf counts s words) × (words ≡ stepWords counts s words)
   unfolding stepOf stepWords
   step-nobody w = (ap (λ (o : Option ℕ). next o s (settledBy s)) (sym w), ap (λ (o : Option ℕ). next o words (set words (s .held))) (sym w))
-
-  -- it settles one entry at most
-  pub step-most : stepOf counts s words .held ≤ s .held + 1
-  unfolding stepOf
-  step-most = most (winnerIn counts s words)
-    where
-      most : (w : Option ℕ) → next w s (settledBy s) .held ≤ s .held + 1
-      most (some e) = omega arith
-      most none = omega arith
 
 -- ── the step as the rule has it ──
 pub rule-voted : (kept : Kept) → NamesVoted (ruleBehind kept)

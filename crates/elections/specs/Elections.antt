@@ -1,5 +1,5 @@
--- What changes of a record, the office's state that it holds with a log's words, and what an election step and elections until no entry wins make of
--- both. Assumes nothing.
+-- What takes and elections change of a record, the office that it holds with a log's words, and what an election step and elections until no entry
+-- wins make of both. Assumes nothing.
 use Prim.Native.Nat.{ℕ, _+_, _≤_}
 use mathlib.Core.Path.{_≡_}
 use mathlib.Core.Bool.{true}
@@ -21,11 +21,11 @@ use Rattle.kept.specs.Kept.{ruleBehind}
 use Rattle.kept.specs.declared.Kept.{Kept}
 use Rattle.elections.specs.declared.State.{State}
 
--- the office's state in a log's words and a record's
+-- the office that a state and a log's words hold
 abbrev pub heldIn : State → List ℕ → Office
 heldIn s words = officeIn words (s .held) (s .ballots)
 
--- what holds an office's state, behind dropped entries of which this is kept
+-- the state that holds an office, behind dropped entries of which `kept` is kept
 abbrev pub stateOf : Kept → Office → State
 stateOf kept o = record { summary = summaryAfter (kept .summary) (o .log); held = length (o .log); ballots = map ballotOf (o .tails) }
 

@@ -1,4 +1,4 @@
-// What an election step reads and changes of a record: the votes that the ballots cast, and the state that the step's laws are about.
+// What takes and elections change of a record (`State`), and the votes of an election step.
 ghost use mathlib.Core.Path.{_≡_};
 ghost use Prim.Native.Nat.{_≤_};
 ghost use Rattle.elections.specs.Elections.{votesTo};

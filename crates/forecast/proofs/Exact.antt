@@ -32,11 +32,11 @@ use Rattle.bounds.proofs.Exact as sure
 use Rattle.bounds.proofs.Eight.{Silent, winner-eight, eight-zeros}
 use Rattle.frame.specs.State.{heldBy}
 use Rattle.frame.specs.Soundness.{soundB, Sound}
-use Rattle.frame.specs.Electing.{winnerOf}
+use Rattle.frame.specs.Electing.{tieOrder, winnerOf}
 use Rattle.frame.specs.declared.Record.{Record}
 use Rattle.frame.proofs.Sound.{sound}
 use Rattle.frame.proofs.State.{folded-fine}
-use Rattle.forecast.specs.Forecast.{tieOrder, boundsOf, namedOf, forecastNumber, forecastOf}
+use Rattle.forecast.specs.Forecast.{boundsOf, namedOf, forecastNumber, forecastOf}
 use Rattle.forecast.specs.Exact.{Exact, Alike}
 
 module _ (r : Record) (words lowest highest : List ℕ) where

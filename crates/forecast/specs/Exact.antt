@@ -17,8 +17,9 @@ use Rattle.protocol.specs.Office.{votes}
 use Rattle.tallies.specs.declared.Winner.the-variants.{Entry, Nobody}
 use Rattle.bounds.specs.Bounds.{WinsSurely}
 use Rattle.frame.specs.State.{heldBy}
+use Rattle.frame.specs.Electing.{tieOrder}
 use Rattle.frame.specs.declared.Record.{Record}
-use Rattle.forecast.specs.Forecast.{tieOrder, boundsOf, forecastOf}
+use Rattle.forecast.specs.Forecast.{boundsOf, forecastOf}
 
 -- "it wins under every choice, by document 01's winning rule with the tie order of its day; a total of zero counts as a choice": for every list of n
 -- weights, each at least the lowest and at most the highest of its place

@@ -2,30 +2,25 @@
 -- say that none would." What is named is computed here, by the worst choice for each entry; that this is what the request says is claimed in
 -- `Exact`. Assumes nothing.
 use Prim.Native.Nat.{ℕ}
-use mathlib.Core.Bool.{Bool}
 use mathlib.Core.List.{List}
 use mathlib.Core.Option.{Option, none}
 use lib.Dec.{eqb}
 use lib.ListN.{take}
 use Rattle.lists.specs.Tests.{pick}
-use Rattle.protocol.specs.Counts.{quieter}
 use Rattle.protocol.specs.Office.{votes}
 use Rattle.tallies.specs.Tallies.{winnerIs}
 use Rattle.bounds.specs.Bounds.{fits, sureWinner}
 use Rattle.frame.specs.State.{heldBy}
 use Rattle.frame.specs.Soundness.{soundB}
+use Rattle.frame.specs.Electing.{tieOrder}
 use Rattle.frame.specs.declared.Record.{Record}
 use Rattle.forecast.specs.declared.Forecast.{Forecast}
-
--- "with the tie order of its day": by the counts of the record's settled log, (xiv) the dropped entries' being the kept ones
-abbrev pub tieOrder : Record → List ℕ → ℕ → ℕ → Bool
-tieOrder r words = quieter (r .kept .counts) (heldBy r words .log)
 
 -- "Bounds from place n on aren't looked at"
 abbrev pub boundsOf : Record → List ℕ → List ℕ
 boundsOf r cells = take (r .n) cells
 
--- the entry that is named, if any
+-- the entry that is named, if any, "with the tie order of its day"
 abbrev pub namedOf : Record → List ℕ → List ℕ → List ℕ → Option ℕ
 namedOf r words lowest highest = sureWinner (boundsOf r lowest) (boundsOf r highest) (tieOrder r words) (votes (heldBy r words))
 

@@ -69,10 +69,6 @@ module _ (r : Record) (words : List ℕ) (S : Sound r words) where
   pub electable : Electable (r .n) (r .kept) (stateIn r) words
   electable = record { limits = limits; done = S .done; countable = λ k. omega (arith, count-within (r .n) (r .weights) (r .kept) (S .kept) k, S .within, within-limit) }
 
-  -- the same of the state that the code makes, and of the own ballot
-  pub electable-in : (s : State) → s ≡ stateIn r → Electable (r .n) (r .kept) s words
-  electable-in s q = subst (λ (x : State). Electable (r .n) (r .kept) x words) (sym q) electable
-
   pub log-length : length (heldBy r words .log) ≡ heldLength r
   log-length = Holding.log-length _ _ words limits
 

@@ -5,7 +5,7 @@
 --     Run             what a run keeps, from a sound record with its words, beside the counts of the settled log
 --     run-start       it begins with the record itself
 --     stepping        each record of it may take a step
---     run-more, run-place, run-room   a step that settles an entry: the run is longer, and the entry is counted
+--     run-more, run-place, run-room   a step that settles an entry: the run is longer; where the entry stands; it can be counted
 --     run-long, run-end               a step that settles none: what elections make
 -- Assumes nothing.
 use mathlib.Core.Path.{_≡_, refl, sym, ap, subst, _∙_}
@@ -27,7 +27,7 @@ use Rattle.elections.proofs.Run.{Running}
 use Rattle.elections.proofs.Steps.{Settling}
 use Rattle.frame.specs.State.{heldLength, stateIn, withHeld, withState, withBallots}
 use Rattle.frame.specs.Soundness.{Sound}
-use Rattle.frame.specs.Electing.{Stepping, settledIn, stepIn, stepWordsIn}
+use Rattle.frame.specs.Stepping.{Stepping, settledIn, stepIn, stepWordsIn}
 use Rattle.frame.specs.declared.Record.{Record}
 use Rattle.frame.proofs.State.{longest, electable}
 
@@ -113,10 +113,11 @@ module _ (r : Record) (words₀ : List ℕ) (S : Sound r words₀) where
         more : Running (r .n) (r .kept) (stateIn r) words₀ after last × (after .held ≡ R .state .held + 1) × (R .state .held < 1024)
         more = E.run-more _ _ _ _ _ _ (R .running) counts (R .tally) after refl last last-made grew
 
-        -- the place where the entry was written, and the counts with it
+        -- the entry's place is one of the log's 1024, and there are as many words as at the start
         pub run-place : (heldLength r + count < 1024) × (length last ≡ length words₀)
         run-place = (omega (arith, R .long, more .2), more .0 .long)
 
+        -- one entry more can be counted
         pub run-room : (k : ℕ) → countOf counts k < 18446744073709551615
         run-room = E.counts-room _ _ _ _ (R .running .sound) counts (R .tally)
 

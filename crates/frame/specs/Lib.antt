@@ -1,5 +1,6 @@
 -- The definitions that the contracts of `frame` cite: a file for each of src/.
 pub mod State
+pub mod Stepping
 pub mod Soundness
 pub mod Founding
 pub mod Issuing

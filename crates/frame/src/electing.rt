@@ -3,7 +3,8 @@ ghost use mathlib.Core.Path.{_≡_};
 ghost use Prim.Native.Nat.{_<_};
 ghost use lib.ListN.{set};
 ghost use Rattle.frame.specs.State.{heldLength};
-ghost use Rattle.frame.specs.Electing.{Stepping, settledIn, stepIn, stepWordsIn, electOf, electWords};
+ghost use Rattle.frame.specs.Electing.{electOf, electWords};
+ghost use Rattle.frame.specs.Stepping.{Stepping, settledIn, stepIn, stepWordsIn};
 use crate::Record;
 use ballots::Ballot;
 use tallies::Winner;
@@ -42,8 +43,8 @@ impl Record {
         next
     }
 
-    // One election step, by the present weights and the counts of entries in the settled log: the winner is written to the log and the next record
-    // handed back; the record itself where no entry wins.
+    // One election step, by the present weights and these counts: the winner is written to the log and the next record handed back; the record itself
+    // where no entry wins. Elect hands it the counts of the settled log, dropped entries included.
     fn step(self, counts: [u64; 8], log: &mut [u32]) -> Record
         requires { ⌜ Stepping self (now log) ⌝ }
         ensures { λ r. ⌜ (r ≡ stepIn counts self (now (log .entry))) × (now (log .exit) ≡ stepWordsIn counts self (now (log .entry))) ⌝ }

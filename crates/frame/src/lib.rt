@@ -76,7 +76,7 @@ impl Record {
     }
 
     // The record with other kept values and other noted lengths: what a take changes besides.
-    fn with_kept(self, kept: Kept, noted: [u64; 8]) -> Record
+    fn with_kept_and_noted(self, kept: Kept, noted: [u64; 8]) -> Record
         ensures { λ r. ⌜ r ≡ withNoted (withKept self kept) noted ⌝ }
     {
         let mut next = self;

@@ -43,7 +43,7 @@ impl Record {
         let taken = intake::take_in(log, self.state(), kept, own, rest, m);
         let lengths = self.noted;
         let noted = noting::noted(lengths, m.sender, m.dropped + m.held as u64);
-        let behind = self.with_kept(taken.kept, noted);
+        let behind = self.with_kept_and_noted(taken.kept, noted);
         let next = behind.with_state(taken.state);
         Taken {
             record: next,

@@ -1,7 +1,7 @@
 -- The tests that the definitions of every crate are made of. Assumes nothing.
-use mathlib.Core.Bool.{Bool, true, false}
+use mathlib.Core.Bool.{Bool, true, false, cond}
 use mathlib.Core.List.{List, [], _∷_}
-use Prim.Native.Nat.{ℕ}
+use Prim.Native.Nat.{ℕ, _+_}
 use lib.Dec.{eqb}
 
 -- both tests hold
@@ -25,3 +25,8 @@ same [] [] = true
 same [] (v ∷ vs) = false
 same (w ∷ ws) [] = false
 same (w ∷ ws) (v ∷ vs) = both (eqb w v) (same ws vs)
+
+-- how often x stands in a list
+unfoldable pub times : ℕ → List ℕ → ℕ
+times x [] = 0
+times x (y ∷ ys) = cond (eqb x y) 1 0 + times x ys

@@ -3,7 +3,7 @@
 -- issue it (`at-most-as-many`). Assumes nothing.
 use mathlib.Core.Path.{_≡_, refl, sym, ap, ap₂, subst, _∙_}
 use mathlib.Core.List.{List, [], _∷_, _++_, map, append-assoc}
-use mathlib.Core.Bool.{Bool, true, false, false≢true}
+use mathlib.Core.Bool.{Bool, true, false, cond, false≢true}
 use mathlib.Core.Logic.{_⊎_, inl, inr}
 use Prim.Native.Nat.{ℕ, zero, suc, _+_, _≤_, _<_}
 use native.Mathlib.Omega.{arith}
@@ -12,7 +12,7 @@ use lib.ListN as L
 use lib.ListN.{length, getD, set, length-take}
 use lib.Seq.{getD-set-other}
 use borrow.Author.Tests.{eqb-true, eq-eqb, lt-ltb}
-use Rattle.lists.specs.Tests.{pick}
+use Rattle.lists.specs.Tests.{pick, times}
 use Rattle.lists.proofs.Tests.{both-true}
 use Rattle.protocol.specs.Beginning.{_⊑_, _⊏_}
 use Rattle.protocol.specs.Entry.{value, officeOf, lineOf, codeOf}
@@ -22,7 +22,7 @@ use Rattle.protocol.proofs.Office.{OfficeMoves}
 use Rattle.agreement.specs.World.{World, Call, issue, number, step, after}
 use Rattle.agreement.specs.Demand.{Founded, viewAt, order, IssuedIn}
 use Rattle.agreement.proofs.Demand.{one-order}
-use Rattle.lost_for_good.specs.LostForGood.{times, issuesIt, issuesOf, AtMostOnce}
+use Rattle.lost_for_good.specs.LostForGood.{issuesIt, issuesOf, AtMostOnce}
 use Rattle.lost_for_good.proofs.Moves.{officeAt, path-is, sound, list-moves, issue-view}
 use Rattle.lost_for_good.proofs.LostForGood.{parts-value}
 
@@ -56,10 +56,15 @@ at-most-as-many R one (true ∷ l) m has =
     omega (arith, one-fewer m i (first .1))
 
 -- ── the places of a value ──
+one : (t : Bool) → cond t 1 0 ≡ pick {A = ℕ} t 1 0
+unfolding pick
+one true = refl
+one false = refl
+
 times-trues : (v : ℕ) (q : List ℕ) → times v q ≡ trues (map (eqb v) q)
 unfolding times trues
 times-trues v [] = refl
-times-trues v (e ∷ q) = ap (λ (r : ℕ). pick (eqb v e) 1 0 + r) (times-trues v q)
+times-trues v (e ∷ q) = ap₂ (λ (x r : ℕ). x + r) (one (eqb v e)) (times-trues v q)
 
 place-of : (v : ℕ) (q : List ℕ) (a : ℕ) → getD (map (eqb v) q) a false ≡ true → (a < length q) × (getD q a 0 ≡ v)
 place-of v [] a h = absurd (false≢true h)

@@ -28,7 +28,7 @@ use Rattle.protocol.specs.Fair.{fair}
 use Rattle.protocol.specs.Moves.{isMove, canShift, move, weightsAfter}
 use Rattle.summary.specs.Summary.{sameSummary}
 use Rattle.protocol.specs.Take.{catchUp, rebase, refuseTake, withTake}
-use Rattle.lists.specs.Tests.{allB, both, pick, same}
+use Rattle.lists.specs.Tests.{allB, both, pick, same, times}
 use Rattle.protocol.specs.Vote.{supported, tally, unheard, winner, wins}
 use Rattle.ballots.specs.Ballots.{ballotShape}
 use Rattle.kept.specs.Kept.{isKeptCode, weightsKept, codesKept, countsKept, nothingKept, keptFine}
@@ -52,7 +52,7 @@ use Rattle.agreement.specs.World.{Replica, World, Call, issue, send, take, elec
 use Rattle.agreement.specs.Demand.{Founded, says, logAt, viewAt, order, IssuedIn}
 use Rattle.agreement.proofs.Founded.{foundReplica}
 use Rattle.agreement.proofs.ThreeOffices.{usualWeights, emptyLog, threeOffices, three-founded}
-use Rattle.lost_for_good.specs.LostForGood.{Settled, Pending, LostIn, times, issuesIt, issuesOf}
+use Rattle.lost_for_good.specs.LostForGood.{Settled, Pending, LostIn, issuesIt, issuesOf}
 
 -- ── a list of calls ──
 -- a send with room for its message

@@ -14,7 +14,7 @@ use mathlib.Core.Option.{some}
 use Prim.Native.Nat.{ℕ, _+_, _≤_}
 use lib.Dec.{eqb, ltb}
 use lib.ListN.{length}
-use Rattle.lists.specs.Tests.{both, pick}
+use Rattle.lists.specs.Tests.{both, pick, times}
 use Rattle.protocol.specs.Entry.{value, officeOf, lineOf, codeOf}
 use Rattle.protocol.specs.Beginning.{_⊑_}
 use Rattle.protocol.specs.Office.{path}
@@ -97,11 +97,6 @@ pub record ToldLost (start : World) (cs : List Call) : Type 0 where
       × ((earlier later : List Call) → earlier ++ later ≡ cs → (j : ℕ) → Settled (after start earlier) j p e → ⊥)
 
 -- ── to issue it again ──
--- how often the value stands in a list
-unfoldable pub times : ℕ → List ℕ → ℕ
-times v [] = 0
-times v (e ∷ l) = pick (eqb v e) 1 0 + times v l
-
 -- the call is a done issue of the value, at an office that is there
 unfoldable pub issuesIt : World → ℕ → Call → Bool
 issuesIt w v (issue k line code) = both (eqb (value k line code) v) (both (ltb k (length (w .replicas))) (eqb (number w (issue k line code)) 0))

@@ -1,6 +1,6 @@
--- The parts on whole logs, dropped entries included, are those on what is held: p was dropped before the call and q is after it, o and o' are what is
+-- What is lost on whole logs, dropped entries included, is what is lost of what is held: p was dropped before the call and q is after it, o and o' are what is
 -- held, and no call drops more than was settled before it.
---     settled-held, pending-held, lost-held     the dropped entries are not looked at
+--     lost-held     the dropped entries are not looked at
 -- Assumes nothing.
 use mathlib.Core.Path.{_≡_, ap, _∙_}
 use mathlib.Core.List.{List, _++_, append-assoc}
@@ -10,7 +10,7 @@ use lib.ListN.{length, drop, length-append}
 use lib.Seq.{drop-append-add}
 use Rattle.protocol.specs.Office.{Office, tail, path}
 use Rattle.protocol.proofs.FoldedWorld.{whole}
-use Rattle.pending.specs.Parts.{settledPart, pendingPart, lostPart, settledOf, pendingOf, lostOf}
+use Rattle.pending.specs.Parts.{lostPart, lostOf}
 
 module _ (k : ℕ) (p q : List ℕ) (o o' : Office) (low : length q ≤ length p + length (o .log)) where
   -- the place of the tail in what is held after the call
@@ -24,12 +24,6 @@ module _ (k : ℕ) (p q : List ℕ) (o o' : Office) (low : length q ≤ length p
 
   past-path : drop (length (p ++ o .log)) (path (whole q o') k) ≡ drop placeOf (path o' k)
   past-path = ap (drop (length (p ++ o .log))) (append-assoc q (o' .log) (tail o' k)) ∙ past (path o' k)
-
-  pub settled-held : settledOf k (whole p o) (whole q o') ≡ settledPart (tail o k) (drop placeOf (o' .log))
-  settled-held = ap (settledPart (tail o k)) (past (o' .log))
-
-  pub pending-held : pendingOf k (whole p o) (whole q o') ≡ pendingPart (tail o k) (drop placeOf (o' .log)) (drop placeOf (path o' k))
-  pending-held = λ i. pendingPart (tail o k) (past (o' .log) i) (past-path i)
 
   pub lost-held : lostOf k (whole p o) (whole q o') ≡ lostPart (tail o k) (drop placeOf (path o' k))
   lost-held = ap (lostPart (tail o k)) past-path

@@ -17,7 +17,7 @@ use Rattle.protocol.specs.Beginning.{_⊑_, _⊏_}
 use Rattle.protocol.specs.Office.{tail, path}
 use Rattle.ballots.specs.Ballots.{noBallot}
 use Rattle.frame.specs.declared.Record.{Record}
-use Rattle.frame.specs.State.{heldBy, withHeld}
+use Rattle.frame.specs.State.{heldBy, withBallots}
 use Rattle.frame.specs.Taking.{takeOf}
 use Rattle.frame.specs.Electing.{electOf}
 use Rattle.agreement.specs.World.{Replica, Posted, World, replicaAt, messageAt, taken, elected}
@@ -48,7 +48,7 @@ pub record NeverUnsettles (d d' : Replica) : Type 0 where
 -- ── in either order, in the world of document 01 ──
 -- the record but for its ballot of office k
 abbrev pub without : ℕ → Record → Record
-without k r = withHeld r (r .kept) (r .noted) (r .summary) (r .settled) (set (r .ballots) k noBallot)
+without k r = withBallots r (set (r .ballots) k noBallot)
 
 -- "the same settled log and the same ballots of the other offices", those other than k
 pub record SameButOwn (k : ℕ) (d d' : Replica) : Type 0 where

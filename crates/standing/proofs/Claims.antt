@@ -11,7 +11,7 @@ use lib.Dec.{eqb}
 use lib.ListN.{length, getD, drop, length-map, length-append}
 use lib.Seq.{getD-drop, getD-at, getD-set-same, getD-set-other}
 use borrow.Author.Tests.{eqb-true}
-use Rattle.lists.specs.Tests.{allB}
+use Rattle.lists.specs.Tests.{allB, times}
 use Rattle.lists.proofs.Tests.{all-getD}
 use Rattle.lists.proofs.Padded.{padded-past}
 use Rattle.protocol.specs.Counts.{quieter}
@@ -32,14 +32,14 @@ use Rattle.bounds.specs.Bounds.{inEight}
 use Rattle.rows.specs.Rows.{rowEntries, rowsOf, marks}
 use Rattle.frame.specs.State.{heldLength, heldBy}
 use Rattle.frame.specs.Soundness.{soundB, Sound}
-use Rattle.frame.specs.Electing.{ruleOf, electOf, electWords, winnerOf}
+use Rattle.frame.specs.Electing.{tieOrder, ruleOf, electOf, electWords, winnerOf}
 use Rattle.frame.specs.declared.Record.{Record}
 use Rattle.frame.proofs.State.{log-length, tail-at}
 use Rattle.frame.proofs.Sound.{sound-true}
 use Rattle.frame.proofs.Elect.{ElectDone, elect-zero, elect-done}
 use Rattle.standing.specs.Standing.{standingBy, refused, standingOf}
-use Rattle.standing.specs.Leader.{rowsIn, entriesIn, weightsIn, weightIn, times, firstLeader, leader}
-use Rattle.standing.specs.Claims.{voteOf, Shows, tieOrder, Decides, OneVoteMore, Adds, withBallot}
+use Rattle.standing.specs.Leader.{rowsIn, entriesIn, weightsIn, weightIn, firstLeader, leader}
+use Rattle.standing.specs.Claims.{voteOf, Shows, Decides, OneVoteMore, Adds, withBallot}
 use Rattle.standing.specs.declared.Standing.{Standing}
 use Rattle.standing.proofs.Table as table
 use Rattle.standing.proofs.Table.{rowsBy}

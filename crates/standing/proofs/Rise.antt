@@ -11,9 +11,10 @@ use native.Mathlib.Decide.{decLt}
 use native.Mathlib.Omega.{arith}
 use lib.ListN.{length, getD}
 use borrow.Author.Tests.{eq-eqb, ne-eqb}
+use Rattle.lists.specs.Tests.{times}
 use Rattle.protocol.specs.Vote.{Votes, later, isFor, isNone, tally, unheard}
 use Rattle.protocol.specs.Winning.{Supported}
-use Rattle.standing.specs.Leader.{entriesIn, times}
+use Rattle.standing.specs.Leader.{entriesIn}
 use Rattle.standing.proofs.Table.{rowsBy, rows-once, rows-supported}
 
 no-part : (t : Bool) → _≡_ {A = ℕ} (cond t 0 0) 0

@@ -20,6 +20,7 @@ use lib.Dec.{eqb, ltb}
 use lib.ListN.{length, getD, take, replicate, length-map}
 use lib.Seq.{take-at}
 use borrow.Author.Tests.{eqb-true, eq-eqb}
+use Rattle.lists.specs.Tests.{times}
 use Rattle.lists.proofs.Tests.{if-cases}
 use Rattle.lists.proofs.Padded.{padded-at, padded-past}
 use Rattle.protocol.specs.Vote.{Votes, later, isFor, isNone, tally, unheard, and-also, supported, beats, beatsAll, wins, firstWinner, winner}
@@ -30,7 +31,7 @@ use Rattle.bounds.specs.Bounds.{inEight}
 use Rattle.bounds.proofs.Eight.{Silent}
 use Rattle.rows.specs.Rows.{without, distinct, rowEntries, marks}
 use Rattle.rows.proofs.Walks.{marks-length, mark-at}
-use Rattle.standing.specs.Leader.{Row, paired, entriesIn, weightsIn, weightIn, times, jointWeight, ahead, leads, firstLeader}
+use Rattle.standing.specs.Leader.{Row, paired, entriesIn, weightsIn, weightIn, jointWeight, ahead, leads, firstLeader}
 
 abbrev pub rowOf : List ℕ → Votes → ℕ → Row
 rowOf ws v e = record { entry = e; weight = tally ws v e }

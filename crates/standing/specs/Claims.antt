@@ -16,18 +16,18 @@ use mathlib.Core.Path.{_≡_}
 use mathlib.Core.Logic.{_↔_}
 use mathlib.Core.List.{List}
 use mathlib.Core.Option.{none, some}
-use mathlib.Core.Bool.{Bool, cond}
+use mathlib.Core.Bool.{cond}
 use Prim.Native.Nat.{ℕ, _+_, _<_, _≤_}
 use lib.ListN.{getD, set}
-use Rattle.protocol.specs.Counts.{quieter}
+use Rattle.lists.specs.Tests.{times}
 use Rattle.protocol.specs.Limits.{total}
 use Rattle.protocol.specs.Office.{votes}
 use Rattle.protocol.specs.Vote.{Votes, isNone, tally, unheard}
 use Rattle.ballots.specs.declared.Ballot.{Ballot}
-use Rattle.frame.specs.State.{heldLength, heldBy, withHeld}
-use Rattle.frame.specs.Electing.{winnerOf, electOf, electWords}
+use Rattle.frame.specs.State.{heldLength, heldBy, withBallots}
+use Rattle.frame.specs.Electing.{tieOrder, winnerOf, electOf, electWords}
 use Rattle.frame.specs.declared.Record.{Record}
-use Rattle.standing.specs.Leader.{rowsIn, entriesIn, weightsIn, weightIn, times, jointWeight, leader}
+use Rattle.standing.specs.Leader.{rowsIn, entriesIn, weightsIn, weightIn, jointWeight, leader}
 use Rattle.standing.specs.declared.Standing.{Standing}
 
 -- office k's vote: "each non-empty ballot supports its first tail entry"
@@ -53,10 +53,7 @@ pub record Shows (r : Record) (words : List ℕ) (s : Standing) : Type 0 where
   pub past-offices : (k : ℕ) → r .n ≤ k → getD (s .silent) k 0 ≡ 0
 
 -- ── "the entry that wins by them is the one that elect would settle first, or none" ──
--- "ties as they are now": by the counts of the settled log, the dropped entries' being the kept ones
-abbrev pub tieOrder : Record → List ℕ → ℕ → ℕ → Bool
-tieOrder r words = quieter (r .kept .counts) (heldBy r words .log)
-
+-- with "ties as they are now"
 pub record Decides (r : Record) (words : List ℕ) (s : Standing) : Type 0 where
   pub winner : leader (tieOrder r words) s ≡ winnerOf r words
   -- where no entry wins by the rows, elect settles nothing
@@ -87,4 +84,4 @@ pub record Adds (s s' : Standing) (k e w : ℕ) : Type 0 where
 
 -- the record with another ballot of office k
 abbrev pub withBallot : Record → ℕ → Ballot → Record
-withBallot r k b = withHeld r (r .kept) (r .noted) (r .summary) (r .settled) (set (r .ballots) k b)
+withBallot r k b = withBallots r (set (r .ballots) k b)

@@ -33,11 +33,6 @@ unfoldable pub weightIn : ℕ → List Row → ℕ
 weightIn e [] = 0
 weightIn e (r ∷ rs) = cond (eqb e (r .entry)) (r .weight) (weightIn e rs)
 
--- how often x stands among some numbers
-unfoldable pub times : ℕ → List ℕ → ℕ
-times x [] = 0
-times x (y ∷ ys) = cond (eqb x y) 1 0 + times x ys
-
 -- the weight of the offices that are marked with 1
 unfoldable pub jointWeight : List ℕ → List ℕ → ℕ
 jointWeight [] ms = 0

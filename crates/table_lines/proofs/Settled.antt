@@ -41,14 +41,14 @@ use Rattle.frame.proofs.Elect.{elect-unsound, elect-zero, elect-done, elect-sou
 use Rattle.tables.specs.Tables.{tails}
 use Rattle.tables.specs.Listed.{smallTail, smallTable}
 use Rattle.tables.proofs.Listed.{small-place}
-use Rattle.table_lines.specs.Lines.{emptyLog, withThree, settledFrom, tableSettled, tableOffice, few}
+use Rattle.table_lines.specs.Lines.{emptyLog, withTable, settledFrom, tableSettled, tableOffice, few}
 use Rattle.table_lines.specs.Answers.{founded}
 use Rattle.table_lines.proofs.Shown.{oneDigit, few-of}
 use Rattle.table_lines.proofs.Small.{Three, three, small-two}
 
 -- ── they are few ──
 -- the tails that the record holds are the table's, and five empty ones
-tails-held : (r : Record) (t : List (List ℕ)) → Three t → heldBy (withThree r (map ballotOf t)) emptyLog .tails ≡ tableOffice t .tails
+tails-held : (r : Record) (t : List (List ℕ)) → Three t → heldBy (withTable r (map ballotOf t)) emptyLog .tails ≡ tableOffice t .tails
 tails-held r t T = rw (T .are) (λ i. tail-of (T .x) i ∷ tail-of (T .y) i ∷ tail-of (T .z) i ∷ replicate 5 [])
 
 six : (t : List (List ℕ)) → Three t → tailEntries (tableOffice t .tails) ≤ 6
@@ -60,7 +60,7 @@ entry-digit n h e q = lt-ltb (officeOf e) 10 (omega (arith, ltb-true (officeOf e
 
 module _ (r : Record) (t : List (List ℕ)) (small : smallTable t ≡ true) where
   R : Record
-  R = withThree r (map ballotOf t)
+  R = withTable r (map ballotOf t)
 
   -- as a sound record's election answers
   record Counted : Type 0 where
@@ -104,7 +104,7 @@ module _ (r : Record) (t : List (List ℕ)) (small : smallTable t ≡ true) wher
       let k = electOf R emptyLog .count in
       few-of (settledFrom R) (omega (arith, length-take k (electWords R emptyLog), min-le-left k (length (electWords R emptyLog)), counts .most)) (counts .entries)
 
-  pub settled-count : electOf (withThree r (map ballotOf t)) emptyLog .count ≤ 6
+  pub settled-count : electOf (withTable r (map ballotOf t)) emptyLog .count ≤ 6
   unfolding R
   settled-count = counts .most
 
@@ -165,16 +165,16 @@ module _ (ws : List ℕ) (done : founded ws .number ≡ 0) (t : List (List ℕ))
   held = holdingBehind fresh (fresh .kept) (tableFolded t)
 
   -- the founded record with the table's ballots holds the table
-  table-held : withThree (founded ws .«record») (map ballotOf t) ≡ held
+  table-held : withTable (founded ws .«record») (map ballotOf t) ≡ held
   table-held =
-      ap (λ (x : Record). withThree x (map ballotOf t)) (found-done 3 0 ws emptyLog done .made) ∙ fresh-table (three t small)
+      ap (λ (x : Record). withTable x (map ballotOf t)) (found-done 3 0 ws emptyLog done .made) ∙ fresh-table (three t small)
     where
-      fresh-table : Three t → withThree fresh (map ballotOf t) ≡ held
+      fresh-table : Three t → withTable fresh (map ballotOf t) ≡ held
       fresh-table T =
           rw (T .are) (λ i. withHeld fresh (fresh .kept) (replicate 8 0) (sym (summary-nil (startWith ws)) i) 0 (ballotOf (T .x) ∷ ballotOf (T .y) ∷ ballotOf (T .z) ∷ replicate 5 noBallot))
 
   -- "with the entries that elect settles from an empty log"
-  pub table-elects : (electOf (withThree (founded ws .«record») (map ballotOf t)) emptyLog .number ≡ 0) × (tableSettled (founded ws .«record») t ≡ withElect (bySettled ws) (tableOffice t) .log)
+  pub table-elects : (electOf (withTable (founded ws .«record») (map ballotOf t)) emptyLog .number ≡ 0) × (tableSettled (founded ws .«record») t ≡ withElect (bySettled ws) (tableOffice t) .log)
   table-elects =
       let D = found-done 3 0 ws emptyLog done in
       let new : Sound fresh emptyLog = subst (λ (x : Record). Sound x emptyLog) (D .made) (found-sound 3 0 ws emptyLog done) in

@@ -23,7 +23,7 @@ use Rattle.frame.specs.declared.Record.{Record}
 use Rattle.tables.specs.Tables.{tables, tableAt}
 use Rattle.tables.specs.Listed.{smallTail, smallTable}
 use Rattle.tables.proofs.Places.{tables-2197}
-use Rattle.table_lines.specs.Lines.{shown, lineWith, withThree, settledFrom, tableSettled, lineOf, linesOf, few}
+use Rattle.table_lines.specs.Lines.{shown, lineWith, withTable, settledFrom, tableSettled, lineOf, linesOf, few}
 use Rattle.table_lines.proofs.Shown.{shown-short}
 use Rattle.table_lines.proofs.Small.{Three, three, small-two, few-small, small-any}
 use Rattle.table_lines.proofs.Settled.{settled-few}
@@ -59,9 +59,9 @@ seated bs t T d e =
 
 -- the record with these ballots is the record with the table's
 pub seated-record : (r R : Record) (t : List (List ℕ)) (T : Three t) (a b c : Ballot) → Seated a (T .x) → Seated b (T .y) → Seated c (T .z)
-    → R ≡ withThree r (a ∷ b ∷ c ∷ []) → R ≡ withThree r (map ballotOf t)
+    → R ≡ withTable r (a ∷ b ∷ c ∷ []) → R ≡ withTable r (map ballotOf t)
 seated-record r R t T a b c A B C e =
-    e ∙ ap (withThree r) ((λ i. A .is i ∷ B .is i ∷ C .is i ∷ []) ∙ ap (λ (l : List (List ℕ)). map ballotOf l) (sym (T .are)))
+    e ∙ ap (withTable r) ((λ i. A .is i ∷ B .is i ∷ C .is i ∷ []) ∙ ap (λ (l : List (List ℕ)). map ballotOf l) (sym (T .are)))
 
 -- three tails and the settled entries, one behind the other
 module _ (settled x y z out o1 o2 o3 o4 : List ℕ) (at n1 n2 n3 n4 : ℕ) where
@@ -79,7 +79,7 @@ module _ (settled x y z out o1 o2 o3 o4 : List ℕ) (at n1 n2 n3 n4 : ℕ) where
 
 -- these pieces are the table's line
 pub line-written : (r R : Record) (t : List (List ℕ)) (T : Three t) (a b c : Ballot) → Seated a (T .x) → Seated b (T .y) → Seated c (T .z)
-    → R ≡ withThree r (a ∷ b ∷ c ∷ []) → lineWith (settledFrom R) (tailOf a ∷ tailOf b ∷ tailOf c ∷ []) ≡ lineOf r t
+    → R ≡ withTable r (a ∷ b ∷ c ∷ []) → lineWith (settledFrom R) (tailOf a ∷ tailOf b ∷ tailOf c ∷ []) ≡ lineOf r t
 unfolding lineOf
 line-written r R t T a b c A B C e =
     ap₂ lineWith (ap settledFrom (seated-record r R t T a b c A B C e)) ((λ i. A .tail i ∷ B .tail i ∷ C .tail i ∷ []) ∙ sym (T .are))

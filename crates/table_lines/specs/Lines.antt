@@ -34,8 +34,8 @@ abbrev pub emptyLog : List ℕ
 emptyLog = replicate 1024 0
 
 -- the record with these ballots of the first three offices, and no others
-abbrev pub withThree : Record → List Ballot → Record
-withThree r bs = withBallots r (bs ++ replicate 5 noBallot)
+abbrev pub withTable : Record → List Ballot → Record
+withTable r bs = withBallots r (bs ++ replicate 5 noBallot)
 
 -- "the entries that elect settles from an empty log": as many as it answers, at the log's front
 abbrev pub settledFrom : Record → List ℕ
@@ -43,7 +43,7 @@ settledFrom r = take (electOf r emptyLog .count) (electWords r emptyLog)
 
 -- the same of a founded record with a table of tails
 abbrev pub tableSettled : Record → List (List ℕ) → List ℕ
-tableSettled r t = settledFrom (withThree r (map ballotOf t))
+tableSettled r t = settledFrom (withTable r (map ballotOf t))
 
 -- the state of the office that elects: an empty log, and no ballots but the three
 abbrev pub tableOffice : List (List ℕ) → Office

@@ -9,7 +9,7 @@ ghost use Rattle.protocol.specs.Entry.{officeOf};
 ghost use Rattle.ballots.specs.Ballots.{tailOf};
 ghost use Rattle.frame.specs.Electing.{electOf};
 ghost use Rattle.tables.specs.Tables.{tables, tableAt};
-ghost use Rattle.table_lines.specs.Lines.{shown, emptyLog, withThree, settledFrom, lineOf, linesOf, few};
+ghost use Rattle.table_lines.specs.Lines.{shown, emptyLog, withTable, settledFrom, lineOf, linesOf, few};
 use ballots::Ballot;
 use decimal::put_number;
 use frame::Record;
@@ -70,8 +70,8 @@ fn put_settled(out: &mut [u8], at: usize, record: Record) -> usize
 }
 
 // The record with three ballots, and no others.
-fn with_ballots(record: Record, a: Ballot, b: Ballot, c: Ballot) -> Record
-    ensures { λ r. ⌜ r ≡ withThree «record» (a ∷ b ∷ c ∷ []) ⌝ }
+fn with_table(record: Record, a: Ballot, b: Ballot, c: Ballot) -> Record
+    ensures { λ r. ⌜ r ≡ withTable «record» (a ∷ b ∷ c ∷ []) ⌝ }
 {
     let none = Ballot::none();
     let mut ballots = [none; 8];
@@ -93,7 +93,7 @@ fn put_line(out: &mut [u8], at: usize, record: Record, place: usize) -> usize
     let a = tails[0];
     let b = tails[1];
     let c = tails[2];
-    let seated = with_ballots(record, a, b, c);
+    let seated = with_table(record, a, b, c);
     let second = put_ballot(out, at, a);
     let third = put_ballot(out, second, b);
     let last = put_ballot(out, third, c);

@@ -2,7 +2,8 @@
 ghost use mathlib.Core.Path.{_≡_};
 ghost use Rattle.trial_lines.specs.Line.{noLine, withByte};
 
-// The numbers stand from place 1 on, as many as there are spaces; the first two stand apart too once the line is whole.
+// The numbers stand from place 1 on, as many as there are spaces. `first` and `second` are those at places 1 and 2: the program copies them once the
+// line is whole, and nothing here does.
 pub struct Line {
     pub letter: u8,
     pub count: usize,

@@ -85,7 +85,7 @@ pub fn put_numbers(line: Line, from: usize, times: u64, at: u64, to: &mut [u64])
     put
 }
 
-// Eight numbers of the line from this place on, as weights: the low 16 bits of each. Behind place 17 fewer are left than eight.
+// Eight numbers of the line from this place on, as weights: the low 16 bits of each. Past place 17, where fewer are left, the last eight.
 pub fn weights(line: Line, from: usize) -> [u16; 8]
     ensures { λ r. ⌜ r ≡ weightsFrom line from ⌝ }
 {

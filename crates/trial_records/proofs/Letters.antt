@@ -14,7 +14,7 @@ use Rattle.frame.specs.declared.Record.{Record}
 use Rattle.frame.specs.State.{withKept, withNoted, withBallots}
 use Rattle.trial_lines.specs.declared.line.Line.{Line}
 use Rattle.trial_lines.specs.Writing.{hasRoom, weightsFrom}
-use Rattle.trial_records.specs.Setting.{letterA, letterF, letterJ, letterK, letterN, letterP, letterQ, letterR, letterT, fitsRecord, withPresent, withCodes, withDone, withNumbers, setKept, setHead, setBallots, withSummary, setRecord}
+use Rattle.trial_records.specs.Setting.{letterA, letterF, letterJ, letterK, letterN, letterP, letterQ, letterR, letterT, fitsRecord, withPresent, withCodes, withKeptSummary, withNumbers, setKept, setHead, setBallots, withSummary, setRecord}
 
 module _ (l : Line) where
   -- the line has another letter
@@ -46,11 +46,11 @@ module _ (l : Line) where
     unfolding setKept pick
     kept-f e = rw e
 
-    pub kept-q : l .letter ≡ letterQ → setKept k l ≡ withDone k (withPresent (k .summary) (weightsFrom l 1))
+    pub kept-q : l .letter ≡ letterQ → setKept k l ≡ withKeptSummary k (withPresent (k .summary) (weightsFrom l 1))
     unfolding setKept pick
     kept-q e = rw e
 
-    pub kept-j : l .letter ≡ letterJ → setKept k l ≡ withDone k (withCodes (k .summary) l)
+    pub kept-j : l .letter ≡ letterJ → setKept k l ≡ withKeptSummary k (withCodes (k .summary) l)
     unfolding setKept pick
     kept-j e = rw e
 

@@ -64,8 +64,8 @@ abbrev pub withCodes : Summary → Line → Summary
 withCodes s l = record { present = s .present; codes = putInto low32 l 2 1 (l .first) (s .codes) }
 
 -- with another summary of what was dropped, and with the line's numbers in a list of eight
-abbrev pub withDone : Kept → Summary → Kept
-withDone k s = record { dropped = k .dropped; summary = s; counts = k .counts }
+abbrev pub withKeptSummary : Kept → Summary → Kept
+withKeptSummary k s = record { dropped = k .dropped; summary = s; counts = k .counts }
 
 abbrev pub withNumbers : List ℕ → Line → List ℕ
 withNumbers xs l = putInto whole l 2 1 (l .first) xs
@@ -74,8 +74,8 @@ withNumbers xs l = putInto whole l 2 1 (l .first) xs
 unfoldable pub setKept : Kept → Line → Kept
 setKept k l =
     pick (is l letterF) (record { dropped = l .first; summary = k .summary; counts = k .counts })
-    (pick (is l letterQ) (withDone k (withPresent (k .summary) (weightsFrom l 1)))
-    (pick (is l letterJ) (withDone k (withCodes (k .summary) l))
+    (pick (is l letterQ) (withKeptSummary k (withPresent (k .summary) (weightsFrom l 1)))
+    (pick (is l letterJ) (withKeptSummary k (withCodes (k .summary) l))
     (record { dropped = k .dropped; summary = k .summary; counts = withNumbers (k .counts) l })))
 
 -- `r` sets n, the own office, the founding, the present and the kept weights, and the settled length
@@ -84,7 +84,7 @@ setHead r l = record {
   n = l .first;
   own = l .second;
   weights = weightsFrom l 3;
-  kept = withDone (r .kept) (withPresent (r .kept .summary) (weightsFrom l 3));
+  kept = withKeptSummary (r .kept) (withPresent (r .kept .summary) (weightsFrom l 3));
   noted = r .noted;
   summary = withPresent (r .summary) (weightsFrom l 3);
   settled = getD (l .numbers) 11 0;

@@ -1,4 +1,4 @@
-// The digest of a list of numbers, and of all that a call may write.
+// The digest of numbers, of words and bytes, and of a record.
 ghost use mathlib.Core.Path.{_≡_};
 ghost use mathlib.Core.List.{_∷_};
 ghost use lib.ListN.{length};

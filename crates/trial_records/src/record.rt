@@ -12,7 +12,7 @@ use trial_lines::put_words;
 use trial_lines::room_for;
 use trial_lines::weights;
 
-// All zero, as what a founding with zeros answers, which is refused.
+// The all-zero record: what a refused founding answers.
 pub fn none() -> Record
     ensures { λ r. ⌜ r ≡ zeroRecord ⌝ }
 {
@@ -88,7 +88,7 @@ fn set_kept(kept: Kept, line: Line) -> Kept
     }
 }
 
-// `r`: the offices, the own one, the weights three times over, the settled length.
+// `r`: n, the own office, the weights, which become the founding, the present and the kept ones, and the settled length.
 fn set_head(record: Record, line: Line) -> Record
     ensures { λ r. ⌜ r ≡ setHead «record» line ⌝ }
 {

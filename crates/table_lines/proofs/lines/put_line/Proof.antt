@@ -32,10 +32,10 @@ seats : (c : tie.After-table-at) → Seated (ballot c 0) (tails c .x) × (Seated
 seats c = seated (c .table-at .result .tails) (tableAt (start c .args .place)) (tails c) offEnd (c .table-at .ensures)
 
 -- ── the places of the code ──
-abbrev table : tie.After-with-ballots → tie.After-table-at
+abbrev table : tie.After-with-table → tie.After-table-at
 table c = c .before .before .before .before .before
 
-abbrev with : tie.After-put-ballot → tie.After-with-ballots
+abbrev with : tie.After-put-ballot → tie.After-with-table
 with c = c .before .before
 
 abbrev first : tie.After-put-ballot2 → tie.After-put-ballot
@@ -88,9 +88,9 @@ put-settled-requires c κs =
     let t = table w in
     let a = start t .args in
     let small = small-any (a .place) in
-    let e = seated-record (a .«record») (w .with-ballots .result) (tableAt (a .place)) (tails t) _ _ _ (seats t .0) (seats t .1 .0) (seats t .1 .1) (w .with-ballots .ensures) in
+    let e = seated-record (a .«record») (w .with-table .result) (tableAt (a .place)) (tails t) _ _ _ (seats t .0) (seats t .1 .0) (seats t .1 .1) (w .with-table .ensures) in
     let h : p .put-ballot3 .result + 27 ≤ length (p .put-ballot3 .last .0) = omega (arith, start t .pre, last p .0, last p .1) in
-    let count : electOf (w .with-ballots .result) emptyLog .count ≤ 1024 =
+    let count : electOf (w .with-table .result) emptyLog .count ≤ 1024 =
     omega (arith, ap (λ (x : Record). electOf x emptyLog .count) e, settled-count (a .«record») (tableAt (a .place)) small) in
     (ap (λ (x : Record). few (settledFrom x)) e ∙ settled-few (a .«record») (tableAt (a .place)) small, (count, h))
 
@@ -104,8 +104,8 @@ returns c =
     let t = table w in
     let a = start t .args in
     subst (λ (l : List ℕ). (end .put-settled .result ≡ a .at + length l) × (end .put-settled .last .0 ≡ sets (a .out .now) (a .at) l))
-    (line-written (a .«record») (w .with-ballots .result) (tableAt (a .place)) (tails t) _ _ _ (seats t .0) (seats t .1 .0) (seats t .1 .1) (w .with-ballots .ensures))
-    (line-whole (settledFrom (w .with-ballots .result)) _ _ _ (a .out .now) _ _ _ _ (a .at) _ _ _ _
+    (line-written (a .«record») (w .with-table .result) (tableAt (a .place)) (tails t) _ _ _ (seats t .0) (seats t .1 .0) (seats t .1 .1) (w .with-table .ensures))
+    (line-whole (settledFrom (w .with-table .result)) _ _ _ (a .out .now) _ _ _ _ (a .at) _ _ _ _
     (p1 .put-ballot .ensures .0) (p1 .put-ballot .ensures .1) (p2 .put-ballot2 .ensures .0) (p2 .put-ballot2 .ensures .1)
     (p3 .put-ballot3 .ensures .0) (p3 .put-ballot3 .ensures .1) (end .put-settled .ensures .0) (end .put-settled .ensures .1))
 

@@ -3,7 +3,7 @@ use borrow.Author.Needs.{needs}
 use mathlib.Core.Path.{_≡_, ap, _∙_}
 use lib.ListN.{getD}
 use Rattle.trial_lines.specs.Writing.{weightsFrom}
-use Rattle.trial_records.specs.Setting.{withPresent, withDone}
+use Rattle.trial_records.specs.Setting.{withPresent, withKeptSummary}
 use Rattle.trial_records.proofs.record.set_head.Statement.{statement}
 use Rattle.trial_records.proofs.record.set_head.Tie as tie
 
@@ -24,7 +24,7 @@ returns c =
       n = l .first;
       own = l .second;
       weights = w .weights .ensures i;
-      kept = withDone (r .kept) (kept-summary c i);
+      kept = withKeptSummary (r .kept) (kept-summary c i);
       noted = r .noted;
       summary = own-summary c i;
       settled = getD (l .numbers) 11 0;

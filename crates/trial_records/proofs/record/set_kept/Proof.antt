@@ -3,7 +3,7 @@ use borrow.Author.Needs.{needs}
 use mathlib.Core.List.{List}
 use mathlib.Core.Path.{sym, ap, _∙_}
 use Prim.Native.Nat.{ℕ}
-use Rattle.trial_records.specs.Setting.{withPresent, withDone}
+use Rattle.trial_records.specs.Setting.{withPresent, withKeptSummary}
 use Rattle.trial_records.proofs.Letters.{kept-f, kept-q, kept-j, kept-t}
 use Rattle.trial_records.proofs.record.set_kept.Statement.{statement}
 use Rattle.trial_records.proofs.record.set_kept.Tie as tie
@@ -15,10 +15,10 @@ returns-2 : tie.Need-returns-2
 returns-2 c =
     let m = c .before .before in
     let k = m .before .args .kept in
-    ap (withDone k) (c .with-present .ensures ∙ ap (withPresent (k .summary)) (c .before .weights .ensures)) ∙ sym (kept-q _ _ (m .match .keys2))
+    ap (withKeptSummary k) (c .with-present .ensures ∙ ap (withPresent (k .summary)) (c .before .weights .ensures)) ∙ sym (kept-q _ _ (m .match .keys2))
 
 returns-3 : tie.Need-returns-3
-returns-3 c = let m = c .before in ap (withDone (m .before .args .kept)) (c .with-codes .ensures) ∙ sym (kept-j _ _ (m .match .keys3))
+returns-3 c = let m = c .before in ap (withKeptSummary (m .before .args .kept)) (c .with-codes .ensures) ∙ sym (kept-j _ _ (m .match .keys3))
 
 returns-4 : tie.Need-returns-4
 returns-4 c =
