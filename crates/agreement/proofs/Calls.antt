@@ -36,10 +36,10 @@ use Rattle.summary.specs.Summary.{startWith, summaryAfter}
 use Rattle.summary.specs.declared.Summary.{Summary}
 use Rattle.summary.proofs.Laws.{summary-append}
 use Rattle.frame.specs.Issuing.{issueOf}
-use Rattle.frame.specs.Sending.{sendOf}
+use Rattle.sending.specs.Sending.{sendOf}
 use Rattle.frame.specs.Taking.{takeOf}
 use Rattle.frame.specs.Electing.{winnerOf}
-use Rattle.frame.specs.Folding.{foldOf}
+use Rattle.folding.specs.Folding.{foldOf}
 use Rattle.frame.specs.State.{heldBy, foldedBy}
 use Rattle.frame.proofs.Sound.{sound-true}
 use Rattle.agreement.specs.World.{Replica, Posted, World, Call, issue, send, take, elect, fold, replicaAt, messageAt, onSome, number, put, issued, taken, elected, folded, post, posted, step, after}

@@ -6,9 +6,9 @@ use Rattle.protocol.specs.Folding as P
 use Rattle.protocol.specs.Folding.{foldCount, withFold}
 use Rattle.ballots.specs.Ballots.{wordsWith}
 use Rattle.frame.specs.State.{foldedBy, holding}
-use Rattle.frame.specs.Folding.{shortenedOf, foldOf, foldWords}
+use Rattle.folding.specs.Folding.{shortenedOf, foldOf, foldWords}
 use Rattle.frame.proofs.Sound.{sound-true}
-use Rattle.frame.proofs.Fold.{fold-zero, fold-done, fold-sound, fold-state}
+use Rattle.folding.proofs.Folds.{fold-zero, fold-done, fold-sound, fold-state}
 use Rattle.agreement.specs.World.{Replica, folded}
 use Rattle.agreement.proofs.View.{SoundReplica}
 use Rattle.agreement.proofs.Held.{Leaves, Moves, moves}

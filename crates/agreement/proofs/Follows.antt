@@ -24,7 +24,7 @@ use Rattle.protocol.proofs.FoldedWorld.{names, done, number as numberF, step as
 use Rattle.one_order.proofs.FoldedMachine.{Folder, wholly, Both, both-at}
 use Rattle.frame.specs.Electing.{electedOf}
 use Rattle.frame.specs.State.{foldedBy}
-use Rattle.frame.specs.Sending.{sendOf}
+use Rattle.sending.specs.Sending.{sendOf}
 use Rattle.agreement.specs.World.{Replica, Posted, World, Call, issue, send, take, elect, fold, replicaAt, messageAt, onSome, put, issued, taken, elected, folded, post, posted, number, step, after}
 use Rattle.agreement.specs.Demand.{Founded}
 use Rattle.agreement.proofs.Places.{nothing, there}

@@ -18,10 +18,10 @@ use Rattle.one_order.proofs.FoldedSound as S
 use Rattle.one_order.proofs.FoldedOrder as O
 use Rattle.spelling.specs.Reading.{senderAt}
 use Rattle.frame.specs.Issuing.{issueOf}
-use Rattle.frame.specs.Sending.{sendOf}
+use Rattle.sending.specs.Sending.{sendOf}
 use Rattle.frame.specs.Taking.{takeOf}
 use Rattle.frame.specs.Electing.{electOf}
-use Rattle.frame.specs.Folding.{foldOf}
+use Rattle.folding.specs.Folding.{foldOf}
 use Rattle.agreement.specs.World.{Replica, Posted, World, Call, issue, send, take, elect, fold, replicaAt, messageAt, onSome, number}
 use Rattle.agreement.proofs.Places.{there}
 use Rattle.agreement.proofs.View.{sentOf, shape, sendDone, callOf, SoundWorld, means-sender, shape-length, shape-sent, shape-there, shape-at}

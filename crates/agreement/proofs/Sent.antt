@@ -11,9 +11,10 @@ use Rattle.lists.specs.Tests.{pick}
 use Rattle.protocol.specs.Folding.{packet}
 use Rattle.writer.specs.Written.{contentOf as contentBy}
 use Rattle.frame.specs.State.{foldedBy}
-use Rattle.frame.specs.Sending.{contentOf, messageOf, sendNumber, sendOf}
+use Rattle.frame.specs.Message.{contentOf, messageOf}
+use Rattle.sending.specs.Sending.{sendNumber, sendOf}
 use Rattle.frame.proofs.Sound.{sound-true}
-use Rattle.frame.proofs.Send.{content-packet, send-read}
+use Rattle.sending.proofs.Sends.{content-packet, send-read}
 use Rattle.agreement.specs.World.{Replica, posted}
 use Rattle.agreement.proofs.View.{means, SoundReplica, Readable, means-content}
 

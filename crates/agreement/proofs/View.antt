@@ -27,7 +27,7 @@ use Rattle.spelling.specs.Reading.{senderAt, contentAt, reading}
 use Rattle.spelling.proofs.Laws.{reading-is}
 use Rattle.frame.specs.State.{foldedBy}
 use Rattle.frame.specs.Soundness.{Sound}
-use Rattle.frame.specs.Sending.{sendOf}
+use Rattle.sending.specs.Sending.{sendOf}
 use Rattle.agreement.specs.World.{Replica, Posted, World, Call, issue, send, take, elect, fold, replicaAt, messageAt, onSome, put, post}
 use Rattle.agreement.specs.Demand.{says}
 use Rattle.agreement.specs.Calls.{carries}

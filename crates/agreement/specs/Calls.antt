@@ -23,7 +23,7 @@ use Rattle.protocol.specs.Folding.{Packet}
 use Rattle.spelling.specs.Content.{asPacket}
 use Rattle.spelling.specs.Reading.{senderAt, contentAt}
 use Rattle.frame.specs.Electing.{winnerOf}
-use Rattle.frame.specs.Folding.{foldOf}
+use Rattle.folding.specs.Folding.{foldOf}
 use Rattle.frame.specs.Soundness.{soundB}
 use Rattle.frame.specs.State.{heldBy}
 use Rattle.agreement.specs.Demand.{says}

@@ -12,10 +12,10 @@ use Rattle.lists.specs.Tests.{pick}
 use Rattle.frame.specs.declared.Record.{Record}
 use Rattle.frame.specs.State.{goes, foldedBy}
 use Rattle.frame.specs.Issuing.{issueOf}
-use Rattle.frame.specs.Sending.{sendOf, sendBytes}
+use Rattle.sending.specs.Sending.{sendOf, sendBytes}
 use Rattle.frame.specs.Taking.{takeOf, takeWords}
 use Rattle.frame.specs.Electing.{electOf, electWords}
-use Rattle.frame.specs.Folding.{foldOf, foldWords}
+use Rattle.folding.specs.Folding.{foldOf, foldWords}
 
 -- one office: its record, the words of "a log of its own", and the entries that it has dropped by now, the oldest first
 pub record Replica : Type 0 where

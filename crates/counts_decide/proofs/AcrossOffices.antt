@@ -35,7 +35,7 @@ use Rattle.writer.specs.Written.{contentOf, tailsOf}
 use Rattle.frame.specs.Electing.{electOf, electWords}
 use Rattle.frame.specs.Founding.{foundNumber, foundOf}
 use Rattle.frame.specs.Issuing.{issueNumber, issueOf}
-use Rattle.frame.specs.Sending.{sendBytes, sendNumber, sendOf}
+use Rattle.sending.specs.Sending.{sendBytes, sendNumber, sendOf}
 use Rattle.frame.specs.Soundness.{soundB}
 use Rattle.frame.specs.Taking.{sameOffices, takeNumber, takeOf, takeWords, takenOffice}
 use Rattle.agreement.specs.World.{Replica, World, Call, issue, send, take, elect, replicaAt, step, after}

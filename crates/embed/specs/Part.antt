@@ -2,7 +2,7 @@
 use Prim.Native.Nat.{ℕ}
 use mathlib.Core.List.{List}
 use lib.ListN.{length}
-use Rattle.frame.specs.Settling.{settledOf, settledNumber}
+use Rattle.settling.specs.Settling.{settledOf, settledNumber}
 use Rattle.frame.specs.declared.Record.{Record}
 use Rattle.embed.specs.declared.Part.{Part}
 

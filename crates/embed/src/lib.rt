@@ -6,8 +6,8 @@ ghost use Rattle.frame.specs.Founding.{foundOf};
 ghost use Rattle.frame.specs.Issuing.{issueOf};
 ghost use Rattle.both_frames.specs.Frames.{settledFrameOf, tentativeFrameOf, allLinesOf};
 ghost use Rattle.frame.specs.Electing.{electOf, electWords};
-ghost use Rattle.frame.specs.Folding.{foldOf, foldWords};
-ghost use Rattle.frame.specs.Sending.{sendOf, sendBytes};
+ghost use Rattle.folding.specs.Folding.{foldOf, foldWords};
+ghost use Rattle.sending.specs.Sending.{sendOf, sendBytes};
 ghost use Rattle.frame.specs.Taking.{takeOf, takeWords};
 ghost use Rattle.sheet.specs.Sheet.{sheetOf};
 ghost use Rattle.earlier.specs.Earlier.{earlierOf};
@@ -24,14 +24,14 @@ use archive::Written;
 use both_frames::Edit;
 use both_frames::Lines;
 use earlier::Earlier;
+use folding::Folded;
 use frame::Record;
 use frame::electing::Elected;
-use frame::folding::Folded;
 use frame::founding::Founded;
 use frame::issuing::Issued;
-use frame::sending::Sent;
 use frame::taking::Taken;
 use outcome::Outcome;
+use sending::Sent;
 use sheet::Sheet;
 use standing::Standing;
 use tallies::Winner;
@@ -116,7 +116,7 @@ pub extern "C" fn joukerpan_settled(office: Record, log: &[u32]) -> Part
     ensures { λ r. ⌜ r ≡ partOf office (now (log .entry)) ⌝ }
 {
     let mut number: u32 = 0;
-    let part = office.settled(log, &mut number);
+    let part = settling::settled(office, log, &mut number);
     let length = part.len();
     Part { number, length }
 }
@@ -166,7 +166,7 @@ pub extern "C" fn joukerpan_elect(office: Record, log: &mut [u32]) -> Elected
 pub extern "C" fn joukerpan_fold(office: Record, log: &mut [u32]) -> Folded
     ensures { λ r. ⌜ (r ≡ foldOf office (now (log .entry))) × (now (log .exit) ≡ foldWords office (now (log .entry))) ⌝ }
 {
-    office.fold(log)
+    folding::fold(office, log)
 }
 
 // The record's message, written to the front of the output.
@@ -175,7 +175,7 @@ pub extern "C" fn joukerpan_send(office: Record, log: &[u32], output: &mut [u8])
     ensures answer { λ r. ⌜ r ≡ sendOf office (now (log .entry)) (now (output .entry)) ⌝ }
     ensures output { λ _. ⌜ now (output .exit) ≡ sendBytes office (now (log .entry)) (now (output .entry)) ⌝ }
 {
-    office.send(log, output)
+    sending::send(office, log, output)
 }
 
 // Another office's message, worked into the record and its log.

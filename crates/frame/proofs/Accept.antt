@@ -31,7 +31,7 @@ use Rattle.kept.specs.declared.Kept.{Kept}
 use Rattle.frame.specs.State.{foldedBy, keptBy, holdingBehind, holding, freshRecord}
 use Rattle.protocol.specs.Limits.{Head}
 use Rattle.frame.specs.Soundness.{Sound}
-use Rattle.frame.specs.Sending.{contentOf, messageOf}
+use Rattle.frame.specs.Message.{contentOf, messageOf}
 use Rattle.frame.specs.Taking.{sameOffices, takeNumber, takePlaces, takeOf, takeWords}
 use Rattle.frame.specs.declared.Record.{Record}
 use Rattle.frame.proofs.State.{whole-length, folded-fine, folded-by, sound-behind, sound-of}

@@ -8,9 +8,9 @@ use mathlib.Core.Path.{_≡_, refl, sym, ap, ap₂, subst₂, _∙_}
 use mathlib.Core.Bool.{Bool, true, false}
 use mathlib.Core.List.{List, _++_}
 use mathlib.Core.Option.{none}
-use Prim.Native.Nat.{ℕ, _+_, _-_, _<_, _≤_}
+use Prim.Native.Nat.{ℕ, _+_}
 use native.Mathlib.Omega.{arith}
-use lib.ListN.{length, length-append}
+use lib.ListN.{length}
 use Rattle.lists.specs.Tests.{pick}
 use Rattle.protocol.specs.Office.{votes}
 use Rattle.protocol.specs.Elect.{electCount}
@@ -31,7 +31,7 @@ use Rattle.frame.specs.Electing.{ruleOf, electedOf, electOf, electWords,
 use Rattle.frame.specs.declared.Record.{Record}
 use Rattle.frame.specs.declared.electing.Elected.{Elected}
 use Rattle.frame.proofs.Sound.{sound}
-use Rattle.frame.proofs.State.{log-length, longest, folded-fine, kept-stays, folded-by, sound-of}
+use Rattle.frame.proofs.State.{log-length, folded-fine, kept-stays, folded-by, sound-of}
 
 -- the winner has a vote
 rule-voted : (r : Record) → NamesVoted (ruleOf r)

@@ -1,11 +1,9 @@
 -- Laws that belong to no one function.
 pub mod Accept
 pub mod Elect
-pub mod Fold
 pub mod Found
 pub mod Ineffective
 pub mod Issue
-pub mod Send
 pub mod Sound
 pub mod State
 pub mod Steps

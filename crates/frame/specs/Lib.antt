@@ -4,8 +4,6 @@ pub mod Stepping
 pub mod Soundness
 pub mod Founding
 pub mod Issuing
-pub mod Sending
-pub mod Settling
+pub mod Message
 pub mod Electing
 pub mod Taking
-pub mod Folding

@@ -10,11 +10,8 @@ use kept::Kept;
 use summary::Summary;
 
 pub mod electing;
-pub mod folding;
 pub mod founding;
 pub mod issuing;
-pub mod sending;
-mod settling;
 pub mod taking;
 
 // n offices with their founding weights, the own office, what is kept of the dropped entries, the longest settled length in accepted messages of

@@ -30,10 +30,10 @@ use Rattle.pending.proofs.Parts as P
 use Rattle.pending.proofs.Held.{lost-held}
 use Rattle.frame.specs.State.{heldLength, heldBy, foldedBy, ownBallot, goes}
 use Rattle.frame.specs.Soundness.{soundB}
-use Rattle.frame.specs.Folding.{foldOf, foldWords}
+use Rattle.folding.specs.Folding.{foldOf, foldWords}
 use Rattle.frame.specs.declared.Record.{Record}
 use Rattle.frame.proofs.State.{log-length, tail-at, own-fine}
-use Rattle.frame.proofs.Fold.{fold-unsound}
+use Rattle.folding.proofs.Folds.{fold-unsound}
 use Rattle.outcome.specs.Outcome.{tailBefore, placeIn, logSince, pathSince, settledEntries, pendingEntries, lostEntries, reportable, outcomeIs, reportOf, reportWords}
 use Rattle.outcome.specs.Claims.{ThreeParts, Refusals, Called, wholeOf, formerAfter, LostAt, AfterCall}
 use Rattle.outcome.specs.declared.Outcome.{Outcome}

@@ -23,14 +23,14 @@ use Rattle.frame.specs.State.{heldLength, heldBy, foldedBy, holding}
 use Rattle.frame.specs.Soundness.{soundB, Sound}
 use Rattle.frame.specs.Taking.{takeNumber, takeOf, takeWords}
 use Rattle.frame.specs.Electing.{ruleOf, electedOf, electOf, electWords}
-use Rattle.frame.specs.Folding.{shortenedOf, foldOf, foldWords}
+use Rattle.folding.specs.Folding.{shortenedOf, foldOf, foldWords}
 use Rattle.frame.specs.declared.Record.{Record}
 use Rattle.frame.proofs.Sound.{sound}
 use Rattle.frame.proofs.State.{whole-length, folded-fine, folded-by, sound-of}
 use Rattle.frame.proofs.Take.{Accepted, accepted, packet-fine, taken-office, take-done-is}
 use Rattle.frame.proofs.Accept.{take-keeps}
 use Rattle.frame.proofs.Elect.{elect-zero, elect-done, elect-sound, elect-state}
-use Rattle.frame.proofs.Fold.{goneOf, gone-within, fold-zero, fold-done, fold-sound, fold-state}
+use Rattle.folding.proofs.Folds.{goneOf, gone-within, fold-zero, fold-done, fold-sound, fold-state}
 use Rattle.outcome.specs.Claims.{Called, took, elected, folded}
 
 pub record Moved (r : Record) (words : List ℕ) (r' : Record) (words' : List ℕ) : Type 0 where

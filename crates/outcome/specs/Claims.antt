@@ -19,7 +19,7 @@ use Rattle.pending.specs.Parts.{settledPart, pendingPart, entriesOf, Loses, Sta
 use Rattle.frame.specs.State.{heldBy, foldedBy, goes}
 use Rattle.frame.specs.Taking.{takeOf, takeWords}
 use Rattle.frame.specs.Electing.{electOf, electWords}
-use Rattle.frame.specs.Folding.{foldOf, foldWords}
+use Rattle.folding.specs.Folding.{foldOf, foldWords}
 use Rattle.frame.specs.declared.Record.{Record}
 use Rattle.outcome.specs.Outcome.{tailBefore, logSince, pathSince, settledEntries, pendingEntries, lostEntries, reportable, reportOf, reportWords}
 

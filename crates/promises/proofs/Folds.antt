@@ -22,15 +22,15 @@ use Rattle.protocol.proofs.Folding.{least-own, least-noted}
 use Rattle.ballots.specs.Ballots.{wordsWith}
 use Rattle.frame.specs.State.{heldBy, foldedBy, withHeld, holding}
 use Rattle.frame.specs.Soundness.{soundB, Sound}
-use Rattle.frame.specs.Folding.{shortenedOf, foldOf, foldWords}
+use Rattle.folding.specs.Folding.{shortenedOf, foldOf, foldWords}
 use Rattle.both_frames.specs.Frames.{editIs, keptEdit, refusedFrame, shownIn, frameOf, settledFrameOf, tentativeFrameOf, allLinesOf}
 use Rattle.frame.specs.declared.Record.{Record}
-use Rattle.frame.specs.declared.folding.Folded.{Folded}
+use Rattle.folding.specs.declared.Folded.{Folded}
 use Rattle.both_frames.specs.declared.Framed.{Framed}
 use Rattle.frame.proofs.Sound.{sound-true}
 use Rattle.frame.proofs.State as State
 use Rattle.both_frames.proofs.Shown.{frame-shown, stored-code, lines-shown}
-use Rattle.frame.proofs.Fold as Fold
+use Rattle.folding.proofs.Folds as Fold
 use Rattle.promises.specs.Folds.{folded, DropsKnown, ShowsSame, DropsNoMore}
 
 -- ── how far a fold goes ──

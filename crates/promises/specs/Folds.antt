@@ -8,7 +8,7 @@ use mathlib.Core.List.{List}
 use Prim.Native.Nat.{ℕ, _+_, _<_, _≤_}
 use lib.ListN.{getD}
 use Rattle.both_frames.specs.Frames.{settledFrameOf, tentativeFrameOf, allLinesOf}
-use Rattle.frame.specs.Folding.{foldOf, foldWords}
+use Rattle.folding.specs.Folding.{foldOf, foldWords}
 use Rattle.frame.specs.declared.Record.{Record}
 
 -- the record after fold

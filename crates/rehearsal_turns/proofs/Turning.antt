@@ -11,11 +11,11 @@ use Rattle.rehearsal_commands.specs.Command.{letterI, letterS, letterT, letterE
 use Rattle.rehearsal_answers.specs.declared.Answer.{Answer}
 use Rattle.frame.specs.declared.Record.{Record}
 use Rattle.frame.specs.declared.issuing.Issued.{Issued}
-use Rattle.frame.specs.declared.sending.Sent.{Sent}
+use Rattle.sending.specs.declared.Sent.{Sent}
 use Rattle.frame.specs.declared.electing.Elected.{Elected}
 use Rattle.both_frames.specs.declared.Framed.{Framed}
 use Rattle.frame.specs.Issuing.{issueOf}
-use Rattle.frame.specs.Sending.{sendOf, sendBytes}
+use Rattle.sending.specs.Sending.{sendOf, sendBytes}
 use Rattle.frame.specs.declared.taking.Taken.{Taken}
 use Rattle.frame.specs.Taking.{takeOf, takeWords}
 use Rattle.frame.specs.Electing.{electOf}

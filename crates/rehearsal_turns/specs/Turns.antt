@@ -9,7 +9,7 @@ use Rattle.rehearsal_commands.specs.declared.Command.the-variants.{Found, Issue
 use Rattle.rehearsal_commands.specs.Command.{letterI, letterS, letterT, letterE, letterV}
 use Rattle.frame.specs.declared.Record.{Record}
 use Rattle.frame.specs.Issuing.{issueOf}
-use Rattle.frame.specs.Sending.{sendOf, sendBytes}
+use Rattle.sending.specs.Sending.{sendOf, sendBytes}
 use Rattle.frame.specs.Taking.{takeOf, takeWords}
 use Rattle.frame.specs.Electing.{electOf, electWords}
 use Rattle.both_frames.specs.Frames.{settledFrameOf, tentativeFrameOf}

@@ -142,7 +142,7 @@ fn send_turn(record: Record, lengths: [usize; 4], log: &[u32], slots: &mut [u8],
 {
     let from = m * SLOT;
     let to = from + SLOT;
-    let sent = record.send(log, &mut slots[from..to]);
+    let sent = sending::send(record, log, &mut slots[from..to]);
     let next = sent_lengths(lengths, m, sent.number, sent.length);
     let answer = says_two(b's', sent.number, sent.length);
     Turn {

@@ -36,10 +36,10 @@ use Rattle.spelling.specs.Reading.{recordHere, recordsOk, restAt, settledAt, dr
 use Rattle.spelling.specs.Spelling.{ballotBytes, ballotsBytes, endBytes, headBytes, logRecord, spelling}
 use Rattle.writer.specs.Written.{contentOf, tailsOf}
 use Rattle.frame.specs.Electing.{electOf, electWords}
-use Rattle.frame.specs.Folding.{foldOf, foldWords}
+use Rattle.folding.specs.Folding.{foldOf, foldWords}
 use Rattle.frame.specs.Founding.{foundNumber, foundOf}
 use Rattle.frame.specs.Issuing.{issueNumber, issueOf}
-use Rattle.frame.specs.Sending.{sendBytes, sendNumber, sendOf}
+use Rattle.sending.specs.Sending.{sendBytes, sendNumber, sendOf}
 use Rattle.frame.specs.Soundness.{soundB}
 use Rattle.frame.specs.Taking.{sameOffices, takeNumber, takeOf, takeWords, takenOffice}
 use Rattle.agreement.specs.World.{Replica, Posted, World, Call, issue, send, take, replicaAt, messageAt, number, issued, taken, elected, step, after}

@@ -88,7 +88,7 @@ fn look(record: Record, line: Line, log: &[u32], message: &[u8]) {
     match letter {
         b'P' => {
             let mut number: u32 = 0;
-            let part = record.settled(log, &mut number);
+            let part = settling::settled(record, log, &mut number);
             tell(number, part.len() as u64);
             print(digest::with_words(0, part));
         }
@@ -135,7 +135,7 @@ fn make(record: Record, line: Line, log: &[u32], output: &mut [u8], message: &[u
             return issued.record;
         }
         b'S' => {
-            let sent = record.send(log, output);
+            let sent = sending::send(record, log, output);
             tell(sent.number, sent.length as u64);
         }
         b'W' => {
@@ -163,7 +163,7 @@ fn change(
             elected.record
         }
         b'D' => {
-            let folded = record.fold(log);
+            let folded = folding::fold(record, log);
             tell(folded.number, folded.count);
             folded.record
         }

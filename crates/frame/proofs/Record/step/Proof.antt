@@ -1,5 +1,4 @@
 -- The winner by the votes of the ballots, which is settled, or nobody.
-use native.Mathlib.Omega.{arith}
 use mathlib.Core.Path.{_≡_, _∙_}
 use mathlib.Core.Option.{some}
 use borrow.Author.Needs.{needs}

@@ -5,10 +5,10 @@ use mathlib.Core.List.{List}
 use Rattle.lists.specs.Tests.{pick}
 use Rattle.protocol.specs.Folding as F
 use Rattle.ballots.specs.Ballots.{wordsWith}
 use Rattle.frame.specs.State.{foldedBy, holding}
 use Rattle.frame.specs.Soundness.{soundB}
 use Rattle.frame.specs.declared.Record.{Record}
-use Rattle.frame.specs.declared.folding.Folded.{Folded}
+use Rattle.folding.specs.declared.Folded.{Folded}
 
 -- the office after fold
 abbrev pub shortenedOf : Record → List ℕ → F.FoldedOffice

@@ -27,13 +27,14 @@ use Rattle.writer.specs.Written as written
 use Rattle.writer.specs.Written.{Writable, writtenBytes, writtenLength}
 use Rattle.writer.proofs.Whole.{answer-fits, answer-short}
 use Rattle.writer.proofs.Contents as contents
 use Rattle.frame.specs.State.{heldLength, foldedBy}
 use Rattle.frame.specs.Soundness.{soundB, Sound}
-use Rattle.frame.specs.Sending.{contentOf, messageOf, sendNumber, sendOf, sendBytes}
+use Rattle.frame.specs.Message.{contentOf, messageOf}
+use Rattle.sending.specs.Sending.{sendNumber, sendOf, sendBytes}
 use Rattle.frame.specs.declared.Record.{Record}
-use Rattle.frame.specs.declared.sending.Sent.{Sent}
+use Rattle.sending.specs.declared.Sent.{Sent}
 use Rattle.frame.proofs.Sound.{sound, sound-true}
 use Rattle.frame.proofs.State.{within-limit, folded-fine}
 
 -- what an answer and the output after it are to be
 abbrev pub Sends : Record → List ℕ → List ℕ → Sent → List ℕ → Type 0

@@ -20,13 +20,13 @@ use Rattle.summary.specs.Summary.{summaryAfter}
 use Rattle.summary.proofs.Laws.{summary-append}
 use Rattle.kept.specs.Kept.{keptAfter}
 use Rattle.kept.specs.declared.Kept.{Kept}
 use Rattle.frame.specs.State.{heldLength, heldBy, foldedBy, withHeld, keptBy, holding}
 use Rattle.frame.specs.Soundness.{soundB, Sound}
-use Rattle.frame.specs.Folding.{shortenedOf, foldOf, foldWords}
+use Rattle.folding.specs.Folding.{shortenedOf, foldOf, foldWords}
 use Rattle.frame.specs.declared.Record.{Record}
-use Rattle.frame.specs.declared.folding.Folded.{Folded}
+use Rattle.folding.specs.declared.Folded.{Folded}
 use Rattle.frame.proofs.Sound.{sound}
 use Rattle.frame.proofs.State.{log-length, whole-length, folded-fine, folded-by, sound-of}
 
 pub fold-unsound : (r : Record) (words : List ℕ) → soundB r words ≡ false → (_≡_ {A = Folded} (record { «record» = r; number = 1; count = 0 }) (foldOf r words)) × (words ≡ foldWords r words)
 unfolding foldOf foldWords pick

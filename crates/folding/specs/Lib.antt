@@ -1,0 +1,2 @@
+-- The definitions that the contract of `folding` cites.
+pub mod Folding

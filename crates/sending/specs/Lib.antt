@@ -1,0 +1,2 @@
+-- The definitions that the contract of `sending` cites.
+pub mod Sending

@@ -1,0 +1,2 @@
+-- The definitions that the contract of `settling` cites.
+pub mod Settling
