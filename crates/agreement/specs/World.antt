@@ -1,5 +1,5 @@
 -- Document 01, "The world of demand 3", on records, log words and message bytes, with (xiv) folding among the calls. A call's number and its effect are
--- those of the definitions that the contracts of `frame` cite, so what is proved of this world is proved of what the code was proved to do. Beside
+-- those of the definitions that the contracts of the calls cite, so what is proved of this world is proved of what the code was proved to do. Beside
 -- each office, and each message, stand the entries that the office had dropped by then: no call looks at them, they are there for what is claimed
 -- of whole logs. Assumes nothing.
 use mathlib.Core.List.{List, [], _∷_, _++_}

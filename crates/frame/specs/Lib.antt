@@ -1,4 +1,4 @@
--- The definitions that the contracts of `frame` cite: a file for each of src/.
+-- The definitions that the contracts of `frame` cite, a file for each of src/, and what the message of a record says.
 pub mod State
 pub mod Stepping
 pub mod Soundness

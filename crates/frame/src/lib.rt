@@ -1,5 +1,6 @@
-// An office's record, and the calls of the shared coding frame on it. A call takes the record by value and its log as a lent slice;
-// its answer has the paper's number, 0 when it is done, behind the next record where there is one.
+// An office's record, whether it is sound, and the calls found, issue, take and elect of the shared coding frame on it; fold, send, settled and the
+// frames stand above. A call takes the record by value and its log as a lent slice; its answer has the paper's number, 0 when it is done, behind the
+// next record where there is one.
 ghost use mathlib.Core.Path.{_≡_};
 ghost use Rattle.frame.specs.Soundness.{soundB};
 ghost use Prim.Native.Nat.{_+_, _<_, _≤_};
