@@ -32,7 +32,7 @@ use Rattle.tallies.specs.declared.Winner.{Winner}
 use Rattle.tallies.specs.declared.Winner.the-variants.{Entry, Nobody}
 use Rattle.tallies.proofs.Walks.{winner-some, winner-none}
 use Rattle.tallies.proofs.Cells.{vote-none, cast-vote, lost-for, lost-other, lost-none}
-use Rattle.elections.specs.Elections.{heldIn, Steppable, votesTo, winnerIn}
+use Rattle.elections.specs.Elections.{heldIn, Steppable, winnerIn}
 use Rattle.elections.specs.declared.State.{State}
 
 drop-replicate : {A : Type 0} (i n : ℕ) (a : A) → drop i (replicate n a) ≡ replicate (n - i) a
@@ -81,7 +81,7 @@ votes-step bs l vs i inv h v q =
 
 module _ (n : ℕ) (s : State) (words : List ℕ) (S : Steppable n s words) where
   -- ── the votes ──
-  module _ (vs : List ℕ) (q : vs ≡ votesTo n (s .ballots)) where
+  module _ (vs : List ℕ) (q : Gathered (s .ballots) vs n) where
     votes-all : vs ≡ map cast (s .ballots)
     votes-all =
         q ∙ fill-rest (map cast (s .ballots)) (replicate 8 noVote) n
@@ -112,7 +112,7 @@ module _ (n : ℕ) (s : State) (words : List ℕ) (S : Steppable n s words) wher
           ap first (sym (B.tail-at (s .ballots) k))
 
   -- what the winner that is found by these votes says
-  module _ (cs vs : List ℕ) (v : vs ≡ votesTo n (s .ballots)) (w : Winner) (q : w ≡ winnerIs (winner (s .summary .present) (quieterBy cs) (votesIn vs))) where
+  module _ (cs vs : List ℕ) (v : Gathered (s .ballots) vs n) (w : Winner) (q : w ≡ winnerIs (winner (s .summary .present) (quieterBy cs) (votesIn vs))) where
     winner-of : winnerIs (winnerIn cs s words) ≡ w
     winner-of = sym (q ∙ ap (λ (x : Votes). winnerIs (winner (s .summary .present) (quieterBy cs) x)) (ap votesIn (votes-all vs v) ∙ cast-votes))
 

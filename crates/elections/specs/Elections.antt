@@ -3,9 +3,9 @@
 use Prim.Native.Nat.{ℕ, _+_, _≤_}
 use mathlib.Core.Path.{_≡_}
 use mathlib.Core.Bool.{true}
-use mathlib.Core.List.{List, _++_, map}
+use mathlib.Core.List.{List, map}
 use mathlib.Core.Option.{Option}
-use lib.ListN.{length, take, drop, set, replicate}
+use lib.ListN.{length, take, drop, set}
 use Rattle.lists.specs.Tests.{allB}
 use Rattle.protocol.specs.Limits.{lengthLimit}
 use Rattle.protocol.specs.Entry.{isEntry}
@@ -16,7 +16,6 @@ use Rattle.protocol.specs.Elect.{lose, next, withElect}
 use Rattle.ballots.specs.Ballots.{tailOf, ballotOf, ballotFine, isNoBallot, officeIn}
 use Rattle.ballots.specs.declared.Ballot.{Ballot}
 use Rattle.summary.specs.Summary.{summaryAfter, summaryNext}
-use Rattle.tallies.specs.Tallies.{noVote, cast}
 use Rattle.kept.specs.Kept.{ruleBehind}
 use Rattle.kept.specs.declared.Kept.{Kept}
 use Rattle.elections.specs.declared.State.{State}
@@ -48,10 +47,6 @@ pub record Electable (n : ℕ) (kept : Kept) (s : State) (words : List ℕ) : Ty
 -- "until no entry wins"
 abbrev pub electedIn : Kept → State → List ℕ → Office
 electedIn kept s words = withElect (ruleBehind kept) (heldIn s words)
-
--- the votes of the first n ballots, and none behind them
-abbrev pub votesTo : ℕ → List Ballot → List ℕ
-votesTo n ballots = take n (map cast ballots) ++ drop n (replicate 8 noVote)
 
 -- the entry that wins, if any, by the present weights and these counts
 abbrev pub winnerIn : List ℕ → State → List ℕ → Option ℕ

@@ -20,14 +20,14 @@ use Rattle.ballots.specs.Ballots.{tailOf, ballotOf, wordsWith}
 use Rattle.ballots.specs.declared.Ballot.{Ballot}
 use Rattle.summary.specs.Summary.{summaryNext}
 use Rattle.summary.specs.declared.Summary.{Summary}
-use Rattle.elections.specs.Elections.{Steppable, stateOf, electedIn, winnerIn, stepOf, stepWords}
+use Rattle.elections.specs.Elections.{Steppable, stateOf, electedIn, winnerIn, settledBy, stepOf, stepWords}
 use Rattle.elections.specs.declared.State.{State}
 use Rattle.elections.proofs.Run as E
 use Rattle.elections.proofs.Run.{Running}
 use Rattle.elections.proofs.Steps.{Settling}
 use Rattle.frame.specs.State.{heldLength, stateIn, withHeld, withState, withBallots}
 use Rattle.frame.specs.Soundness.{Sound}
-use Rattle.frame.specs.Stepping.{Stepping, settledIn, stepIn, stepWordsIn}
+use Rattle.frame.specs.Stepping.{Stepping, stepIn, stepWordsIn}
 use Rattle.frame.specs.declared.Record.{Record}
 use Rattle.frame.proofs.State.{longest, electable}
 
@@ -43,7 +43,11 @@ next-turn r next out e bs k p xs q t =
     let same = ap (λ (x : Record). x .ballots) made in
     (made ∙ ap (withBallots r) (sym same), same ∙ t)
 
--- the record with e settled, from its parts
+-- the record with e settled
+abbrev settledIn : Record → ℕ → Record
+settledIn r e = withState r (settledBy (stateIn r) e)
+
+-- the same from its parts
 pub settled-is : (r : Record) (words : List ℕ) → Stepping r words → (e : ℕ) (bs : List Ballot) → bs ≡ map ballotOf (map (lose e) (map tailOf (r .ballots)))
     → (x : Summary) → x ≡ summaryNext (r .summary) e → withHeld r (r .kept) (r .noted) x (r .settled + 1) bs ≡ settledIn r e
 settled-is r words S e bs q x p =

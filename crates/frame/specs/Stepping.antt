@@ -1,7 +1,7 @@
 -- The election step on a record: what it asks, and what it makes of the record and its log's words. Assumes nothing.
 use Prim.Native.Nat.{ℕ, _<_, _≤_}
 use mathlib.Core.List.{List}
-use Rattle.elections.specs.Elections.{Steppable, settledBy, stepOf, stepWords}
+use Rattle.elections.specs.Elections.{Steppable, stepOf, stepWords}
 use Rattle.frame.specs.State.{stateIn, withState}
 use Rattle.frame.specs.declared.Record.{Record}
 
@@ -10,10 +10,6 @@ pub record Stepping (r : Record) (words : List ℕ) : Type 0 where
   pub limits : Steppable (r .n) (stateIn r) words
   pub within : r .kept .dropped ≤ r .settled
   pub more : r .settled < 18446744073709551615
-
--- the record with entry e settled
-abbrev pub settledIn : Record → ℕ → Record
-settledIn r e = withState r (settledBy (stateIn r) e)
 
 -- one election step by these counts: the record with the state that follows, and the log's words
 abbrev pub stepIn : List ℕ → Record → List ℕ → Record

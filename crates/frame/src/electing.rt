@@ -26,10 +26,14 @@ impl Record {
         let n = self.n;
         let summary = self.summary;
         let present = summary.present;
-        let ballots = self.ballots;
-        let votes = elections::votes(ballots, n);
-        let w = tallies::find_winner(votes, present, counts, n);
         let mut next = self;
+        let none = tallies::NO_VOTE;
+        let mut votes = [none; 8];
+        for i in 0..n {
+            let b = next.ballots[i];
+            votes[i] = tallies::vote(b);
+        }
+        let w = tallies::find_winner(votes, present, counts, n);
         match w {
             Winner::Nobody => next,
             Winner::Entry(e) => {
