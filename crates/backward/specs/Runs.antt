@@ -12,10 +12,11 @@ use Rattle.protocol.specs.Entry.{lineOf}
 use Rattle.protocol.specs.Codes.{cell, editIn}
 use Rattle.protocol.specs.Frames.{editAfter}
 
--- up to 64 lines of the frame
+-- every line named is one of the frame
 abbrev pub ofFrame : List ℕ → Bool
 ofFrame lines = allB (λ (line : ℕ). leb line 63) lines
 
+-- up to 64 lines of the frame
 pub record Named (lines : List ℕ) : Type 0 where
   pub few : length lines ≤ 64
   pub each : ofFrame lines ≡ true

@@ -77,7 +77,7 @@ fn answers(cells: &[u32; 256], lines: &[u32], codes: [u32; 64]) -> [u32; 64]
 }
 
 // The last edit of each line named, in the words or else in the codes kept of what was before them. It is for up to 64 lines of the frame: more have
-// no place in the answer.
+// no place in the answer. Public only for the crate above, which proves what it requires.
 pub fn walk(words: &[u32], lines: &[u32], codes: [u32; 64]) -> Walked
     requires { ⌜ Named (now lines) ⌝ }
     ensures { λ r. ⌜ r ≡ walkedOf (now (words .entry)) (now (lines .entry)) codes ⌝ }

@@ -1,22 +1,20 @@
 -- The walks over a tail.
---     tail-first, tail-next, tail-far, tail-done      the counts of a tail, one word more, of an office that has a count or has none, and the walk's end
---     tail-room                           a count is at most the tail's length
---     few-fair                            a tail no longer than a part is fair
+--     tail-first, tail-next, tail-done      the counts of a tail, one word more, and the walk's end
+--     tail-room                             a count is at most the tail's length
+--     few-fair                              a tail no longer than a part is fair
 -- Assumes nothing.
 use mathlib.Core.Path.{_≡_, refl, sym, ap, _∙_}
 use mathlib.Core.Bool.{true}
 use mathlib.Core.List.{List}
 use Prim.Native.Nat.{ℕ, _+_, _<_, _≤_}
 use native.Mathlib.Omega.{arith}
-use lib.ListN.{length, getD, take, set, length-take}
+use lib.ListN.{length, getD, take, length-take}
 use lib.Seq.{take-suc, take-all}
 use native.Mathlib.Numerals.{add-one}
-use Rattle.protocol.specs.Entry.{officeOf}
 use Rattle.protocol.specs.Counts.{noCounts, countOf, counted, countsAfter}
 use Rattle.protocol.specs.Fair.{part, fair}
-use Rattle.protocol.proofs.Counts.{none-length, count-of, count-most, counts-next}
+use Rattle.protocol.proofs.Counts.{count-of, count-most, counts-next}
 use Rattle.protocol.proofs.Fair.{fair-of}
-use Rattle.counting.proofs.Counting.{counted-in, counted-far}
 
 -- the cells hold the counts of the first i words
 abbrev pub Counting : List ℕ → List ℕ → ℕ → Type 0

@@ -4,8 +4,8 @@ ghost use Rattle.backward.specs.Runs.{ofFrame};
 ghost use Rattle.earlier.specs.Earlier.{earlierRefused, earlierOf};
 use frame::Record;
 
-// The edits of the lines named, in their order, as they are stored: 0 for no edit yet, else the code + 1; past the lines 0. `words` of the log were read
-// for them. `number` is the paper's, 0 when it is done.
+// The edits of the lines named, in their order, as they are stored: 0 for no edit yet, else the code + 1; past the lines 0. `words` of the log were
+// read for them. `number` is the paper's, 0 when it is done.
 #[repr(C)]
 pub struct Earlier {
     pub number: u32,

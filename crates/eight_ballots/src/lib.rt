@@ -171,8 +171,8 @@ fn fits(len: usize, place: usize, n: usize, held: usize) -> bool
 }
 
 // Whether eight ballots are within the limits beside an undropped log of this length: at once where there are none, else their lengths first,
-// then their cells, by the faster test where no cell is a move of weight, and each office's part. It serves a record and a message alike. Public only for the
-// crates above, which prove what it requires.
+// then their cells, by the faster test where no cell is a move of weight, and each office's part. It serves a record and a message alike. Public
+// only for the crates above, which prove what it requires.
 pub fn fine(all: [Ballot; 8], n: usize, held: usize) -> bool
     requires { ⌜ (1 ≤ n) × ((n ≤ 8) × (held ≤ 1024)) ⌝ }
     ensures { λ r. ⌜ r ≡ ballotsFine n held all ⌝ }

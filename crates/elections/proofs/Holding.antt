@@ -1,4 +1,6 @@
 -- What a record holds beside its log, and the office's state in it.
+--     stateOf         the state that holds an office
+--     Electable       what elections ask of a state; electedIn, the office that they make of it
 --     held            the state of a record is the one that holds its office
 --     held-by         the office read back from a state and words that hold it
 --     words-kept      the words with their own settled log in front
@@ -6,22 +8,38 @@
 --     electable-of    an office within the limits makes a state for elections, in words with room
 -- Assumes nothing.
 use mathlib.Core.Path.{_≡_, sym, ap, _∙_}
-use mathlib.Core.List.{List, _++_}
+use mathlib.Core.List.{List, _++_, map}
 use Prim.Native.Nat.{ℕ, _≤_}
 use native.Mathlib.Omega.{arith}
 use lib.ListN.{length, take, drop, length-append, length-map, length-drop, take-append-drop}
 use lib.Seq.{length-take-le, take-append-seam}
 use Rattle.protocol.specs.Counts.{countOf}
 use Rattle.protocol.specs.Office.{Office}
+use Rattle.protocol.specs.Elect.{withElect}
 use Rattle.protocol.specs.Limits.{isEmpty, lengthLimit, tailFine}
 use Rattle.lists.proofs.Tests.{all-map, drop-map}
 use Rattle.protocol.proofs.Limits as Limits
 use Rattle.ballots.specs.Ballots.{ballotFine, isNoBallot, tailOf, ballotOf, wordsWith}
 use Rattle.ballots.proofs.Laws as B
 use Rattle.summary.specs.Summary.{summaryAfter}
+use Rattle.kept.specs.Kept.{ruleBehind}
 use Rattle.kept.specs.declared.Kept.{Kept}
-use Rattle.elections.specs.Elections.{heldIn, stateOf, Steppable, Electable}
+use Rattle.elections.specs.Elections.{heldIn, Steppable}
 use Rattle.elections.specs.declared.State.{State}
+
+-- the state that holds an office, behind dropped entries of which `kept` is kept
+abbrev pub stateOf : Kept → Office → State
+stateOf kept o = record { summary = summaryAfter (kept .summary) (o .log); held = length (o .log); ballots = map ballotOf (o .tails) }
+
+-- what elections ask: every sound record of n offices that keeps this has it
+pub record Electable (n : ℕ) (kept : Kept) (s : State) (words : List ℕ) : Type 0 where
+  pub limits : Steppable n s words
+  pub done : s .summary ≡ summaryAfter (kept .summary) (take (s .held) words)
+  pub countable : (k : ℕ) → countOf (kept .counts) k ≤ lengthLimit
+
+-- "until no entry wins"
+abbrev pub electedIn : Kept → State → List ℕ → Office
+electedIn kept s words = withElect (ruleBehind kept) (heldIn s words)
 
 -- the office that a state was made to hold
 pub held-by : (kept : Kept) (o : Office) (words : List ℕ) → heldIn (stateOf kept o) (wordsWith (o .log) words) ≡ o

@@ -31,9 +31,9 @@ use Rattle.summary.specs.declared.Summary.{Summary}
 use Rattle.summary.proofs.Laws.{summary-next}
 use Rattle.kept.specs.Kept.{ruleBehind}
 use Rattle.kept.specs.declared.Kept.{Kept}
-use Rattle.elections.specs.Elections.{heldIn, stateOf, Steppable, Electable, electedIn, winnerIn, settledBy, stepOf, stepWords}
+use Rattle.elections.specs.Elections.{heldIn, Steppable, winnerIn, settledBy, stepOf, stepWords}
 use Rattle.elections.specs.declared.State.{State}
-use Rattle.elections.proofs.Holding.{log-length, held, held-by, held-fine, words-kept, words-length, electable-of}
+use Rattle.elections.proofs.Holding.{stateOf, Electable, electedIn, log-length, held, held-by, held-fine, words-kept, words-length, electable-of}
 
 -- ── one step ──
 -- the office's state after e was settled

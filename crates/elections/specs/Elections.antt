@@ -1,5 +1,4 @@
--- What takes and elections change of a record, the office that it holds with a log's words, and what an election step and elections until no entry
--- wins make of both. Assumes nothing.
+-- What takes and elections change of a record, the office that it holds with a log's words, and what an election step makes of both. Assumes nothing.
 use Prim.Native.Nat.{ℕ, _+_, _≤_}
 use mathlib.Core.Path.{_≡_}
 use mathlib.Core.Bool.{true}
@@ -7,26 +6,19 @@ use mathlib.Core.List.{List, map}
 use mathlib.Core.Option.{Option}
 use lib.ListN.{length, take, drop, set}
 use Rattle.lists.specs.Tests.{allB}
-use Rattle.protocol.specs.Limits.{lengthLimit}
 use Rattle.protocol.specs.Entry.{isEntry}
-use Rattle.protocol.specs.Counts.{countOf, quieterBy}
+use Rattle.protocol.specs.Counts.{quieterBy}
 use Rattle.protocol.specs.Vote.{winner}
 use Rattle.protocol.specs.Office.{Office, votes}
-use Rattle.protocol.specs.Elect.{lose, next, withElect}
+use Rattle.protocol.specs.Elect.{lose, next}
 use Rattle.ballots.specs.Ballots.{tailOf, ballotOf, ballotFine, isNoBallot, officeIn}
 use Rattle.ballots.specs.declared.Ballot.{Ballot}
-use Rattle.summary.specs.Summary.{summaryAfter, summaryNext}
-use Rattle.kept.specs.Kept.{ruleBehind}
-use Rattle.kept.specs.declared.Kept.{Kept}
+use Rattle.summary.specs.Summary.{summaryNext}
 use Rattle.elections.specs.declared.State.{State}
 
 -- the office that a state and a log's words hold
 abbrev pub heldIn : State → List ℕ → Office
 heldIn s words = officeIn words (s .held) (s .ballots)
-
--- the state that holds an office, behind dropped entries of which `kept` is kept
-abbrev pub stateOf : Kept → Office → State
-stateOf kept o = record { summary = summaryAfter (kept .summary) (o .log); held = length (o .log); ballots = map ballotOf (o .tails) }
 
 -- what a step asks: a state of n offices within the limits, in words with room
 pub record Steppable (n : ℕ) (s : State) (words : List ℕ) : Type 0 where
@@ -37,16 +29,6 @@ pub record Steppable (n : ℕ) (s : State) (words : List ℕ) : Type 0 where
   pub eight : length (s .ballots) ≡ 8
   pub fine : allB (ballotFine n (s .held)) (s .ballots) ≡ true
   pub rest : allB isNoBallot (drop n (s .ballots)) ≡ true
-
--- what elections ask: every sound record of n offices that keeps this has it
-pub record Electable (n : ℕ) (kept : Kept) (s : State) (words : List ℕ) : Type 0 where
-  pub limits : Steppable n s words
-  pub done : s .summary ≡ summaryAfter (kept .summary) (take (s .held) words)
-  pub countable : (k : ℕ) → countOf (kept .counts) k ≤ lengthLimit
-
--- "until no entry wins"
-abbrev pub electedIn : Kept → State → List ℕ → Office
-electedIn kept s words = withElect (ruleBehind kept) (heldIn s words)
 
 -- the entry that wins, if any, by the present weights and these counts
 abbrev pub winnerIn : List ℕ → State → List ℕ → Option ℕ

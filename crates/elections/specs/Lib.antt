@@ -1,2 +1,2 @@
--- The definitions that the contracts of `elections` cite.
+-- The definitions that the contract of the election step, in `frame`, cites.
 pub mod Elections

@@ -1,5 +1,6 @@
-// The engine's calls as C functions, for a service to link: the record by value, log and buffers lent. Each answers
-// what the call of `frame` answers, by the same equation; include/joukerpan.h declares them for C.
+// The engine's calls as C functions, for a service to link: the record by value, log and buffers lent. Each answers what the call that it hands on
+// answers, by that call's equation; settled, the two frames of a line and the forecast cross as `Part`, `Framed` and `Foreseen`. include/joukerpan.h
+// declares them for C.
 ghost use mathlib.Core.Path.{_≡_};
 ghost use Rattle.frame.specs.Soundness.{soundB};
 ghost use Rattle.frame.specs.Founding.{foundOf};

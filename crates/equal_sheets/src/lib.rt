@@ -1,9 +1,1 @@
-// Household sheets in the world of demand 3: the claim in specs/, its proof in proofs/. A crate has at least one function.
-ghost use mathlib.Core.Path.{_≡_};
-
-// The number itself; nothing calls it.
-fn same(x: usize) -> usize
-    ensures { λ r. ⌜ r ≡ x ⌝ }
-{
-    x
-}
+// Household sheets in the world of demand 3: the claim in specs/, its proof in proofs/; no code.

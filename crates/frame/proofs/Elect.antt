@@ -22,7 +22,7 @@ use Rattle.protocol.proofs.Elect.{elect-log, elect-stops}
 use Rattle.ballots.specs.Ballots.{wordsWith}
 use Rattle.kept.specs.Kept.{ruleBehind}
 use Rattle.kept.specs.declared.Kept.{Kept}
-use Rattle.elections.specs.Elections.{stateOf, electedIn}
+use Rattle.elections.proofs.Holding.{stateOf, electedIn}
 use Rattle.elections.specs.declared.State.{State}
 use Rattle.elections.proofs.Run as Run
 use Rattle.frame.specs.State.{heldLength, heldBy, foldedBy, stateIn, withState, keptBy, holdingBehind, holding}

@@ -29,7 +29,8 @@ use Rattle.kept.specs.Kept.{KeptFacts, Roomy, keptAfter}
 use Rattle.kept.specs.declared.Kept.{Kept}
 use Rattle.kept.proofs.Laws.{kept-nil, count-within, roomy, after-fine}
 use Rattle.soundness.proofs.Folded as fields
-use Rattle.elections.specs.Elections.{Steppable, Electable}
+use Rattle.elections.specs.Elections.{Steppable}
+use Rattle.elections.proofs.Holding.{Electable}
 use Rattle.elections.proofs.Holding as Holding
 use Rattle.frame.specs.State.{heldLength, heldBy, foldedBy, stateIn, withHeld, ownBallot, goes, keptBy, holdingBehind, holding}
 use Rattle.frame.specs.Soundness.{Sound}

@@ -20,7 +20,8 @@ use Rattle.ballots.specs.Ballots.{tailOf, ballotOf, wordsWith}
 use Rattle.ballots.specs.declared.Ballot.{Ballot}
 use Rattle.summary.specs.Summary.{summaryNext}
 use Rattle.summary.specs.declared.Summary.{Summary}
-use Rattle.elections.specs.Elections.{Steppable, stateOf, electedIn, winnerIn, settledBy, stepOf, stepWords}
+use Rattle.elections.specs.Elections.{Steppable, winnerIn, settledBy, stepOf, stepWords}
+use Rattle.elections.proofs.Holding.{stateOf, electedIn}
 use Rattle.elections.specs.declared.State.{State}
 use Rattle.elections.proofs.Run as E
 use Rattle.elections.proofs.Run.{Running}

@@ -2,8 +2,8 @@
 // the sender had dropped dropped, the log caught up, the ballots brought past it and offered the message's.
 // Public only for the crate above, which proves what the functions require.
 ghost use mathlib.Core.Path.{_≡_};
-ghost use Prim.Native.Nat.{_-_, _*_, _≤_};
-ghost use lib.ListN.{length, take};
+ghost use Prim.Native.Nat.{_*_, _≤_};
+ghost use lib.ListN.{length};
 ghost use Rattle.numbers.specs.Numbers.{runAt};
 ghost use Rattle.spelling.specs.Reading.{recordAt};
 ghost use Rattle.ballots.specs.Ballots.{wordsWith};

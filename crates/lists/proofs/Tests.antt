@@ -137,11 +137,6 @@ unfolding allB
 all-append-0 t [] ys p = refl
 all-append-0 t (x ∷ xs) ys p = both-true (t x) (allB t xs) (both-0 _ _ p) (all-append-0 t xs ys (both-1 _ _ p))
 
-pub all-append-1 : {A : Type 0} (t : A → Bool) (xs ys : List A) → allB t (xs ++ ys) ≡ true → allB t ys ≡ true
-unfolding allB
-all-append-1 t [] ys p = p
-all-append-1 t (x ∷ xs) ys p = all-append-1 t xs ys (both-1 _ _ p)
-
 pub all-map : {A B : Type 0} (t : A → Bool) (u : B → Bool) (f : A → B) → ((x : A) → t x ≡ true → u (f x) ≡ true) → (xs : List A) → allB t xs ≡ true → allB u (map f xs) ≡ true
 unfolding allB
 all-map t u f h [] p = refl

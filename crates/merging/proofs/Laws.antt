@@ -17,7 +17,7 @@ use Rattle.protocol.proofs.Beginning.{⊏-⊑, ⊑-⊏-trans, ⊏-irrefl, ⊑-a
 use Rattle.ballots.specs.declared.Ballot.{Ballot}
 use Rattle.ballots.specs.Ballots.{ballotOf}
 use Rattle.ballots.proofs.Laws.{tail-of}
-use Rattle.merging.specs.Merging.{restPast, pastBallot, adoptedTail, adoptedBallot, adoptedAll}
+use Rattle.merging.specs.Merging.{restPast, pastBallot, adoptedBallot, adoptedAll}
 
 -- ── tails for paths ──
 extends-behind : (l t x : List ℕ) → extends (l ++ t) (l ++ x) ≡ extends t x
@@ -56,7 +56,11 @@ unfolding extends
 nothing-extends [] = refl
 nothing-extends (y ∷ t) = refl
 
-pub adopt-past : (m x t q : List ℕ) → adopt (m ++ x) t (m ++ q) ≡ adoptedTail t (restPast x q)
+-- the tail that is left where another is offered
+unfoldable adoptedTail : List ℕ → List ℕ → List ℕ
+adoptedTail t q = pick (extends q t) q t
+
+adopt-past : (m x t q : List ℕ) → adopt (m ++ x) t (m ++ q) ≡ adoptedTail t (restPast x q)
 unfolding adoptedTail restPast pick
 adopt-past m x t q =
     rw (append-assoc m x t, extends-behind m q (x ++ t), drop-behind m q x) (cond-pick (extends q (x ++ t)) (drop (length x) q) t ∙ go (extends q x) refl)

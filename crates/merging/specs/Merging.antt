@@ -16,9 +16,6 @@ unfoldable pub pastBallot : List ℕ → Ballot → Ballot
 pastBallot ws b = ballotOf (restPast ws (tailOf b))
 
 -- a ballot becomes the offered one where the offered tail extends its own
-unfoldable pub adoptedTail : List ℕ → List ℕ → List ℕ
-adoptedTail t q = pick (extends q t) q t
-
 unfoldable pub adoptedBallot : Ballot → Ballot → Ballot
 adoptedBallot b q = pick (extends (tailOf q) (tailOf b)) q b
 

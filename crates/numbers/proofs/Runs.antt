@@ -71,8 +71,3 @@ module _ (w : ℕ) (f : ℕ → List ℕ) (g : List ℕ → ℕ) (p : List ℕ �
   run-back zero s b h = rw mul-zero
   run-back (suc k) s b h =
       rw (append-assoc, drop-more, run-back k (drop w s) (bytes-drop w s b) (both-1 (p s) _ h)) (I .back s b (both-0 (p s) _ h))
-
-  pub run-fine : (k : ℕ) (s : List ℕ) → Bytes s → runOk w p k s ≡ true → allB ok (runAt w g k s) ≡ true
-  unfolding runAt runOk allB
-  run-fine zero s b h = refl
-  run-fine (suc k) s b h = both-true _ _ (I .fine s b (both-0 (p s) _ h)) (run-fine k (drop w s) (bytes-drop w s b) (both-1 (p s) _ h))

@@ -66,9 +66,6 @@ module _ (k : ℕ) (m : Packet) (f : FoldedOffice) (h : refuseFoldedTake k m f �
   none : m .dropped - more ≡ 0
   none = omega arith
 
-  grown : length (f .held .log) - (m .dropped - f .dropped) ≤ length (o .log)
-  grown = omega (arith, length-drop (m .dropped - f .dropped) (f .held .log), ⊑-length (caughtUp m f .log) (o .log) (take-moves k (fromThere m f) (caughtUp m f) 0 .0))
-
   twice-found : TakeFound k m once
   unfolding withFoldedTake
   twice-found = record {

@@ -1,8 +1,6 @@
 -- A machine that follows the world with folding: states W that are shaped like such worlds, and calls C like their calls. It has one order, over
--- whole logs (`one-order-folder`), and what is known of the world with folding is known of each world that its states are shaped like.
---     both-at                                    the facts, after any list of calls
---     folder-reached                             the whole logs and tails are those of a world that document 01's calls reach
---     folder-meets, folder-takes, folder-shared  never 16; a take's numbers; every office has what any office has dropped
+-- whole logs (`one-order-folder`).
+--     both-at         the facts, after any list of calls
 -- Assumes nothing.
 use mathlib.Core.Path.{_≡_, refl, sym, ap, subst, _∙_}
 use mathlib.Core.List.{List, [], _∷_}
@@ -93,25 +91,6 @@ module _ (founding : List ℕ) (n : ℕ) (pos : 0 < n) (m : Folder founding n) w
 
   pub one-order-folder : n ≤ 8 → (cs : List (m .C)) → OneOrderOf (wholly m) n cs
   one-order-folder most cs = one-order-machine (wholly m) rule n follows (settled-lawful founding) most pos cs
-
-  module _ (cs : List (m .C)) where
-    -- the world that the state is shaped like
-    abbrev shaped : F.World
-    shaped = m .shape (reached (wholly m) cs)
-
-    pub folder-reached : (history : List P.Call) × (F.view shaped ≡ H.after rule n history)
-    folder-reached = let s = both-at cs .there in (s .history, s .reached)
-
-    -- "Sent messages never meet 16"
-    pub folder-meets : (c : F.Call) → F.names shaped c ≡ true → F.number shaped c ≡ 16 → ⊥
-    folder-meets c = meets founding n pos shaped (both-at cs .there) c
-
-    pub folder-takes : (k i : ℕ) → F.names shaped (F.take k i) ≡ true
-        → (F.number shaped (F.take k i) ≡ 0) ⊎ ((F.number shaped (F.take k i) ≡ 9) ⊎ (F.number shaped (F.take k i) ≡ 17))
-    folder-takes k i = takes founding n pos shaped (both-at cs .there) k i
-
-    pub folder-shared : (k j : ℕ) → j < n → F.deskAt shaped k .former ⊑ F.logAt shaped j
-    folder-shared k j = shared founding n pos shaped (both-at cs .there) k j
 
 -- the world with folding is such a machine
 pub itself : (founding : List ℕ) (n : ℕ) → Folder founding n

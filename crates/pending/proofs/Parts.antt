@@ -17,7 +17,7 @@ use lib.Seq.{drop-length, drop-append-seam}
 use Rattle.protocol.specs.Entry.{officeOf}
 use Rattle.protocol.specs.Beginning.{_⊑_, _⊏_, extends}
 use Rattle.protocol.specs.Office.{Office, tail, path}
-use Rattle.pending.specs.Parts.{common, settledOf, keptOf, pendingOf, lostOf, entriesOf, Loses, Stands}
+use Rattle.pending.specs.Parts.{common, keptPart, settledOf, pendingOf, lostOf, entriesOf, Loses, Stands}
 use Rattle.lists.proofs.Tests.{if-cases}
 use Rattle.protocol.proofs.Beginning.{⊑-refl, ⊑-trans, ⊏-⊑-trans, ⊑-antisym, ⊑-comparable, ⊑-append, ⊑-rest, ⊑-length, snoc-⊑, extends-true, extends-false}
 use Rattle.protocol.proofs.Office.{OfficeMoves}
@@ -47,6 +47,10 @@ behind (x ∷ l) a b h = behind l a b (h .1)
 ⊏-snoc (x ∷ a) (y ∷ p) e h = (h .0, ⊏-snoc a p e (h .1))
 
 -- ── one call at office k ──
+-- what settled and what is pending of its tail
+abbrev pub keptOf : ℕ → Office → Office → List ℕ
+keptOf k o o' = keptPart (tail o k) (drop (length (o .log)) (path o' k))
+
 module _ (k : ℕ) (o o' : Office) where
   low : drop (length (o .log)) (o' .log) ⊑ drop (length (o .log)) (path o' k)
   low = drop-⊑ (length (o .log)) (o' .log) (path o' k) (⊑-append (o' .log) (tail o' k))

@@ -36,9 +36,6 @@ lostPart t p = drop (length (keptPart t p)) t
 abbrev pub settledOf : ℕ → Office → Office → List ℕ
 settledOf k o o' = settledPart (tail o k) (drop (length (o .log)) (o' .log))
 
-abbrev pub keptOf : ℕ → Office → Office → List ℕ
-keptOf k o o' = keptPart (tail o k) (drop (length (o .log)) (path o' k))
-
 abbrev pub pendingOf : ℕ → Office → Office → List ℕ
 pendingOf k o o' = pendingPart (tail o k) (drop (length (o .log)) (o' .log)) (drop (length (o .log)) (path o' k))
 

@@ -3,8 +3,8 @@
 --     never-4           (r : Record) (words : List ℕ) (line code : ℕ) → issueNumber r words line code ≡ 4 → ⊥
 --     full-has-part     (r : Record) (words : List ℕ) → soundB r words ≡ true → FullHasPart r words
 --     stopped-by-5      (r : Record) (words : List ℕ) → soundB r words ≡ true → StoppedBy5 r words
--- That a done issue, take, elect or fold leaves a sound record, and so tails within their parts, is `issue-sound`, `take-sound`, `elect-sound` and
--- `fold-sound` (frame/proofs); that a message that a sound record sends is read is `send-read` there. Assumes nothing.
+-- That a done issue, take, elect or fold leaves a sound record, and so tails within their parts, is `issue-sound`, `take-sound`, `elect-sound`
+-- (frame/proofs) and `fold-sound` (folding/proofs); that a message that a sound record sends is read is `send-read` (sending/proofs). Assumes nothing.
 use mathlib.Core.Path.{_≡_}
 use mathlib.Core.Bool.{true}
 use mathlib.Core.List.{List}

@@ -1,6 +1,6 @@
 -- The limits of an office's state, as facts by name, and that every call keeps them.
 --     Fine, fine, fine-of       the facts behind the test `officeFine`, and both ways between them
---     Head, head, head-true     the same of the numbers that founding is given
+--     head, head-true           the same of `Head`, the numbers that founding is given
 --     fresh-fine, settle-fine, elect-fine, catchUp-fine, take-fine      each call keeps them; issue has a file of its own (Issue)
 --     take-done                 what a take that is done found
 -- Assumes nothing.

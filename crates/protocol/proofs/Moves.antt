@@ -47,13 +47,6 @@ proper-of n line code p =
     (λ _. le-leb code 9999 (p .code-ok))
     (λ e. both-true _ _ (lt-ltb line (64 + n) (p .line-ok)) (both-true _ _ (le-leb 1 code (p .some (leb-false line 63 e))) (le-leb code 9999 (p .code-ok))))
 
-pub proper-not : (n line code : ℕ) → (Proper n line code → ⊥) → false ≡ proper n line code
-proper-not n line code f = go (proper n line code) refl
-  where
-    go : (t : Bool) → proper n line code ≡ t → false ≡ t
-    go true e = absurd (f (proper-true n line code e))
-    go false e = refl
-
 -- a proper office, line and code stand in the value
 pub value-parts : (n office line code : ℕ) → n ≤ 8 → Proper n line code
     → (officeOf (value office line code) ≡ office) × (lineOf (value office line code) ≡ line) × (codeOf (value office line code) ≡ code)

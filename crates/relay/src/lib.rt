@@ -1,9 +1,1 @@
-// Request (vi) on records, log words and message bytes: what is claimed in specs/, its proof in proofs/. A crate has at least one function.
-ghost use mathlib.Core.Path.{_≡_};
-
-// The number itself; nothing calls it.
-fn same(x: usize) -> usize
-    ensures { λ r. ⌜ r ≡ x ⌝ }
-{
-    x
-}
+// Request (vi) on records, log words and message bytes: what is claimed in specs/, its proof in proofs/; no code.

@@ -32,10 +32,6 @@ use Rattle.sheet.specs.declared.Sheet.{Sheet}
 use Rattle.sheet.proofs.Made.{number-sound, number-unsound}
 
 module _ (r : Record) (words s : List ℕ) where
-  number-is : sheetOf r words s .number ≡ sheetNumber r words s
-  unfolding sheetOf
-  number-is = refl
-
   pub only-two : (sheetOf r words s .number ≡ 0) ⊎ ((sheetOf r words s .number ≡ 1) ⊎ (sheetOf r words s .number ≡ 12))
   unfolding sheetOf sheetNumber pick
   only-two = go (soundB r words) (areHouseholds s)

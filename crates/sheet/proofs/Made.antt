@@ -1,5 +1,5 @@
 -- How the sheet is made: refused with 1 or 12, or done.
---     sound-of, unsound-of                     frame's call is done exactly on a sound record
+--     sound-of, unsound-of                     `all_lines` is done exactly on a sound record
 --     sheet-unsound, sheet-no-households       refused
 --     lines-fit, lines-sheet                   the lines' totals fit, and pooled by their codes they are the sheet
 --     sheet-made                               done
@@ -34,7 +34,7 @@ use Rattle.sheet.specs.Sheet.{sheetNumber, sheetRows, settledCodes, noSh
 use Rattle.sheet.specs.declared.Sheet.{Sheet}
 
 module _ (r : Record) (words : List ℕ) where
-  -- frame's call is done exactly on a sound record
+  -- `all_lines` is done exactly on a sound record
   pub number-sound : soundB r words ≡ true → allLinesOf r words .number ≡ 0
   unfolding allLinesOf pick
   number-sound e = rw e

@@ -1,12 +1,12 @@
 // What the entries of a settled log have done, as a record holds it: the weights after its moves, and the last edit of each line.
 ghost use mathlib.Core.Path.{_≡_};
-ghost use Prim.Native.Nat.{_<_, _≤_};
+ghost use Prim.Native.Nat.{_<_};
 ghost use mathlib.Core.List.{_++_};
 ghost use mathlib.Core.Option.{some};
 ghost use lib.ListN.{length, replicate, take};
 ghost use Rattle.lists.specs.Tests.{allB, same};
 ghost use Rattle.protocol.specs.Entry.{officeOf, lineOf, codeOf};
-ghost use Rattle.protocol.specs.Codes.{cell, coded, codesAfter};
+ghost use Rattle.protocol.specs.Codes.{cell, codesAfter};
 ghost use Rattle.protocol.specs.Moves.{move, weightsAfter};
 ghost use Rattle.summary.specs.Summary.{noMove, startWith, summaryAfter, summaryNext, sameSummary};
 

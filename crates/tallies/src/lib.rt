@@ -156,7 +156,8 @@ fn vote_wins(
     beats_all(votes, weights, counts, n, te, u, vote)
 }
 
-// The entry that wins the step, if any, by the weights and the counts of the settled log. Public only for the crate above, which proves what it requires.
+// The entry that wins the step, if any, by the weights and the counts of the settled log. Public only for the crates above, which prove what it
+// requires.
 pub fn find_winner(votes: [u32; 8], weights: [u16; 8], counts: [u64; 8], n: usize) -> Winner
     requires { ⌜ SilentFrom n votes ⌝ }
     ensures { λ r. ⌜ r ≡ winnerIs (winner weights (quieterBy counts) (votesIn votes)) ⌝ }

@@ -1,7 +1,7 @@
 -- An office of 8 or more has no count, and the store of the definition leaves the others.
 use borrow.Author.Needs.{needs}
 use native.Mathlib.Omega.{arith}
-use mathlib.Core.Path.{_≡_, ap}
+use mathlib.Core.Path.{ap}
 use Rattle.protocol.specs.Counts.{countOf}
 use Rattle.counting.proofs.Counting.{counted-in, counted-far}
 use Rattle.counting.proofs.count.Statement.{statement}

@@ -1,4 +1,4 @@
--- The number and the part are those that frame's call hands back; the answer is the one beside the other's length.
+-- The number and the part are those that `settled` hands back; the answer is the one beside the other's length.
 use borrow.Author.Needs.{needs}
 use Rattle.embed.specs.Part.{partOf}
 use Rattle.embed.proofs.joukerpan_settled.Statement.{statement}

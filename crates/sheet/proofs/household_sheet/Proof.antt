@@ -19,7 +19,7 @@ use Rattle.sheet.proofs.Made.{sound-of, unsound-of, sheet-unsound, shee
 use Rattle.sheet.proofs.household_sheet.Statement.{statement}
 use Rattle.sheet.proofs.household_sheet.Tie as tie
 
--- the places of the code: the start, behind frame's call, behind the test of its number, behind the pools and their test
+-- the places of the code: the start, behind `all_lines`, behind the test of its number, behind the pools and their test
 abbrev start : tie.After-all-lines → tie.Start
 start c = c .before .before .before
 
@@ -38,7 +38,7 @@ sound c = sound-of _ _ (sym (ap (λ (l : Lines). l .number) (shown c .all-lines 
 are : (c : tie.Else2) → areHouseholds (bytes c) ≡ true
 are c = sym (pools-ok (bytes c)) ∙ sym (ap (λ (p : Pools). p .ok) (read c .pool .ensures)) ∙ not-false _ (c .if2 .left)
 
--- the codes that frame's call answered
+-- the codes that `all_lines` answered
 abbrev codes : tie.Else2 → List ℕ
 codes c = shown (read c .before) .all-lines .result .codes
 

@@ -1,7 +1,6 @@
 -- Each test that fails says why the entry moves nothing; where none does, the two stores are the move.
 use borrow.Author.Needs.{needs}
 use native.Mathlib.Omega.{arith}
-use Prim.Native.Nat.{_-_}
 use Rattle.summary.proofs.Moves.{stays, stays-far, stays-poor, stays-full, shifted}
 use Rattle.summary.proofs.settle_move.Statement.{statement}
 use Rattle.summary.proofs.settle_move.Tie as tie
