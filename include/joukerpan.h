@@ -56,7 +56,8 @@ enum {
     JOUKERPAN_FOUNDING = 2,       /* founding: n, own office or weights outside the limits */
     JOUKERPAN_NO_ENTRY = 3,       /* line or code outside the limits: see issue; of a frame: line above 63 */
     JOUKERPAN_TAIL_FULL = 4,      /* no longer given: an own tail that is 32 long has the own office's part (11) */
-    JOUKERPAN_LOG_FULL = 5,       /* undropped entries and own tail make 1,024, or all settled ones and it 2^63: fold */
+    JOUKERPAN_LOG_FULL = 5,       /* undropped entries and own tail make 1,024 (fold makes room, where every office
+                                     was heard of), or all settled ones and it 2^63 */
     JOUKERPAN_OUTPUT_SHORT = 6,   /* output shorter than what is to be written */
     JOUKERPAN_NO_MESSAGE = 7,     /* message not of the layout, or a number in it outside the limits */
     JOUKERPAN_OTHER_OFFICES = 8,  /* message's n or founding weights differ from the record's */
@@ -303,8 +304,8 @@ joukerpan_elected joukerpan_elect(joukerpan_record record, uint32_t *log, size_t
  * Drops the first settled entries, all that every office is known to have, and answers how many went: those up
  * to the least of the own length and the lengths noted of the other offices, an office never heard of counting
  * as 0. What they have done stays in the record, so frames, weights, ties, vectors and sheets answer as before;
- * the rest of the settled words moves to the front of the log, and words past it keep their contents. A log
- * that is full has room again (5). Refused: 1.
+ * the rest of the settled words moves to the front of the log, and words past it keep their contents. Where
+ * entries went, a full log has room again (5). Refused: 1.
  */
 joukerpan_folded joukerpan_fold(joukerpan_record record, uint32_t *log, size_t log_len);
 
@@ -356,8 +357,8 @@ joukerpan_tallied joukerpan_standing(joukerpan_record record, const uint32_t *lo
  * The household sheet: the weights of the households pooled under the settled codes of their lines, a row
  * for each code met, codes rising. Households under lines that no one has coded, if there are any, are the
  * first row, apart from code 0. The bytes are household records, JOUKERPAN_HOUSEHOLD bytes each, and nothing
- * else; none of them is a done, empty sheet. Two offices with equal settled logs answer equal sheets.
- * Refused: 1, 12.
+ * else; none of them is a done, empty sheet. Two offices of one frame with equal settled logs, dropped
+ * entries included, answer equal sheets. Refused: 1, 12.
  */
 joukerpan_tabulated joukerpan_sheet(joukerpan_record record, const uint32_t *log, size_t log_len,
                                     const uint8_t *households, size_t households_len);

@@ -18,8 +18,8 @@ impl Earlier {
         &self.edits
     }
 
-    /// How many words of the log were read: the length of the shortest run of settled entries ending at the place
-    /// that has an edit for each line named, or all up to the place.
+    /// How many words of the log were read: the length of the shortest undropped run ending at the place that has an
+    /// edit for each line named, or all undropped ones up to the place.
     pub fn words(&self) -> usize {
         self.words
     }

@@ -28,7 +28,7 @@
 //! # Ok::<(), Refused>(())
 //! ```
 //!
-//! The settled log has room for 1,024 entries; [`Office::fold`] drops those that every office has.
+//! The settled log has room for 1,024 entries; [`Office::fold`] drops those that every office is known to have.
 //!
 //! The tabulator's sheet of households, class by class, is [`Office::sheet`]; version vectors for an archive
 //! are [`Office::vectors`]. What would win by next round's weights, where they are known within bounds, is

@@ -133,8 +133,8 @@ impl Office {
     }
 
     /// The present weight of each office, by which elections here count: its founding weight after the
-    /// moves of the settled log. The total never changes. Offices with equal settled logs have equal
-    /// present weights; one that has settled less may have others still.
+    /// moves of the settled log. The total never changes. Offices of one frame with equal settled logs, dropped
+    /// entries included, have equal present weights; one that has settled less may have others still.
     pub fn present(&self) -> &[u16] {
         &self.record.summary.present[..self.record.n]
     }

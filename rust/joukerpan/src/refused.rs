@@ -66,7 +66,8 @@ pub enum Refused {
     /// Where a service does what [`Office`](crate::Office) asks of it, this is never given (proved). Where it is, do
     /// as with [`Refused::OtherLog`].
     BeginsPast = 16,
-    /// The message's log ends inside the part that is dropped here: an old message, which has nothing new.
+    /// The message's log ends inside the part that is dropped here. An old message: all that it has settled is settled
+    /// and dropped here.
     EndsInside = 17,
 }
 

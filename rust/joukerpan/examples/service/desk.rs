@@ -44,7 +44,7 @@ fn work(office: &mut Office, event: Event) -> Result<(usize, Outcome), Refused> 
     let (mut edits, mut outcome) = (0, Outcome::default());
     match event {
         Event::Message(message) => match hear(office, &message) {
-            Err(Refused::EndsInside) => {} // all that it has is settled here, and dropped
+            Err(Refused::EndsInside) => {} // an old message: all that it has settled is settled and dropped here
             heard => outcome = heard?,
         },
         Event::Turn(Some((line, code)), _done) => match office.issue(line, code) {

@@ -146,7 +146,7 @@ impl Office {
     ///
     /// [`Refused::NoMessage`], [`Refused::OtherOffices`], [`Refused::OwnMessage`], [`Refused::BeginsPast`],
     /// [`Refused::EndsInside`] or [`Refused::OtherLog`]. Any bytes have their answer. A service passes over
-    /// `EndsInside`: an old message, of which all is known here.
+    /// `EndsInside`, an old message: all that it has settled is settled and dropped here.
     ///
     /// ```
     /// use joukerpan::{Office, Refused};

@@ -1,4 +1,4 @@
-//! Folding: the first settled entries, which every office has, are dropped.
+//! Folding: the first settled entries, which every office is known to have, are dropped.
 
 use joukerpan_sys as engine;
 use joukerpan_sys::LOG;

@@ -31,7 +31,7 @@ impl Office {
     ///
     /// The record holds these codes, and take and elect keep them true; the engine tests them against the log
     /// once, for all lines together. So a screen that shows every line asks this, and not 64 times for one.
-    /// Two offices with equal settled logs, dropped entries included, have equal frames.
+    /// Two offices of one frame with equal settled logs, dropped entries included, have equal frames.
     ///
     /// ```
     /// use joukerpan::{Office, Refused};
@@ -121,8 +121,8 @@ impl Office {
     /// The bytes are household records and nothing else, [`HOUSEHOLD`](crate::HOUSEHOLD) bytes each: 0x48
     /// 0x52, the line, the grossing weight with its most significant byte first ([`Household`](crate::Household)
     /// writes them). No bytes are a sheet without rows; a household of weight 0 makes its class met. The
-    /// totals add up to the weights read, and two offices with equal settled logs, dropped entries included, have
-    /// equal sheets of the same households (proved).
+    /// totals add up to the weights read, and two offices of one frame with equal settled logs, dropped entries
+    /// included, have equal sheets of the same households (proved).
     ///
     /// # Errors
     ///
