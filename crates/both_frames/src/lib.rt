@@ -25,7 +25,7 @@ pub struct Lines {
 }
 
 // What a stored code says: 0 is for no edit yet, any other number for the code below it.
-pub fn stored_edit(stored: u32) -> Edit
+fn stored_edit(stored: u32) -> Edit
     ensures { λ r. ⌜ r ≡ storedEdit stored ⌝ }
 {
     if stored == 0 {

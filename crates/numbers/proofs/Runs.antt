@@ -9,7 +9,7 @@ use native.Mathlib.Omega.{arith}
 use lib.ListN.{length, drop, length-append}
 use lib.Seq.{drop-at, drop-drop, getD-drop}
 use Rattle.lists.specs.Tests.{allB, both}
-use Rattle.lists.proofs.Tests.{both-1, both-0, both-true}
+use Rattle.lists.proofs.Tests.{both-1, both-0}
 use Rattle.numbers.specs.Numbers.{runAt, Bytes, run, runOk}
 
 -- an item of w bytes: f writes it, g reads it, p tests that it stands there, ok its limits

@@ -1,4 +1,5 @@
--- Document 01's lettered cases A to L, computed on the definitions, as one list; the mistakes that it names, and the limits. Assumes nothing.
+-- Document 01's lettered cases A to L, computed on the definitions that the calls' contracts cite, as one list; the mistakes that it names, and the
+-- limits. Nothing has been dropped. Assumes nothing.
 use mathlib.Core.Path.{_≡_, refl}
 use mathlib.Core.List.{List, [], _∷_}
 use mathlib.Core.Option.{none}
@@ -12,14 +13,13 @@ use Rattle.protocol.specs.Vote.{tally, unheard, supported, wins, winner}
 use Rattle.protocol.specs.Moves.{isMove, move, weightsAfter}
 use Rattle.protocol.specs.Counts.{countIn, countsAfter, quieterBy}
 use Rattle.protocol.specs.SettledRule.{bySettled}
-use Rattle.protocol.specs.Office.{Office, Message, votes, fresh}
+use Rattle.protocol.specs.Office.{Office, votes}
 use Rattle.lists.specs.Tests.{both, pick}
 use Rattle.protocol.specs.Limits.{lengthLimit}
 use Rattle.protocol.specs.Issue.{refusalAt}
 use Rattle.protocol.specs.Take.{rebase, catchUp, withTake, refuseTake}
 use Rattle.protocol.specs.Elect.{settle, electing, withElect, electCount}
-use Rattle.protocol.specs.Folding.{FoldedOffice, refuseFoldedIssue}
-use Rattle.protocol.proofs.World.{World, take, names, refusal, done, step}
+use Rattle.protocol.specs.Folding.{FoldedOffice, Packet, packet, refuseFoldedIssue, withFoldedElect, withFoldedTake, refuseFoldedTake}
 
 -- ── the cases' entries, weights and states ──
 abbrev pub a : ℕ
@@ -49,8 +49,9 @@ state l x y z = record { log = l; tails = x ∷ y ∷ z ∷ [] ∷ [] ∷ [] ∷
 abbrev pub behind : ℕ → Office → FoldedOffice
 behind dropped o = record { dropped = dropped; held = o; noted = replicate 8 0 }
 
-abbrev from : ℕ → Office → Message
-from k o = record { sender = k; state = o }
+-- office k's message of this state
+abbrev from : ℕ → Office → Packet
+from k o = packet k (behind 0 o)
 
 -- ── what a case says ──
 -- T(e) and U
@@ -62,11 +63,11 @@ Unheard ws o u = unheard ws (votes o) ≡ u
 
 -- elect leaves r and answers the count
 abbrev pub Elects : List ℕ → Office → Office → ℕ → Type 0
-Elects ws o r count = (withElect (bySettled ws) o ≡ r) × (electCount (bySettled ws) o ≡ count)
+Elects ws o r count = (withFoldedElect (bySettled ws) (behind 0 o) ≡ behind 0 r) × (electCount (bySettled ws) o ≡ count)
 
 -- office k takes the message: the number, and the state afterwards
-abbrev Takes : ℕ → Message → Office → Office → Type 0
-Takes k m o r = (refuseTake k m o ≡ 0) × (withTake k m o ≡ r)
+abbrev Takes : ℕ → Packet → Office → Office → Type 0
+Takes k m o r = (refuseFoldedTake k m (behind 0 o) ≡ 0) × (withFoldedTake k m (behind 0 o) .held ≡ r)
 
 -- ── the states of the cases ──
 abbrev inA : Office
@@ -92,15 +93,15 @@ abbrev settledA : Office
 settledA = state (a ∷ []) [] [] []
 
 -- "from office 0 an empty log with 0:ad"
-abbrev messageJ : Message
+abbrev messageJ : Packet
 messageJ = from 0 (state [] (a ∷ d ∷ []) [] [])
 
 abbrev afterJ : Office
 afterJ = state (a ∷ []) (d ∷ []) (d ∷ []) []
 
--- "log a, message log b": office 1 has log a, and office 0's message with log b was sent
-abbrev inL : World
-inL = record { offices = state (b ∷ []) [] [] [] ∷ settledA ∷ fresh ∷ []; sent = from 0 (state (b ∷ []) [] [] []) ∷ [] }
+-- "message log b"
+abbrev messageL : Packet
+messageL = from 0 (state (b ∷ []) [] [] [])
 
 pub cases :
     -- A: T 40, U 60; nothing settles
@@ -126,9 +127,9 @@ pub cases :
     Takes 1 messageJ settledA afterJ ×
     -- K: no change
     Takes 1 messageJ afterJ afterJ ×
-    -- L: 10, and a refused call changes nothing
-    ((refusal inL (take 1 0) ≡ 10) × (step (bySettled usual) inL (take 1 0) ≡ inL))
-unfolding begins extends countsAfter quieterBy weightsAfter move isMove both pick tally unheard supported wins winner rebase catchUp withTake refuseTake settle electing withElect names refusal done step
+    -- L, "Log a, message log b": 10
+    (refuseFoldedTake 1 messageL (behind 0 settledA) ≡ 10)
+unfolding begins extends countsAfter quieterBy weightsAfter move isMove both pick tally unheard supported wins winner rebase catchUp withTake refuseTake withFoldedTake refuseFoldedTake settle electing withElect withFoldedElect
 cases = (
   (refl, refl, (refl, refl)),
   (refl, refl, (refl, refl)),
@@ -141,7 +142,7 @@ cases = (
   (refl, refl),
   (refl, refl),
   (refl, refl),
-  (refl, refl),
+  refl,
 )
 
 -- "Mistakes that suggest themselves", where each would show, and two more that no lettered case shows
@@ -158,18 +159,19 @@ pub mistakes :
     Takes 1 (from 0 (state [] [] (b ∷ d ∷ []) [])) (state [] [] (b ∷ []) []) (state [] [] (b ∷ []) []) ×
     -- resetting all ballots when the log grows, or none: with log a, 0:ad keeps its path, 1:b and 2:a become none
     Takes 1 (from 2 settledA) (state [] (a ∷ d ∷ []) (b ∷ []) (a ∷ [])) (state (a ∷ []) (d ∷ []) [] [])
-unfolding begins extends countsAfter quieterBy weightsAfter move isMove both pick tally unheard supported wins winner rebase catchUp withTake refuseTake settle electing withElect
+unfolding begins extends countsAfter quieterBy weightsAfter move isMove both pick tally unheard supported wins winner rebase catchUp withTake refuseTake withFoldedTake refuseFoldedTake settle electing withElect withFoldedElect
 mistakes = ((refl, refl), refl, refl, (refl, refl, refl, (refl, refl)), (refl, refl), (refl, refl), (refl, refl))
 
 -- "Tails of 31 and 32, lengths of 1023 and 1024, line 63 and 64, code 9999 and 10000": the number of an issue at the only office of a frame, whose
--- part of the tail is all of it, so that 11 stands where 4 stood; line 65 is the first past the lines of moves
+-- part of the tail is all of it, so that 11 stands where 4 stood; line 64 is that of its moves, of 1 to 9999, and line 65 the first past it
 abbrev full : ℕ → ℕ → FoldedOffice
 full settled own = behind 0 (state (replicate settled a) (replicate own a) [] [])
 
 pub limits :
     (refuseFoldedIssue 1 0 63 9999 (full 0 0) ≡ 0) × (refuseFoldedIssue 1 0 65 9999 (full 0 0) ≡ 3) × (refuseFoldedIssue 1 0 63 10000 (full 0 0) ≡ 3) ×
+    (refuseFoldedIssue 1 0 64 9999 (full 0 0) ≡ 0) × (refuseFoldedIssue 1 0 64 10000 (full 0 0) ≡ 3) × (refuseFoldedIssue 1 0 64 0 (full 0 0) ≡ 3) ×
     (refuseFoldedIssue 1 0 63 9999 (full 0 31) ≡ 0) × (refuseFoldedIssue 1 0 63 9999 (full 0 32) ≡ 11) × (refuseFoldedIssue 1 0 65 9999 (full 0 32) ≡ 3) ×
     (refuseFoldedIssue 1 0 63 9999 (full 1023 0) ≡ 0) × (refuseFoldedIssue 1 0 63 9999 (full 1024 0) ≡ 5) × (refuseFoldedIssue 1 0 63 9999 (full 992 31) ≡ 0) ×
     (refuseFoldedIssue 1 0 63 9999 (full 993 31) ≡ 5) × (refuseFoldedIssue 1 0 63 9999 (full 992 32) ≡ 5)
 unfolding refuseFoldedIssue refusalAt lengthLimit proper both pick countIn
-limits = (refl, refl, refl, refl, refl, refl, refl, refl, refl, refl, refl)
+limits = (refl, refl, refl, refl, refl, refl, refl, refl, refl, refl, refl, refl, refl, refl)

@@ -11,6 +11,7 @@ use Rattle.protocol.specs.Counts.{countsAfter, quieterBy}
 use Rattle.protocol.specs.Vote.{tally, unheard, supported, wins, winner}
 use Rattle.protocol.specs.Issue.{refuseEntry}
 use Rattle.protocol.specs.Elect.{settle, electing, withElect}
+use Rattle.protocol.specs.Folding.{withFoldedElect}
 use Rattle.protocol.proofs.Cases.{a, b, d, three, usual, state, Elects}
 
 -- office `from` moves x to office `to`
@@ -49,5 +50,5 @@ pub elections :
     Elects usual (state [] (d ∷ []) [] []) (state [] (d ∷ []) [] []) 0 ×
     -- with 50 and 50 a has the tie; office 0 has handed 1 on, so b has it
     Elects (three 50 50 0) (state [] (moving 0 1 1 ∷ a ∷ []) (moving 0 1 1 ∷ b ∷ []) []) (state (moving 0 1 1 ∷ b ∷ []) [] [] []) 2
-unfolding both pick isWeight isMove canShift move weightsAfter countsAfter quieterBy tally unheard supported wins winner settle electing withElect
+unfolding both pick isWeight isMove canShift move weightsAfter countsAfter quieterBy tally unheard supported wins winner settle electing withElect withFoldedElect
 elections = ((refl, refl), refl, (refl, refl), (refl, refl), (refl, refl))

@@ -10,6 +10,7 @@ use Rattle.protocol.specs.Moves.{isMove, canShift, move, weightsAfter}
 use Rattle.protocol.specs.Counts.{countIn, noCounts, countsAfter, quieterBy, quieter}
 use Rattle.protocol.specs.Vote.{tally, unheard, supported, wins, winner}
 use Rattle.protocol.specs.Elect.{settle, electing, withElect}
+use Rattle.protocol.specs.Folding.{withFoldedElect}
 use Rattle.protocol.proofs.Cases.{a, b, d, three, state, Elects}
 
 -- the offices 0 and 1 have as much
@@ -56,5 +57,5 @@ pub elections :
     Elects even (state [] (x ∷ []) (y ∷ []) []) (state (x ∷ []) [] [] []) 1 ×
     -- only a tie: with 51 against 49 the busier office wins
     Elects (three 51 49 0) (state (d ∷ []) (a ∷ []) (b ∷ []) []) (state (d ∷ a ∷ []) [] [] []) 1
-unfolding both pick isWeight isMove canShift move weightsAfter countsAfter quieterBy tally unheard supported wins winner settle electing withElect
+unfolding both pick isWeight isMove canShift move weightsAfter countsAfter quieterBy tally unheard supported wins winner settle electing withElect withFoldedElect
 elections = ((refl, refl), (refl, refl), (refl, refl), (refl, refl), (refl, refl), (refl, refl), (refl, refl), (refl, refl), (refl, refl))
