@@ -1,10 +1,11 @@
 -- Request (xi): "Write, and answer the length of, the vectors .. of the settled log and then of all n offices' paths"; (xiv) their counts start from
 -- the kept ones. Assumes nothing.
 use Prim.Native.Nat.{ℕ}
-use mathlib.Core.List.{List, _++_}
+use mathlib.Core.List.{List}
 use lib.Dec.{eqb, ltb}
-use lib.ListN.{length, take, drop}
+use lib.ListN.{length, take}
 use Rattle.lists.specs.Tests.{pick}
+use Rattle.lists.specs.Padded.{inFront}
 use Rattle.vectors.specs.Vectors.{versionsBytes, versionsOf}
 use Rattle.frame.specs.State.{heldBy}
 use Rattle.frame.specs.Soundness.{soundB}
@@ -36,4 +37,4 @@ writeOf r words out = record {
 
 -- the output after it: later bytes keep their contents, and all of them where it is refused
 unfoldable pub writeBytes : Record → List ℕ → List ℕ → List ℕ
-writeBytes r words out = pick (eqb (writeNumber r words out) 0) (vectorsOf r words ++ drop (length (vectorsOf r words)) out) out
+writeBytes r words out = pick (eqb (writeNumber r words out) 0) (inFront (vectorsOf r words) out) out

@@ -1,11 +1,11 @@
 -- A ballot as cells and the tail that it holds; when ballots are within document 01's limits. Assumes nothing.
 use Prim.Native.Nat.{ℕ, _+_}
 use mathlib.Core.Bool.{Bool}
-use mathlib.Core.List.{List, [], _++_, map}
+use mathlib.Core.List.{List, [], map}
 use lib.Dec.{ltb, leb, eqb}
 use lib.ListN.{length, take, drop, set, replicate}
 use Rattle.lists.specs.Tests.{both, pick, allB}
-use Rattle.lists.specs.Padded.{padded}
+use Rattle.lists.specs.Padded.{padded, inFront}
 use Rattle.protocol.specs.Office.{Office}
 use Rattle.protocol.specs.Limits.{tailFine, tailsFine}
 use Rattle.ballots.specs.declared.Ballot.{Ballot}
@@ -51,7 +51,7 @@ officeIn words held bs = record { log = take held words; tails = map tailOf bs }
 
 -- a log's words with a settled log in front; "the others .. keep their contents"
 abbrev pub wordsWith : List ℕ → List ℕ → List ℕ
-wordsWith log words = log ++ drop (length log) words
+wordsWith log words = inFront log words
 
 -- the ballot with one entry more; a full one is unchanged
 unfoldable pub pushed : Ballot → ℕ → Ballot

@@ -17,7 +17,7 @@ use Rattle.lists.specs.Tests.{allB}
 use Rattle.lists.proofs.Tests.{zeros, all-getD}
 use Rattle.protocol.specs.Vote.{Votes, later, isFor, isNone, tally, unheard, and-also, supported, beats, beatsAll, wins, firstWinner, winner}
 use Rattle.tallies.specs.Tallies.{noVote, voteIn, votesIn, SilentFrom}
-use Rattle.bounds.specs.Bounds.{inEight}
+use Rattle.lists.specs.Padded.{inEight}
 
 -- the offices from place n on cast no vote
 abbrev pub Silent : ℕ → Votes → Type 0

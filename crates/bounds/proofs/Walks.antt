@@ -30,7 +30,8 @@ use Rattle.tallies.specs.Tallies.{winnerIs, noVote, cast, voteIn, votesIn, Sile
 use Rattle.tallies.specs.declared.Winner.{Winner}
 use Rattle.tallies.specs.declared.Winner.the-variants.{Entry, Nobody}
 use Rattle.tallies.proofs.Walks.{at-vote, winner-some, winner-none}
-use Rattle.bounds.specs.Bounds.{fits, worst, winsWorst, voteThat, inEight}
+use Rattle.bounds.specs.Bounds.{fits, worst, winsWorst, voteThat}
+use Rattle.lists.specs.Padded.{inEight}
 use Rattle.bounds.proofs.Eight.{silent-votes, winner-eight}
 
 -- ── the votes of eight ballots ──

@@ -7,7 +7,6 @@ use mathlib.Core.Bool.{Bool, true, false, cond}
 use Prim.Native.Nat.{ℕ, _≤_}
 use lib.Dec.{leb}
 use Rattle.lists.specs.Tests.{both}
-use Rattle.lists.specs.Padded.{padded}
 use Rattle.protocol.specs.Vote.{Votes, later, isFor, supported, wins, firstThat}
 use Rattle.protocol.specs.Winning.{Wins}
 
@@ -48,7 +47,3 @@ sureWinner low high before v = firstThat (winsWorst low high before v) (supporte
 abbrev pub voteThat : (ℕ → Bool) → Option ℕ → Bool
 voteThat t none = false
 voteThat t (some e) = t e
-
--- the weights of n offices in eight cells: zero from place n on
-abbrev pub inEight : List ℕ → List ℕ
-inEight = padded 8 0

@@ -6,7 +6,8 @@ ghost use Prim.Native.Nat.{_≤_};
 ghost use lib.ListN.{take};
 ghost use Rattle.protocol.specs.Counts.{quieterBy};
 ghost use Rattle.tallies.specs.Tallies.{winnerIs, noVote, cast, voteIn, votesIn, SilentFrom};
-ghost use Rattle.bounds.specs.Bounds.{fits, worst, winsWorst, voteThat, sureWinner, inEight};
+ghost use Rattle.bounds.specs.Bounds.{fits, worst, winsWorst, voteThat, sureWinner};
+ghost use Rattle.lists.specs.Padded.{inEight};
 use ballots::Ballot;
 use tallies::Winner;
 

@@ -2,11 +2,12 @@
 -- lost (written to a lent buffer, in their order; 6 if it is too short)". l and p are the settled log and the own path after the call, from the place
 -- on where t began. Assumes nothing.
 use mathlib.Core.Bool.{Bool}
-use mathlib.Core.List.{List, _++_}
+use mathlib.Core.List.{List}
 use Prim.Native.Nat.{ℕ}
 use lib.Dec.{leb}
 use lib.ListN.{length, drop}
 use Rattle.lists.specs.Tests.{pick}
+use Rattle.lists.specs.Padded.{inFront}
 use Rattle.pending.specs.Parts.{settledPart, pendingPart, lostPart, entriesOf}
 use Rattle.pending.specs.declared.Told.{Told}
 
@@ -36,4 +37,4 @@ toldOf own t l p rest = pick (hasRoom own t l rest) (toldDone own t l p) (toldRe
 
 -- the buffer afterwards: later words keep their contents, and all of them where it is refused
 unfoldable pub toldWords : ℕ → List ℕ → List ℕ → List ℕ → List ℕ
-toldWords own t l rest = pick (hasRoom own t l rest) (restOf own t l ++ drop (length (restOf own t l)) rest) rest
+toldWords own t l rest = pick (hasRoom own t l rest) (inFront (restOf own t l) rest) rest

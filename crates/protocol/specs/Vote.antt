@@ -40,10 +40,13 @@ unfoldable pub supported : List ℕ → Votes → List ℕ
 supported [] v = []
 supported (w ∷ ws) v = and-also (v 0) (supported ws (later v))
 
+-- a above b, or equal to it and e before f
+abbrev pub above : (ℕ → ℕ → Bool) → ℕ → ℕ → ℕ → ℕ → Bool
+above before a b e f = ltb b a || (eqb a b && before e f)
+
 -- "T(e) > T(f) + U, or T(e) = T(f) + U and the value of e is below that of f"; since (iii) the tie order is `quieterBy`
 abbrev pub beats : List ℕ → (ℕ → ℕ → Bool) → Votes → ℕ → ℕ → Bool
-beats ws before v e f =
-    ltb (tally ws v f + unheard ws v) (tally ws v e) || (eqb (tally ws v e) (tally ws v f + unheard ws v) && before e f)
+beats ws before v e f = above before (tally ws v e) (tally ws v f + unheard ws v) e f
 
 -- "for each other supported entry f"
 abbrev pub beatsAll : List ℕ → (ℕ → ℕ → Bool) → Votes → ℕ → List ℕ → Bool

@@ -22,7 +22,7 @@ use Rattle.lists.proofs.Fill.{filled, front-step}
 use Rattle.protocol.specs.Vote.{Votes, later, isNone, tally, and-also, supported}
 use Rattle.tallies.specs.Tallies.{noVote, voteIn, votesIn, weightFor}
 use Rattle.tallies.proofs.Walks.{votesFrom, at-vote, none-word, weight-entry, supported-step}
-use Rattle.bounds.specs.Bounds.{inEight}
+use Rattle.lists.specs.Padded.{inEight}
 use Rattle.bounds.proofs.Walks.{zeros-left}
 use Rattle.rows.specs.Rows.{without, distinct, rowEntries, rowsFor, rowsOf, marks, isIn, withRow, withVote}
 use Rattle.rows.specs.declared.Rows.{Rows}

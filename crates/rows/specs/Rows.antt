@@ -7,7 +7,7 @@ use lib.Dec.{eqb}
 use lib.ListN.{length, take, set}
 use Rattle.lists.specs.Tests.{pick}
 use Rattle.protocol.specs.Vote.{Votes, later, isNone, tally, supported}
-use Rattle.bounds.specs.Bounds.{inEight}
+use Rattle.lists.specs.Padded.{inEight}
 use Rattle.rows.specs.declared.Rows.{Rows}
 
 -- the entries without x

@@ -4,7 +4,7 @@ ghost use mathlib.Core.Bool.{cond};
 ghost use Prim.Native.Nat.{_≤_, _<_};
 ghost use lib.ListN.{take};
 ghost use Rattle.tallies.specs.Tallies.{voteIn, votesIn, weightFor};
-ghost use Rattle.bounds.specs.Bounds.{inEight};
+ghost use Rattle.lists.specs.Padded.{inEight};
 ghost use Rattle.rows.specs.Rows.{isIn, withVote, rowsOf, marks};
 
 // How many entries are supported, which, and the T of each; 0 past them.

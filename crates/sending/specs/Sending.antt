@@ -1,9 +1,10 @@
 -- "Send writes the message below and answers its length. Later bytes of the buffer keep their contents." Assumes nothing.
 use Prim.Native.Nat.{ℕ}
-use mathlib.Core.List.{List, _++_}
+use mathlib.Core.List.{List}
 use lib.Dec.{eqb, ltb}
-use lib.ListN.{length, drop}
+use lib.ListN.{length}
 use Rattle.lists.specs.Tests.{pick}
+use Rattle.lists.specs.Padded.{inFront}
 use Rattle.frame.specs.Message.{messageOf}
 use Rattle.frame.specs.Soundness.{soundB}
 use Rattle.frame.specs.declared.Record.{Record}
@@ -22,4 +23,4 @@ sendOf r words out = record {
 
 -- the output after send: "later bytes of the buffer keep their contents", and all of them where it is refused
 unfoldable pub sendBytes : Record → List ℕ → List ℕ → List ℕ
-sendBytes r words out = pick (eqb (sendNumber r words out) 0) (messageOf r words ++ drop (length (messageOf r words)) out) out
+sendBytes r words out = pick (eqb (sendNumber r words out) 0) (inFront (messageOf r words) out) out

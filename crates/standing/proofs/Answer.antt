@@ -13,7 +13,7 @@ use Rattle.lists.proofs.Tests.{pick-true, pick-false}
 use Rattle.protocol.specs.Office.{votes}
 use Rattle.tallies.specs.Tallies.{noVote, cast, votesIn, weightFor}
 use Rattle.tallies.proofs.Walks.{weight-none}
-use Rattle.bounds.specs.Bounds.{inEight}
+use Rattle.lists.specs.Padded.{inEight}
 use Rattle.bounds.proofs.Cast.{cast-votes, cast-silent}
 use Rattle.bounds.proofs.Eight.{Silent, silent-votes}
 use Rattle.rows.specs.Rows.{rowsOf, marks}

@@ -28,7 +28,7 @@ use Rattle.protocol.proofs.Vote.{NamesVoted, byLog-voted}
 use Rattle.summary.specs.declared.Summary.{Summary}
 use Rattle.ballots.specs.Ballots.{tailOf, offEnd, wordsWith}
 use Rattle.ballots.specs.declared.Ballot.{Ballot}
-use Rattle.bounds.specs.Bounds.{inEight}
+use Rattle.lists.specs.Padded.{inEight}
 use Rattle.rows.specs.Rows.{rowEntries, rowsOf, marks}
 use Rattle.frame.specs.State.{heldLength, heldBy}
 use Rattle.frame.specs.Soundness.{soundB, Sound}

@@ -27,7 +27,7 @@ use Rattle.protocol.specs.Vote.{Votes, later, isFor, isNone, tally, unheard, an
 use Rattle.protocol.specs.Winning.{Supported}
 use Rattle.protocol.specs.Limits.{total}
 use Rattle.protocol.proofs.Vote.{tally-voted}
-use Rattle.bounds.specs.Bounds.{inEight}
+use Rattle.lists.specs.Padded.{inEight}
 use Rattle.bounds.proofs.Eight.{Silent}
 use Rattle.rows.specs.Rows.{without, distinct, rowEntries, marks}
 use Rattle.rows.proofs.Walks.{marks-length, mark-at}

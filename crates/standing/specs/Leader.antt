@@ -5,6 +5,7 @@ use mathlib.Core.Bool.{Bool, true, _&&_, _||_, cond}
 use Prim.Native.Nat.{ℕ, _+_}
 use lib.Dec.{eqb, ltb}
 use lib.ListN.{take}
+use Rattle.protocol.specs.Vote.{above}
 use Rattle.standing.specs.declared.Standing.{Standing}
 
 -- an entry, and its T
@@ -42,9 +43,7 @@ jointWeight (w ∷ ws) (m ∷ ms) = cond (eqb m 1) w 0 + jointWeight ws ms
 -- "for each other supported entry f, T(e) > T(f) + U, or T(e) = T(f) + U and" e comes before f, by the rows and U alone
 abbrev pub ahead : (ℕ → ℕ → Bool) → ℕ → Row → List Row → Bool
 ahead before u r [] = true
-ahead before u r (s ∷ ss) =
-    (eqb (s .entry) (r .entry) || (ltb (s .weight + u) (r .weight) || (eqb (r .weight) (s .weight + u) && before (r .entry) (s .entry))))
-    && ahead before u r ss
+ahead before u r (s ∷ ss) = (eqb (s .entry) (r .entry) || above before (r .weight) (s .weight + u) (r .entry) (s .entry)) && ahead before u r ss
 
 -- "Entry e wins when T(e) > U and .."
 abbrev pub leads : (ℕ → ℕ → Bool) → ℕ → List Row → Row → Bool

@@ -6,7 +6,7 @@ use lib.ListN.{replicate}
 use Rattle.lists.specs.Tests.{pick}
 use Rattle.protocol.specs.Vote.{Votes, unheard}
 use Rattle.protocol.specs.Office.{votes}
-use Rattle.bounds.specs.Bounds.{inEight}
+use Rattle.lists.specs.Padded.{inEight}
 use Rattle.rows.specs.Rows.{rowsOf, marks}
 use Rattle.rows.specs.declared.Rows.{Rows}
 use Rattle.frame.specs.State.{heldBy}

@@ -15,12 +15,12 @@ use native.Mathlib.Nat.{not-suc-le-zero}
 use native.Mathlib.Omega.{arith}
 use lib.Dec.{eqb}
 use lib.ListN.{length, getD, drop, drop-of-length-le}
-use Rattle.protocol.specs.Vote.{Votes, isFor, isNone, tally, unheard, and-also, supported, beats, beatsAll, wins, firstWinner}
+use Rattle.protocol.specs.Vote.{Votes, isFor, isNone, tally, unheard, and-also, supported, beats, beatsAll, wins, firstWinner, above}
 use Rattle.lists.specs.Tests.{allB}
 use Rattle.lists.proofs.Tests.{both-0, both-1}
 use Rattle.lists.proofs.Walk.{rest-step}
 use borrow.Author.Tests.{eq-eqb, ne-eqb, eqb-true, eqb-false, le-ltb, lt-ltb}
-use Rattle.tallies.specs.Tallies.{above, winnerIs, noVote, voteIn, votesIn, SilentFrom, weightFor, beatsVote, voteWins}
+use Rattle.tallies.specs.Tallies.{winnerIs, noVote, voteIn, votesIn, SilentFrom, weightFor, beatsVote, voteWins}
 use Rattle.tallies.specs.declared.Winner.{Winner}
 use Rattle.tallies.specs.declared.Winner.the-variants.{Entry, Nobody}
 

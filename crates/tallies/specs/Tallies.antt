@@ -1,10 +1,10 @@
 -- The votes that eight ballots cast, as words, and the answer of an election step by the paper's rule. Assumes nothing.
 use Prim.Native.Nat.{ℕ, _≤_}
 use mathlib.Core.Path.{_≡_}
-use mathlib.Core.Bool.{Bool, true, false, _&&_, _||_, cond}
+use mathlib.Core.Bool.{Bool, true, false, cond}
 use mathlib.Core.List.{List, []}
 use mathlib.Core.Option.{Option, none, some}
-use lib.Dec.{ltb, eqb}
+use lib.Dec.{eqb}
 use lib.ListN.{getD, drop}
 use Rattle.lists.specs.Tests.{allB}
 use Rattle.protocol.specs.Vote.{Votes, tally, unheard, and-also, beatsAll, wins}
@@ -47,10 +47,6 @@ abbrev pub weightFor : List ℕ → Votes → ℕ → ℕ
 weightFor ws v x = cond (eqb x noVote) (unheard ws v) (tally ws v x)
 
 -- what follows is for any order `before` in which ties go
-
--- a above b, or equal to it and e before f
-abbrev pub above : (ℕ → ℕ → Bool) → ℕ → ℕ → ℕ → ℕ → Bool
-above before a b e f = ltb b a || (eqb a b && before e f)
 
 -- e against the entry that is voted for, if that is another
 abbrev pub beatsVote : (ℕ → ℕ → Bool) → List ℕ → Votes → ℕ → Option ℕ → Bool

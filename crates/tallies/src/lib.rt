@@ -6,9 +6,9 @@ ghost use Prim.Native.Nat.{_≤_};
 ghost use lib.ListN.{drop};
 ghost use Rattle.protocol.specs.Entry.{officeOf};
 ghost use Rattle.protocol.specs.Counts.{countOf, quieterBy};
-ghost use Rattle.protocol.specs.Vote.{tally, unheard, supported, beatsAll, winner};
+ghost use Rattle.protocol.specs.Vote.{tally, unheard, supported, above, beatsAll, winner};
 ghost use Rattle.ballots.specs.Ballots.{tailOf, ballotOf, ballotShape};
-ghost use Rattle.tallies.specs.Tallies.{winnerIs, cast, voteIn, votesIn, SilentFrom, weightFor, above, beatsVote, voteWins};
+ghost use Rattle.tallies.specs.Tallies.{winnerIs, cast, voteIn, votesIn, SilentFrom, weightFor, beatsVote, voteWins};
 use ballots::Ballot;
 
 // Who wins an election step.

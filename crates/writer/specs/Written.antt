@@ -4,10 +4,11 @@ use mathlib.Core.Bool.{true}
 use mathlib.Core.List.{List, _++_, map}
 use mathlib.Core.Path.{_≡_}
 use lib.Dec.{ltb}
-use lib.ListN.{drop, length, take}
+use lib.ListN.{length, take}
 use Rattle.ballots.specs.Ballots.{tailOf, ballotShape}
 use Rattle.ballots.specs.declared.Ballot.{Ballot}
 use Rattle.lists.specs.Tests.{allB, pick}
+use Rattle.lists.specs.Padded.{inFront}
 use Rattle.protocol.specs.Limits.{lengthLimit}
 use Rattle.spelling.specs.Content.{Content}
 use Rattle.numbers.specs.Numbers.{run}
@@ -36,7 +37,7 @@ writtenLength message out = pick (ltb (length out) (length message)) 0 (length m
 
 -- the buffer after it: the message, and "later bytes of the buffer keep their contents"; as it was where it is shorter than the message
 unfoldable pub writtenBytes : List ℕ → List ℕ → List ℕ
-writtenBytes message out = pick (ltb (length out) (length message)) out (message ++ drop (length message) out)
+writtenBytes message out = pick (ltb (length out) (length message)) out (inFront message out)
 
 -- the answer, and the buffer after it
 abbrev pub Writes : List ℕ → List ℕ → ℕ → List ℕ → Type 0
