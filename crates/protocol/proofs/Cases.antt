@@ -128,7 +128,8 @@ pub cases :
     Takes 1 messageJ afterJ afterJ ×
     -- L: 10, and a refused call changes nothing
     ((refusal inL (take 1 0) ≡ 10) × (step (bySettled usual) inL (take 1 0) ≡ inL))
-unfolding begins extends countsAfter quieterBy weightsAfter move isMove both pick tally unheard supported wins winner rebase catchUp withTake refuseTake settle electing withElect names refusal done step
+unfolding begins extends countsAfter quieterBy weightsAfter move isMove both pick tally unheard supported wins
+    winner rebase catchUp withTake refuseTake settle electing withElect names refusal done step
 cases = (
   (refl, refl, (refl, refl)),
   (refl, refl, (refl, refl)),
