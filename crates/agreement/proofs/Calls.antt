@@ -42,7 +42,30 @@ use Rattle.frame.specs.Electing.{winnerOf}
 use Rattle.folding.specs.Folding.{foldOf}
 use Rattle.frame.specs.State.{heldBy, foldedBy}
 use Rattle.frame.proofs.Sound.{sound-true}
-use Rattle.agreement.specs.World.{Replica, Posted, World, Call, issue, send, take, elect, fold, replicaAt, messageAt, onSome, number, put, issued, taken, elected, folded, post, posted, step, after}
+use Rattle.agreement.specs.World.{
+  Replica,
+  Posted,
+  World,
+  Call,
+  issue,
+  send,
+  take,
+  elect,
+  fold,
+  replicaAt,
+  messageAt,
+  onSome,
+  number,
+  put,
+  issued,
+  taken,
+  elected,
+  folded,
+  post,
+  posted,
+  step,
+  after,
+}
 use Rattle.agreement.specs.Demand.{Founded, says}
 use Rattle.agreement.specs.Calls as Claims
 use Rattle.agreement.specs.Calls.{carries}
@@ -137,7 +160,10 @@ module _ (n : ℕ) (ws : List ℕ) (pos : 0 < n) (w : World) (s : SoundWorld n w
   present-fine =
       let S = m .sound in
       let now : d .held .summary .present ≡ weightsAfter (d .held .kept .summary .present) undropped = ap (λ (x : Summary). x .present) (S .done) in
-      rw (now, ← m .count) (weights-most (d .held .kept .summary .present) undropped (S .kept .weights), weights-zero (d .held .n) (d .held .kept .summary .present) undropped (S .entries) (S .kept .rest))
+      rw (now, ← m .count) (
+        weights-most (d .held .kept .summary .present) undropped (S .kept .weights),
+        weights-zero (d .held .n) (d .held .kept .summary .present) undropped (S .entries) (S .kept .rest),
+      )
 
   counts : countsAfter (d .held .kept .counts) undropped ≡ countsAfter (noCounts 8) (says d .log)
   counts = ap (λ (x : Kept). countsAfter (x .counts) undropped) (kept-is n ws pos w s t k d e) ∙ sym (counts-append (noCounts 8) (d .former) undropped)

@@ -25,10 +25,50 @@ use Rattle.one_order.proofs.FoldedMachine.{Folder, wholly, Both, both-at}
 use Rattle.frame.specs.Electing.{electedOf}
 use Rattle.frame.specs.State.{foldedBy}
 use Rattle.sending.specs.Sending.{sendOf}
-use Rattle.agreement.specs.World.{Replica, Posted, World, Call, issue, send, take, elect, fold, replicaAt, messageAt, onSome, put, issued, taken, elected, folded, post, posted, number, step, after}
+use Rattle.agreement.specs.World.{
+  Replica,
+  Posted,
+  World,
+  Call,
+  issue,
+  send,
+  take,
+  elect,
+  fold,
+  replicaAt,
+  messageAt,
+  onSome,
+  put,
+  issued,
+  taken,
+  elected,
+  folded,
+  post,
+  posted,
+  number,
+  step,
+  after,
+}
 use Rattle.agreement.specs.Demand.{Founded}
 use Rattle.agreement.proofs.Places.{nothing, there}
-use Rattle.agreement.proofs.View.{means, deskOf, sentOf, shape, view, sendDone, callOf, SoundReplica, SoundWorld, put-sound, post-sound, shape-length, shape-sent, shape-there, shape-at, put-shape}
+use Rattle.agreement.proofs.View.{
+  means,
+  deskOf,
+  sentOf,
+  shape,
+  view,
+  sendDone,
+  callOf,
+  SoundReplica,
+  SoundWorld,
+  put-sound,
+  post-sound,
+  shape-length,
+  shape-sent,
+  shape-there,
+  shape-at,
+  put-shape,
+}
 use Rattle.agreement.proofs.Founded.{foundReplica, founding-sound, founding-desk}
 use Rattle.agreement.proofs.Issued.{issue-moves}
 use Rattle.agreement.proofs.Sent.{send-readable, send-means}

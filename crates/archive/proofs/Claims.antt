@@ -143,7 +143,8 @@ module _ (n : ℕ) (start : List ℕ) (long : length start ≡ n) where
       ∙ ap (take (8 * n)) (append-assoc (vectorBytes start p) (versionsBytes start ps) rest) ∙ take-at (vectorBytes start p) (versionsBytes start ps ++ rest) (8 * n) (vector-length n start long p)
   piece (p ∷ ps) rest (suc i) h =
       ap (take (8 * n)) (drop-more (8 * n) i ((vectorBytes start p ++ versionsBytes start ps) ++ rest)
-      ∙ ap (drop (8 * n * i)) (ap (drop (8 * n)) (append-assoc (vectorBytes start p) (versionsBytes start ps) rest) ∙ drop-at (vectorBytes start p) (versionsBytes start ps ++ rest) (8 * n) (vector-length n start long p)))
+      ∙ ap (drop (8 * n * i)) (ap (drop (8 * n)) (append-assoc (vectorBytes start p) (versionsBytes start ps) rest)
+      ∙ drop-at (vectorBytes start p) (versionsBytes start ps ++ rest) (8 * n) (vector-length n start long p)))
       ∙ piece ps rest i (le-of-suc-le-suc h)
 
   -- the vector of a short version, from kept counts, is read back
@@ -204,7 +205,8 @@ module _ (r : Record) (words out : List ℕ) (done : writeOf r words out .number
       (all-map (tailFine (r .n) (heldLength r)) (λ (p : List ℕ). leb (length p) 1024) (λ t. log ++ t)
       (λ t e. le-leb (length (log ++ t)) 1024 (omega (arith, length-append log t, log-length r words sounds, fine-tail (r .n) (heldLength r) t e .room)))
       (take (r .n) (map tailOf (r .ballots)))
-      (all-take (tailFine (r .n) (heldLength r)) (r .n) (map tailOf (r .ballots)) (all-map (ballotFine (r .n) (heldLength r)) (tailFine (r .n) (heldLength r)) tailOf (tail-fine (r .n) (heldLength r)) (r .ballots) (sounds .fine))))
+      (all-take (tailFine (r .n) (heldLength r)) (r .n) (map tailOf (r .ballots))
+      (all-map (ballotFine (r .n) (heldLength r)) (tailFine (r .n) (heldLength r)) tailOf (tail-fine (r .n) (heldLength r)) (r .ballots) (sounds .fine))))
 
   module _ (i : ℕ) (h : i ≤ r .n) where
     short : length (versionAt r words i) ≤ 1024

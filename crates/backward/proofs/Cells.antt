@@ -188,7 +188,8 @@ added-at cells v line h = go (isFirst cells v) refl (eqb (lineOf v) line) refl
 
 added-length : (cells : List ℕ) (v : ℕ) → length (editAdded cells v) ≡ length cells
 unfolding editAdded
-added-length cells v = pick-cases (λ (l : List ℕ). length l ≡ length cells) (isFirst cells v) (set cells (lineOf v) (suc (codeOf v))) cells (λ e. length-set cells (lineOf v) (suc (codeOf v))) (λ e. refl)
+added-length cells v =
+    pick-cases (λ (l : List ℕ). length l ≡ length cells) (isFirst cells v) (set cells (lineOf v) (suc (codeOf v))) cells (λ e. length-set cells (lineOf v) (suc (codeOf v))) (λ e. refl)
 
 -- how many are 0 after the word
 added-count : (cells : List ℕ) (v : ℕ) → lineOf v < length cells → lacking (editAdded cells v) + newEdits cells v ≡ lacking cells
@@ -298,7 +299,8 @@ module _ (lines entries : List ℕ) (named : Named lines) where
       where
         lacks : answered (told cells lines) ≡ true → (k : ℕ) → k < length cells → getD cells k 0 ≡ 0 → ⊥
         lacks e k b z =
-            let t : not (isNone (ofCell (getD cells k 0))) ≡ true = all-mem (λ (line : ℕ). not (isNone (ofCell (getD cells line 0)))) (w .asked k (omega (arith, w .long)) z) (sym (all-mapped _ _ lines) ∙ e) in
+            let t : not (isNone (ofCell (getD cells k 0))) ≡ true =
+            all-mem (λ (line : ℕ). not (isNone (ofCell (getD cells line 0)))) (w .asked k (omega (arith, w .long)) z) (sym (all-mapped _ _ lines) ∙ e) in
             true≢false (sym t ∙ ap (λ (c : ℕ). not (isNone (ofCell c))) z)
 
         go : (t : Bool) → answered (told cells lines) ≡ t → t ≡ false

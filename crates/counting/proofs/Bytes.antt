@@ -183,7 +183,9 @@ module _ (n len : ℕ) (cells : List ℕ) (full : length cells ≡ 32) (H : Hold
       ends = countsAfter (begin n len) cells
 
       to : allB (λ (c : ℕ). ltb c 128) ends ≡ true → fair n (take len cells) ≡ true
-      to p = fair-of n (take len cells) (λ k h. omega (arith, ltb-true (getD ends k 0) 128 (all-at (λ (c : ℕ). ltb c 128) 0 ends k p (omega (arith, eight cells))), at-end k (omega arith), part-most n))
+      to p =
+          fair-of n (take len cells)
+          (λ k h. omega (arith, ltb-true (getD ends k 0) 128 (all-at (λ (c : ℕ). ltb c 128) 0 ends k p (omega (arith, eight cells))), at-end k (omega arith), part-most n))
 
       from : fair n (take len cells) ≡ true → allB (λ (c : ℕ). ltb c 128) ends ≡ true
       from f = all-of (λ (c : ℕ). ltb c 128) 0 ends (λ k h.

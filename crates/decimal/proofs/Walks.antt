@@ -82,7 +82,9 @@ after-from s at k false h e = rw (length-drop, e, lt-leb (at + k + 1) (length s)
 module _ (s : List ℕ) (at : ℕ) where
   pub fields-here : at ≤ length s → fieldsFrom s at ≡ take (partLength 32 (drop at s)) (drop at s) ∷ fieldsFrom s (at + partLength 32 (drop at s) + 1)
   unfolding fieldsFrom pick
-  fields-here h = let k = partLength 32 (drop at s) in rw (le-leb at (length s) h, fields-split (drop at s)) (ap (λ (fs : List (List ℕ)). take k (drop at s) ∷ fs) (after-from s at k (leb (suc k) (length s - at)) h refl))
+  fields-here h =
+      let k = partLength 32 (drop at s) in
+      rw (le-leb at (length s) h, fields-split (drop at s)) (ap (λ (fs : List (List ℕ)). take k (drop at s) ∷ fs) (after-from s at k (leb (suc k) (length s - at)) h refl))
 
   pub fields-all : at ≤ length s → fieldsFrom s at ≡ fields (drop at s)
   unfolding fieldsFrom pick

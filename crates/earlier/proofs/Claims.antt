@@ -139,7 +139,15 @@ module _ (r : Record) (words : List ℕ) (p : ℕ) (lines : List ℕ) where
       let q = m .0 in
       let each = m .1 .0 in
       let can = m .1 .1 in
-      record { past-dropped = past-dropped q each can; within = within q each can; few = few q each can; frames = frames q each can; settled = settled q each can; past = past q each can; read = read q each can }
+      record {
+        past-dropped = past-dropped q each can;
+        within = within q each can;
+        few = few q each can;
+        frames = frames q each can;
+        settled = settled q each can;
+        past = past q each can;
+        read = read q each can;
+      }
 
   pub whole : earlierOf r words p lines .number ≡ 0 → (former : List ℕ) → r .kept .summary .codes ≡ codesAfter noCodes former
       → earlierOf r words p lines .edits ≡ placed (map (λ (line : ℕ). cell (lastEdit line (former ++ firstOf r words p))) lines)

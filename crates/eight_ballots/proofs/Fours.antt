@@ -126,12 +126,14 @@ fine-tests n held b some = alike _ _ to from
         let cells = both-0 _ _ (both-1 _ _ e) in
         let l : length (tailOf b) ≡ b .len = length-take-le (b .len) (b .cells) (omega (arith, leb-true (b .len) 32 (both-0 _ _ lens), eqb-true (length (b .cells)) 32 (both-0 _ _ cells))) in
         both-true _ _ (both-true _ _ (both-0 _ _ cells) (both-true _ _ (both-0 _ _ lens) (both-0 _ _ (both-1 _ _ (both-1 _ _ e)))))
-        (both-true _ _ (rw l (both-0 _ _ lens)) (both-true _ _ (rw l (both-1 _ _ lens)) (both-true _ _ (all-take (isEntry n) (b .len) (b .cells) (both-1 _ _ cells)) (both-1 _ _ (both-1 _ _ (both-1 _ _ e))))))
+        (both-true _ _ (rw l (both-0 _ _ lens))
+        (both-true _ _ (rw l (both-1 _ _ lens)) (both-true _ _ (all-take (isEntry n) (b .len) (b .cells) (both-1 _ _ cells)) (both-1 _ _ (both-1 _ _ (both-1 _ _ e))))))
 
     from : ballotFine n held b ≡ true → both (both (leb (b .len) 32) (leb (held + b .len) 1024)) (both (entryCells n b) (restFine n b)) ≡ true
     from e =
         let F = fine n held b e in
-        let unused : allB (isEntry n) (drop (b .len) (b .cells)) ≡ true = all-mono (eqb 0) (isEntry n) (λ x z. ap (isEntry n) (sym (eqb-true 0 x z)) ∙ zero-entry n some) (drop (b .len) (b .cells)) (F .zero) in
+        let unused : allB (isEntry n) (drop (b .len) (b .cells)) ≡ true =
+        all-mono (eqb 0) (isEntry n) (λ x z. ap (isEntry n) (sym (eqb-true 0 x z)) ∙ zero-entry n some) (drop (b .len) (b .cells)) (F .zero) in
         let cells : allB (isEntry n) (b .cells) ≡ true = rw (take-append-drop (b .len) (b .cells)) at (all-append (isEntry n) (tailOf b) (drop (b .len) (b .cells)) (F .entries) unused) in
         both-true _ _ (both-true _ _ (le-leb (b .len) 32 (F .len)) (le-leb (held + b .len) 1024 (F .path)))
         (both-true _ _ (both-true _ _ (eq-eqb (length (b .cells)) 32 (F .cells)) cells) (both-true _ _ (F .zero) (F .parts)))

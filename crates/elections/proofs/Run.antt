@@ -144,7 +144,8 @@ module _ (n : ℕ) (kept : Kept) (s₀ : State) (words₀ : List ℕ) (s : State
       let g = take (s .held) words in
       let more : length (g ++ e ∷ []) ≡ length g + 1 = length-append g (e ∷ []) in
       ap (λ (l : List ℕ). (g ++ e ∷ []) ++ l)
-      (ap (λ (k : ℕ). drop k words) more ∙ ap (drop (length g + 1)) (R .others) ∙ drop-append-add g (drop (length g) words₀) 1 ∙ drop-drop 1 (length g) words₀ ∙ ap (λ (k : ℕ). drop k words₀) (sym more))
+      (ap (λ (k : ℕ). drop k words) more ∙ ap (drop (length g + 1)) (R .others) ∙ drop-append-add g (drop (length g) words₀) 1 ∙ drop-drop 1 (length g) words₀
+      ∙ ap (λ (k : ℕ). drop k words₀) (sym more))
 
   module _ (cs : List ℕ) (c : cs ≡ countsAfter (kept .counts) (take (s .held) words)) where
     fits : (e : ℕ) → winnerIn cs s words ≡ some e → length (stepped s words e .log) ≤ length words

@@ -150,7 +150,8 @@ module _ (n : ℕ) (s : State) (words : List ℕ) (S : Steppable n s words) wher
           ap₂ (λ (l : List Ballot) (y : Ballot). set l i y) inv (q ∙ ap (lost e) lost-here ∙ sym (getD-map (lost e) offEnd (s .ballots) i)) ∙
           front-step noBallot (map (lost e) (s .ballots)) (s .ballots) i (omega (arith, all-lost)) (omega (arith, S .eight))
 
-      pub lost-first : 0 < getD bs i offEnd .len → (v : ℕ) → v ≡ cast (getD bs i offEnd) → v ≡ e → (x : Ballot) → x ≡ ballotOf (drop 1 (tailOf (getD bs i offEnd))) → Settling e (s .ballots) (set bs i x) (i + 1)
+      pub lost-first : 0 < getD bs i offEnd .len → (v : ℕ) → v ≡ cast (getD bs i offEnd) → v ≡ e → (x : Ballot)
+          → x ≡ ballotOf (drop 1 (tailOf (getD bs i offEnd))) → Settling e (s .ballots) (set bs i x) (i + 1)
       lost-first h v p q x t = lost-write x (t ∙ ap ballotOf (lost-for e (getD bs i offEnd) h cells-here (sym p ∙ q)))
 
       pub lost-rival : 0 < getD bs i offEnd .len → (v : ℕ) → v ≡ cast (getD bs i offEnd) → (v ≡ e → ⊥) → (x : Ballot) → x ≡ noBallot → Settling e (s .ballots) (set bs i x) (i + 1)
@@ -165,5 +166,6 @@ module _ (n : ℕ) (s : State) (words : List ℕ) (S : Steppable n s words) wher
     pub lost-end : (bs : List Ballot) (i : ℕ) → Settling e (s .ballots) bs i → i ≡ n → bs ≡ map ballotOf (map (lose e) (map tailOf (s .ballots)))
     lost-end bs i inv q =
         inv ∙ ap (filled (map (lost e) (s .ballots)) (s .ballots)) q ∙
-        fill-rest (map (lost e) (s .ballots)) (s .ballots) n (none-lost n (s .held) e (drop n (s .ballots)) (all-drop (ballotFine n (s .held)) n (s .ballots) (S .fine)) (S .rest) ∙ sym (drop-map (lost e) n (s .ballots))) ∙
+        fill-rest (map (lost e) (s .ballots)) (s .ballots) n
+        (none-lost n (s .held) e (drop n (s .ballots)) (all-drop (ballotFine n (s .held)) n (s .ballots) (S .fine)) (S .rest) ∙ sym (drop-map (lost e) n (s .ballots))) ∙
         lost-all e (s .ballots)

@@ -54,4 +54,5 @@ module _ (line : ℕ) (before : Option ℕ) (xs : List ℕ) where
       let abc = either-false-0 ((a || b) || c) d z in
       let ab = either-false-0 (a || b) c abc in
       word-past end (end - 1) (omega arith) l a ta (either-false-0 a b ab) ∙ word-past (end - 1) (end - 2) (omega arith) (omega arith) b tb (either-false-1 a b ab) ∙
-      word-past (end - 2) (end - 3) (omega arith) (omega arith) c tc (either-false-1 (a || b) c abc) ∙ word-past (end - 3) (end - 4) (omega arith) (omega arith) d td (either-false-1 ((a || b) || c) d z)
+      word-past (end - 2) (end - 3) (omega arith) (omega arith) c tc (either-false-1 (a || b) c abc)
+      ∙ word-past (end - 3) (end - 4) (omega arith) (omega arith) d td (either-false-1 ((a || b) || c) d z)

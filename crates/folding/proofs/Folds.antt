@@ -62,7 +62,8 @@ module _ (r : Record) (words : List ℕ) (S : Sound r words) where
   rest-done k = sym (S .done ∙ ap (summaryAfter (r .kept .summary)) (sym (take-append-drop k log)) ∙ summary-append (r .kept .summary) (take k log) (drop k log))
 
   -- with the code's count k, and what it keeps
-  pub fold-held : (k : ℕ) → k ≡ goneOf r words → (x : Kept) → x ≡ keptAfter (r .kept) (take k words) → withHeld r x (r .noted) (r .summary) (r .settled) (r .ballots) ≡ holding r words (shortenedOf r words)
+  pub fold-held : (k : ℕ) → k ≡ goneOf r words → (x : Kept) → x ≡ keptAfter (r .kept) (take k words)
+      → withHeld r x (r .noted) (r .summary) (r .settled) (r .ballots) ≡ holding r words (shortenedOf r words)
   unfolding withFold
   fold-held k e x q =
       let d : r .kept .dropped + goneOf r words - r .kept .dropped ≡ k = omega (arith, e) in

@@ -82,7 +82,8 @@ module _ (r : Record) (words : List ℕ) (S : Sound r words) (line code : ℕ) w
       → k ≡ issueNumber r words line code
   unfolding refuseFoldedIssue
   number-at b p held h k q =
-      number-sound k (q ∙ ap (λ (x : ℕ). refusalAt (r .n) line code (r .settled) x (b .len) (countIn (r .own) (tailOf b))) h ∙ ap (λ (x : Ballot). refusalAt (r .n) line code (r .settled) (heldLength r) (x .len) (countIn (r .own) (tailOf x))) p
+      number-sound k (q ∙ ap (λ (x : ℕ). refusalAt (r .n) line code (r .settled) x (b .len) (countIn (r .own) (tailOf b))) h
+      ∙ ap (λ (x : Ballot). refusalAt (r .n) line code (r .settled) (heldLength r) (x .len) (countIn (r .own) (tailOf x))) p
       ∙ λ i. refusalAt (r .n) line code (sym (whole-length r words S) i) (sym (log-length r words S) i) (sym tail-is i) (countIn (r .own) (sym (tail-at r words (r .own)) i)))
 
 -- the office with the entry issued
@@ -145,7 +146,8 @@ unfolding issueOf
 issue-keeps r words line code q = pick-false (eqb (issueNumber r words line code) 0) (issuedRecord r words line code) r (ne-eqb (issueNumber r words line code) 0 q)
 
 -- ── the whole answer ──
-pub issue-refused : (r : Record) (words : List ℕ) (line code k : ℕ) → k ≡ issueNumber r words line code → (k ≡ 0 → ⊥) → _≡_ {A = Issued} (record { number = k; «record» = r }) (issueOf r words line code)
+pub issue-refused : (r : Record) (words : List ℕ) (line code k : ℕ) → k ≡ issueNumber r words line code
+    → (k ≡ 0 → ⊥) → _≡_ {A = Issued} (record { number = k; «record» = r }) (issueOf r words line code)
 unfolding issueOf
 issue-refused r words line code k q h = λ i. record { number = q i; «record» = sym (issue-keeps r words line code (λ z. h (q ∙ z))) i }
 
@@ -165,7 +167,8 @@ allowed r words line code q =
     let H = S .head in
     let d = Issue.issue-done (r .n) (r .own) line code (foldedBy r words) (D .allowed) in
     let F = ballot r words S (r .own) (omega arith) in
-    let short : getD (r .ballots) (r .own) offEnd .len ≡ 32 → ⊥ = λ e. omega (arith, d .below, Issue.never-4 (r .n) (r .own) (heldBy r words) (folded-fine r words S .held) (H .member) (tail-is r words S line code ∙ e)) in
+    let short : getD (r .ballots) (r .own) offEnd .len ≡ 32 → ⊥ =
+    λ e. omega (arith, d .below, Issue.never-4 (r .n) (r .own) (heldBy r words) (folded-fine r words S .held) (H .member) (tail-is r words S line code ∙ e)) in
     record {
       was = S;
       place = omega arith;

@@ -49,8 +49,10 @@ pub take-refused : (r : Record) (words s : List ℕ) (x p : ℕ) → x ≡ takeN
     → (_≡_ {A = Taken} (record { number = x; places = p; «record» = r }) (takeOf r words s)) × (words ≡ takeWords r words s)
 unfolding takeOf takeWords
 take-refused r words s x p e q d =
-    let no : eqb (takeNumber r words s) 0 ≡ false = ne-eqb (takeNumber r words s) 0 (λ z. d (e ∙ z)) in
-    ((λ i. record { number = e i; places = q i; «record» = sym (pick-false (eqb (takeNumber r words s) 0) (holding r words (takenOffice r words s)) r no) i }), sym (pick-false (eqb (takeNumber r words s) 0) _ words no))
+    let no : eqb (takeNumber r words s) 0 ≡ false = ne-eqb (takeNumber r words s) 0 (λ z. d (e ∙ z)) in (
+      (λ i. record { number = e i; places = q i; «record» = sym (pick-false (eqb (takeNumber r words s) 0) (holding r words (takenOffice r words s)) r no) i }),
+      sym (pick-false (eqb (takeNumber r words s) 0) _ words no),
+    )
 
 -- ── what is read ──
 -- the fields of a reading are what the message says

@@ -145,11 +145,14 @@ module _ (r : Record) (words s : List ℕ) (m : Reading) (e : takeNumber r words
     pub state-fits : q .kept .dropped + q .state .held < 18446744073709551616
     unfolding lengthLimit
     state-fits =
-        let fine = folded-take-fine (r .n) (r .own) (asPacket said) (foldedBy r words) (Held.folded-fine r words (taken .sounds)) (packet-fine r words s taken) (taken .sounds .head .member) (taken .done) in
+        let fine =
+        folded-take-fine (r .n) (r .own) (asPacket said) (foldedBy r words) (Held.folded-fine r words (taken .sounds))
+        (packet-fine r words s taken) (taken .sounds .head .member) (taken .done) in
         let x = subst (λ (p : F.Packet). FoldedFine (r .n) (r .own) (withFoldedTake (r .own) p (foldedBy r words))) (sym is-packet) fine in
         omega (arith, ap (λ (z : Intaken). z .kept .dropped + z .state .held) made, settled-is, x .short 0, length-append (next .held .log) (tail (next .held) 0))
 
-    pub take-made : (l : ℕ) → l ≡ takePlaces r words s → (nn : List ℕ) → nn ≡ note (m .sender) (m .dropped + m .held) (r .noted) → (y : Record) → y ≡ withState (withNoted (withKept r (q .kept)) nn) (q .state)
+    pub take-made : (l : ℕ) → l ≡ takePlaces r words s → (nn : List ℕ) → nn ≡ note (m .sender) (m .dropped + m .held) (r .noted)
+        → (y : Record) → y ≡ withState (withNoted (withKept r (q .kept)) nn) (q .state)
         → (_≡_ {A = Taken} (record { number = 0; places = l; «record» = y }) (takeOf r words s)) × (ws ≡ takeWords r words s)
     take-made l g nn n y p =
         let o : next ≡ takenOffice r words s = ap (λ (y : F.Packet). withFoldedTake (r .own) y (foldedBy r words)) is-packet ∙ sym (taken-office r words s taken) in

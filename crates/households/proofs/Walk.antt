@@ -107,7 +107,8 @@ module _ {s : List ℕ} {met : List Bool} {totals : List ℕ} {at i : ℕ} (inv 
   unfolding poolsOf areHouseholds householdsAt
   pooling-ends h l m =
       let q : records s - i ≡ 0 = omega arith in
-      let ok : areHouseholds s ≡ true = both-true _ _ (eq-eqb (length s % 7) 0 l) (both-true _ _ (le-leb (records s) 1000000 m) (sym (inv .tests) ∙ test-end 7 recordHere (records s) i (drop at s) h)) in
+      let ok : areHouseholds s ≡ true =
+      both-true _ _ (eq-eqb (length s % 7) 0 l) (both-true _ _ (le-leb (records s) 1000000 m) (sym (inv .tests) ∙ test-end 7 recordHere (records s) i (drop at s) h)) in
       let marked : met ≡ metAfter noneMet (householdsIn s) = sym (ap (λ (k : ℕ). metAfter met (householdsAt k (drop at s))) q) ∙ inv .marks in
       let summed : totals ≡ totalsAfter noTotals (householdsIn s) = sym (ap (λ (k : ℕ). totalsAfter totals (householdsAt k (drop at s))) q) ∙ inv .sums in
       (λ j. record { ok = true; met = marked j; totals = summed j }) ∙ sym (pick-true (areHouseholds s) _ _ ok)

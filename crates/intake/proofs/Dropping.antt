@@ -147,7 +147,8 @@ module _ (words : List ℕ) (s : State) (kept : Kept) (own : ℕ) (rest : List �
 
       there : alignedTake ws (without a s) own (runAt 6 recordAt (m .held - b) lent) (m .sender) (m .ballots) ≡ takenBy a b
       there =
-          ap₂ (λ (l t : List ℕ). withTake own (record { sender = m .sender; state = record { log = t; tails = packetIn rest m .state .tails } }) (record { log = l; tails = foldedIn words s kept .held .tails }))
+          ap₂ (λ (l t : List ℕ). withTake own (record { sender = m .sender; state = record { log = t; tails = packetIn rest m .state .tails } })
+          (record { log = l; tails = foldedIn words s kept .held .tails }))
           (ap (take (s .held - a)) ew ∙ moved-front) lent-log
 
       -- what the code makes of it

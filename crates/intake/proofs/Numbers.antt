@@ -77,8 +77,10 @@ module _ (n own : ℕ) (weights : List ℕ) (dropped : ℕ) (words : List ℕ) (
   own-first false false false false = refl
 
   pub refusal-folded : (ballots : List Ballot) (noted : List ℕ) → refusalOf n own weights dropped words held rest m
-      ≡ pick (not (m .ok)) 7 (pick (not (both (eqb (m .n) n) (same (m .weights) weights))) 8 (refuseFoldedTake own (packetIn rest m) (record { dropped = dropped; held = officeIn words held ballots; noted = noted })))
+      ≡ pick (not (m .ok)) 7 (pick (not (both (eqb (m .n) n) (same (m .weights) weights))) 8
+      (refuseFoldedTake own (packetIn rest m) (record { dropped = dropped; held = officeIn words held ballots; noted = noted })))
   unfolding refusalOf logsRefusal refuseFoldedTake refuseTake
   refusal-folded ballots noted =
       ap (λ (k : ℕ). pick (not (m .ok)) 7 (pick (not (both (eqb (m .n) n) (same (m .weights) weights))) 8 k))
-      (own-first (eqb (m .sender) own) (ltb (dropped + length own-log) (m .dropped)) (ltb (m .dropped + length message-log) dropped) (comparable (drop (m .dropped - dropped) own-log) (drop (dropped - m .dropped) message-log)))
+      (own-first (eqb (m .sender) own) (ltb (dropped + length own-log) (m .dropped)) (ltb (m .dropped + length message-log) dropped)
+      (comparable (drop (m .dropped - dropped) own-log) (drop (dropped - m .dropped) message-log)))

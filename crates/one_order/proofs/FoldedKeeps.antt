@@ -19,7 +19,33 @@ use Rattle.protocol.proofs.World as P
 use Rattle.protocol.proofs.World.{step as stepP}
 use Rattle.protocol.proofs.Kept.{Effect, effectAfter, effectOf, noEffect, ruleBehind, kept-nil, kept-append}
 use Rattle.protocol.specs.Folding.{FoldedOffice, settledLength, leastKnown, withFold, withFoldedIssue, withFoldedElect, withFoldedTake}
-use Rattle.protocol.proofs.FoldedWorld.{Desk, Posted, World, Call, issue, send, take, elect, fold, idle, newDesk, founded, deskAt, goes, leaving, put, names, refuseTaking, taking, number, done, step, wholeDesk, view, callOf}
+use Rattle.protocol.proofs.FoldedWorld.{
+  Desk,
+  Posted,
+  World,
+  Call,
+  issue,
+  send,
+  take,
+  elect,
+  fold,
+  idle,
+  newDesk,
+  founded,
+  deskAt,
+  goes,
+  leaving,
+  put,
+  names,
+  refuseTaking,
+  taking,
+  number,
+  done,
+  step,
+  wholeDesk,
+  view,
+  callOf,
+}
 use Rattle.lists.proofs.Tests.{if-cases, and-true, getD-replicate}
 use Rattle.protocol.proofs.Beginning.{⊑-length}
 use Rattle.protocol.proofs.Office.{SetCases, set-cases}
@@ -113,7 +139,12 @@ module _ (founding : List ℕ) (n : ℕ) (pos : 0 < n) where
   Keeps d = d .kept ≡ effectOf founding (d .former)
 
   put-follow : (w : World) (k : ℕ) (f : FoldedOffice) → Sound founding n w → Fit n (lengths w) (leaving (deskAt w k) f) → Follow w (put w k f)
-  put-follow w k f s x = record { desks = λ j. go j (set-cases (w .desks) k (leaving (deskAt w k) f) (newDesk []) j); sent = s .sent; kept = λ j b. held j b (set-cases (w .desks) k (leaving (deskAt w k) f) (newDesk []) j) }
+  put-follow w k f s x =
+      record {
+        desks = λ j. go j (set-cases (w .desks) k (leaving (deskAt w k) f) (newDesk []) j);
+        sent = s .sent;
+        kept = λ j b. held j b (set-cases (w .desks) k (leaving (deskAt w k) f) (newDesk []) j);
+      }
     where
       go : (j : ℕ) → (deskAt (put w k f) j ≡ deskAt w j) ⊎ ((j ≡ k) × (k < length (w .desks)) × (deskAt (put w k f) j ≡ leaving (deskAt w k) f)) → Fit n (lengths w) (deskAt (put w k f) j)
       go j (inl e) = subst (λ (d : Desk). Fit n (lengths w) d) (sym e) (s .desks j)

@@ -20,7 +20,32 @@ use Rattle.protocol.proofs.World as P
 use Rattle.protocol.proofs.World.{names as namesP, refusal, done as doneP, step as stepP}
 use Rattle.protocol.proofs.Kept.{ruleBehind}
 use Rattle.protocol.specs.Folding.{FoldedOffice, packet, withFold, withFoldedIssue, refuseFoldedIssue, withFoldedElect, withFoldedTake, refuseFoldedTake}
-use Rattle.protocol.proofs.FoldedWorld.{Desk, Posted, World, Call, issue, send, take, elect, fold, idle, deskAt, leaving, put, isThere, names, refuseTaking, taking, number, done, step, wholeDesk, wholeMessage, view, callOf}
+use Rattle.protocol.proofs.FoldedWorld.{
+  Desk,
+  Posted,
+  World,
+  Call,
+  issue,
+  send,
+  take,
+  elect,
+  fold,
+  idle,
+  deskAt,
+  leaving,
+  put,
+  isThere,
+  names,
+  refuseTaking,
+  taking,
+  number,
+  done,
+  step,
+  wholeDesk,
+  wholeMessage,
+  view,
+  callOf,
+}
 use Rattle.lists.proofs.Tests.{map-set}
 use Rattle.one_order.proofs.History.{step-done}
 use Rattle.protocol.proofs.Folding.{TakeFound, fold-desk, issue-desk, elect-desk, folded-issue-found, take-found, refuse-desk, take-desk}
@@ -82,13 +107,15 @@ module _ (founding : List ℕ) (n : ℕ) (pos : 0 < n) (w : World) (s : Sound fo
       go true p true q =
           put-view w k (withFoldedIssue k (value k line code) (deskAt w k .now)) (withIssue k (value k line code) (P.at (view w) k))
           (issue-desk k (value k line code) (deskAt w k) ∙ ap (withIssue k (value k line code)) (sym (view-at w k)))
-          ∙ sym (step-done rule (view w) (P.issue k line code) (view-there w k ∙ p) (ap (λ (x : ℕ). refuseEntry x line code) (length-map (w .desks) wholeDesk) ∙ folded-issue-found (length (w .desks)) k line code (deskAt w k .now) (eqb-true _ 0 q)))
+          ∙ sym (step-done rule (view w) (P.issue k line code) (view-there w k ∙ p)
+          (ap (λ (x : ℕ). refuseEntry x line code) (length-map (w .desks) wholeDesk) ∙ folded-issue-found (length (w .desks)) k line code (deskAt w k .now) (eqb-true _ 0 q)))
 
   send-moves : (k : ℕ) (room : Bool) → view (step w (send k room)) ≡ stepP rule (view w) (P.send k room)
   unfolding step names number done stepP namesP refusal doneP
   send-moves k room =
       go (isThere w k && eqb (cond room 0 6) 0)
-      ∙ ap₂ (λ (t : Bool) (o : Office). cond (t && eqb (cond room 0 6) 0) (record { offices = view w .offices; sent = record { sender = k; state = o } ∷ view w .sent }) (view w)) (sym (view-there w k)) (sym (view-at w k))
+      ∙ ap₂ (λ (t : Bool) (o : Office). cond (t && eqb (cond room 0 6) 0) (record { offices = view w .offices; sent = record { sender = k; state = o } ∷ view w .sent }) (view w))
+      (sym (view-there w k)) (sym (view-at w k))
     where
       next : World
       next = record { desks = w .desks; sent = record { message = packet k (deskAt w k .now); former = deskAt w k .former } ∷ w .sent }

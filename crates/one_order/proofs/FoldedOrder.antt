@@ -33,7 +33,29 @@ use Rattle.protocol.proofs.Issue.{issue-never}
 use Rattle.one_order.proofs.Machine as M
 use Rattle.one_order.proofs.Machine.{Machine, runs, Follows, reached, OneOrderOf, theirs, one-order-machine}
 use Rattle.protocol.proofs.Kept.{effectOf}
-use Rattle.protocol.proofs.FoldedWorld.{Desk, Posted, World, Call, issue, send, take, elect, fold, idle, founded, deskAt, refuseTaking, names, number, step, wholeDesk, wholeMessage, logAt, view, callOf}
+use Rattle.protocol.proofs.FoldedWorld.{
+  Desk,
+  Posted,
+  World,
+  Call,
+  issue,
+  send,
+  take,
+  elect,
+  fold,
+  idle,
+  founded,
+  deskAt,
+  refuseTaking,
+  names,
+  number,
+  step,
+  wholeDesk,
+  wholeMessage,
+  logAt,
+  view,
+  callOf,
+}
 use Rattle.protocol.proofs.Folding.{⊑-shorter, take-values, take-nine, take-ten, take-sixteen, refuse-desk}
 use Rattle.one_order.proofs.FoldedSound.{Sound, view-at, view-sent, known, there, desk-in, message-in, own-length}
 use Rattle.one_order.proofs.FoldedMoves.{moves}
@@ -150,7 +172,8 @@ module _ (founding : List ℕ) (n : ℕ) (pos : 0 < n) where
     pub takes-other : (k i : ℕ) (m : Posted) → k < n → getElem? (w .sent) i ≡ some m → (m .message .sender ≡ k → ⊥)
         → (number w (take k i) ≡ 0) ⊎ (number w (take k i) ≡ 17)
     unfolding number
-    takes-other k i m b e d = subst (λ (x : Option Posted). (refuseTaking k x (deskAt w k .now) ≡ 0) ⊎ (refuseTaking k x (deskAt w k .now) ≡ 17)) (sym e) (by (take-values k (m .message) (deskAt w k .now)))
+    takes-other k i m b e d =
+        subst (λ (x : Option Posted). (refuseTaking k x (deskAt w k .now) ≡ 0) ⊎ (refuseTaking k x (deskAt w k .now) ≡ 17)) (sym e) (by (take-values k (m .message) (deskAt w k .now)))
       where
         N : ℕ
         N = refuseFoldedTake k (m .message) (deskAt w k .now)

@@ -99,7 +99,14 @@ module _ (founding : List ℕ) (n : ℕ) (pos : 0 < n) (w : World) (s : Sound fo
       let k : ℕ = m .message .sender in
       let b = known .sent i (wholeMessage m) (sent-there i m e) in
       let grown : length (H.logAt rule n k (b .0)) ≤ length (H.logAt rule n k (s .history)) = ⊑-length (H.logAt rule n k (b .0)) (H.logAt rule n k (s .history)) (past-moves rule n (b .1) k .0) in
-      omega (arith, grown, ap (λ (o : Office). length (o .log)) (b .2), ap (λ (v : P.World). length (P.at v k .log)) (s .reached), s .sent i m e .counted, length-append (m .former) (m .message .state .log))
+      omega (
+        arith,
+        grown,
+        ap (λ (o : Office). length (o .log)) (b .2),
+        ap (λ (v : P.World). length (P.at v k .log)) (s .reached),
+        s .sent i m e .counted,
+        length-append (m .former) (m .message .state .log),
+      )
 
   -- an office's length
   pub own-length : (k : ℕ) → settledLength (deskAt w k .now .dropped) (deskAt w k .now .held) ≡ lengths w k

@@ -203,7 +203,13 @@ module _ (r : Record) (words : List ℕ) (r' : Record) (words' : List ℕ) (M : 
   few =
       let b = own-fine r words (M .was) (ownBallot r) refl in
       let s = settledPart (tailBefore r) (logSince r r' words') in
-      omega (arith, entries-few (r .own) (drop (length s) (tailBefore r)), length-drop (length s) (tailBefore r), length-take-le (ownBallot r .len) (ownBallot r .cells) (omega (arith, b .len, b .cells)), b .len)
+      omega (
+        arith,
+        entries-few (r .own) (drop (length s) (tailBefore r)),
+        length-drop (length s) (tailBefore r),
+        length-take-le (ownBallot r .len) (ownBallot r .cells) (omega (arith, b .len, b .cells)),
+        b .len,
+      )
 
   either : (rest : List ℕ) → (reportOf r r' words' rest .pending ≡ 0) ⊎ (reportOf r r' words' rest .lost ≡ 0)
   either rest = go (P.all-or-none (r .own) o o' (M .moves))

@@ -133,7 +133,8 @@ module _ (r : Record) (words : List ℕ) where
   elect-moved : Sound r words → soundB r words ≡ true → Moved r words (electOf r words .«record») (electWords r words)
   elect-moved S e =
       let q = elect-zero r words e in
-      leaves (electOf r words .«record») (electWords r words) S (elect-sound r words q) (electedOf r words) (elect-done r words q .made) (elect-state r words q) 0 elected-dropped (omega arith) elected-moves
+      leaves (electOf r words .«record») (electWords r words) S (elect-sound r words q) (electedOf r words)
+      (elect-done r words q .made) (elect-state r words q) 0 elected-dropped (omega arith) elected-moves
 
   folded-held : shortenedOf r words .held ≡ shorn (goneOf r words) (heldBy r words)
   unfolding withFold

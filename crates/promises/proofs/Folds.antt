@@ -121,7 +121,8 @@ module _ (r : Record) (words : List ℕ) (q : foldOf r words .number ≡ 0) wher
       ∙ ap (λ (x : Record). getD (x .summary .codes) line 0) kept-changed ∙ stored-code r words S line h) ∙ cell-back (editAfter line (keptEdit r line) (heldBy r words .log))
 
   frames-same : (line : ℕ) (p p' : List ℕ) → (line ≤ 63 → editAfter line (keptEdit r' line) p' ≡ editAfter line (keptEdit r line) p) → frameOf r' words' line p' ≡ frameOf r words line p
-  frames-same line p p' e = sym (frame-shown r' words' line p' (sound-true r' words' S')) ∙ shown-same line (keptEdit r line) (keptEdit r' line) p p' e ∙ frame-shown r words line p (sound-true r words S)
+  frames-same line p p' e =
+      sym (frame-shown r' words' line p' (sound-true r' words' S')) ∙ shown-same line (keptEdit r line) (keptEdit r' line) p p' e ∙ frame-shown r words line p (sound-true r words S)
 
   tail-same : tail (heldBy r' words') (r' .own) ≡ tail (heldBy r words) (r .own)
   tail-same = ap (λ (x : Record). tail (heldBy x words') (x .own)) kept-changed

@@ -129,7 +129,8 @@ pub cases :
     Takes 1 messageJ afterJ afterJ ×
     -- L, "Log a, message log b": 10
     (refuseFoldedTake 1 messageL (behind 0 settledA) ≡ 10)
-unfolding begins extends countsAfter quieterBy weightsAfter move isMove both pick tally unheard supported wins winner rebase catchUp withTake refuseTake withFoldedTake refuseFoldedTake settle electing withElect withFoldedElect
+unfolding begins extends countsAfter quieterBy weightsAfter move isMove both pick tally unheard supported wins
+    winner rebase catchUp withTake refuseTake withFoldedTake refuseFoldedTake settle electing withElect withFoldedElect
 cases = (
   (refl, refl, (refl, refl)),
   (refl, refl, (refl, refl)),
@@ -159,7 +160,8 @@ pub mistakes :
     Takes 1 (from 0 (state [] [] (b ∷ d ∷ []) [])) (state [] [] (b ∷ []) []) (state [] [] (b ∷ []) []) ×
     -- resetting all ballots when the log grows, or none: with log a, 0:ad keeps its path, 1:b and 2:a become none
     Takes 1 (from 2 settledA) (state [] (a ∷ d ∷ []) (b ∷ []) (a ∷ [])) (state (a ∷ []) (d ∷ []) [] [])
-unfolding begins extends countsAfter quieterBy weightsAfter move isMove both pick tally unheard supported wins winner rebase catchUp withTake refuseTake withFoldedTake refuseFoldedTake settle electing withElect withFoldedElect
+unfolding begins extends countsAfter quieterBy weightsAfter move isMove both pick tally unheard supported wins
+    winner rebase catchUp withTake refuseTake withFoldedTake refuseFoldedTake settle electing withElect withFoldedElect
 mistakes = ((refl, refl), refl, refl, (refl, refl, refl, (refl, refl)), (refl, refl), (refl, refl), (refl, refl))
 
 -- "Tails of 31 and 32, lengths of 1023 and 1024, line 63 and 64, code 9999 and 10000": the number of an issue at the only office of a frame, whose

@@ -43,7 +43,9 @@ pub history :
     (logAt (after folded) 0 ≡ a ∷ d ∷ []) × (logAt (after folded) 1 ≡ a ∷ d ∷ []) ×
     -- office 0's oldest message ends inside office 1's dropped part, and changes nothing; its message of both entries does not
     (number (after folded) (take 1 3) ≡ 17) × (step (after folded) (take 1 3) ≡ after folded) × (number (after folded) (take 1 2) ≡ 0)
-unfolding both pick proper countIn isMove move weightsAfter countsAfter codesAfter quieterBy begins extends tally unheard supported wins winner withIssue rebase catchUp withTake refuseTake settle electing withElect lengthLimit refusalAt leastKnown foldCount withFold withFoldedIssue refuseFoldedIssue withFoldedElect withFoldedTake refuseFoldedTake names number done step
+unfolding both pick proper countIn isMove move weightsAfter countsAfter codesAfter quieterBy begins extends tally unheard supported
+    wins winner withIssue rebase catchUp withTake refuseTake settle electing withElect lengthLimit refusalAt leastKnown foldCount withFold
+    withFoldedIssue refuseFoldedIssue withFoldedElect withFoldedTake refuseFoldedTake names number done step
 history = (refl, refl, refl, refl, refl, refl, refl, refl, refl, refl, refl)
 
 -- with 60 of 100 office 0 settles its move of 20 to office 1, office 1 takes it, office 0 hears of it and drops it. Its next entry is 40 against 60
@@ -54,7 +56,9 @@ moved = run (founded (three 60 40 0) 2) (issue 0 65 20 ∷ elect 0 ∷ send 0 tr
 pub kept-moves :
     (deskAt moved 0 .former ≡ value 0 65 20 ∷ []) × (deskAt moved 0 .kept .weights ≡ three 40 60 0) × (deskAt moved 0 .kept .counts ≡ three 1 0 0) ×
     (deskAt moved 0 .now .held .log ≡ []) × (logAt moved 1 ≡ value 0 65 20 ∷ b ∷ [])
-unfolding both pick proper countIn isWeight isMove canShift move weightsAfter countsAfter codesAfter quieterBy begins extends tally unheard supported wins winner withIssue rebase catchUp withTake refuseTake settle electing withElect lengthLimit refusalAt leastKnown foldCount withFold withFoldedIssue refuseFoldedIssue withFoldedElect withFoldedTake refuseFoldedTake names number done step
+unfolding both pick proper countIn isWeight isMove canShift move weightsAfter countsAfter codesAfter quieterBy begins extends tally unheard
+    supported wins winner withIssue rebase catchUp withTake refuseTake settle electing withElect lengthLimit refusalAt leastKnown foldCount
+    withFold withFoldedIssue refuseFoldedIssue withFoldedElect withFoldedTake refuseFoldedTake names number done step
 kept-moves = (refl, refl, refl, refl, refl)
 
 -- offices 0 and 1 of one weight settle a, and office 0 drops it. Their next entries are level, and office 1's wins: of office 0 one has been settled
@@ -62,7 +66,9 @@ abbrev level : World
 level = run (founded (three 1 1 0) 2) (issue 0 5 120 ∷ send 0 true ∷ take 1 0 ∷ elect 1 ∷ send 1 true ∷ take 0 0 ∷ fold 0 ∷ issue 0 6 7 ∷ issue 1 6 8 ∷ send 1 true ∷ take 0 0 ∷ elect 0 ∷ [])
 
 pub kept-counts : (deskAt level 0 .former ≡ a ∷ []) × (logAt level 0 ≡ a ∷ value 1 6 8 ∷ [])
-unfolding both pick proper countIn isWeight isMove canShift move weightsAfter countsAfter codesAfter quieterBy begins extends tally unheard supported wins winner withIssue rebase catchUp withTake refuseTake settle electing withElect lengthLimit refusalAt leastKnown foldCount withFold withFoldedIssue refuseFoldedIssue withFoldedElect withFoldedTake refuseFoldedTake names number done step
+unfolding both pick proper countIn isWeight isMove canShift move weightsAfter countsAfter codesAfter quieterBy begins extends tally unheard
+    supported wins winner withIssue rebase catchUp withTake refuseTake settle electing withElect lengthLimit refusalAt leastKnown foldCount
+    withFold withFoldedIssue refuseFoldedIssue withFoldedElect withFoldedTake refuseFoldedTake names number done step
 kept-counts = (refl, refl)
 
 -- ── one office ──

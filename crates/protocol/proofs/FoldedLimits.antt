@@ -22,7 +22,22 @@ use Rattle.protocol.specs.Limits.{tailFine, lengthLimit, lengthsFine, fo
 use Rattle.protocol.specs.Issue.{withIssue}
 use Rattle.protocol.specs.Take.{rebase, catchUp, adopting, offers, withTake}
 use Rattle.protocol.specs.Elect.{settle, electing, tailEntries, withElect}
-use Rattle.protocol.specs.Folding.{FoldedOffice, Packet, unfolded, settledLength, shorn, foldCount, withFold, withFoldedIssue, refuseFoldedIssue, withFoldedElect, caughtUp, fromThere, withFoldedTake, refuseFoldedTake}
+use Rattle.protocol.specs.Folding.{
+  FoldedOffice,
+  Packet,
+  unfolded,
+  settledLength,
+  shorn,
+  foldCount,
+  withFold,
+  withFoldedIssue,
+  refuseFoldedIssue,
+  withFoldedElect,
+  caughtUp,
+  fromThere,
+  withFoldedTake,
+  refuseFoldedTake,
+}
 use Rattle.lists.proofs.Tests.{both-0, both-1, both-true, if-cases, all-getD, all-of, all-drop, all-mono, getD-replicate}
 use Rattle.protocol.proofs.Beginning.{⊏-⊑, ⊑-length, extends-true}
 use Rattle.protocol.proofs.Vote.{NamesVoted}
@@ -98,7 +113,8 @@ shorn-fine n c o f =
       most = omega (arith, f .most);
       entries = all-drop (isEntry n) c (o .log) (f .entries);
       tails = all-mono (tailFine n (length (o .log))) (tailFine n (length (drop c (o .log))))
-          (λ t x. let y = fine-tail n (length (o .log)) t x in fine-tail-of n (length (drop c (o .log))) t (record { short = y .short; room = omega (arith, y .room); entries = y .entries; parts = y .parts }))
+          (λ t x. let y = fine-tail n (length (o .log)) t x in
+          fine-tail-of n (length (drop c (o .log))) t (record { short = y .short; room = omega (arith, y .room); entries = y .entries; parts = y .parts }))
           (o .tails) (f .tails);
       rest = f .rest;
     }

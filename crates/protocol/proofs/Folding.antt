@@ -28,7 +28,24 @@ use Rattle.protocol.specs.Issue.{withIssue, refuseEntry, refusalAt}
 use Rattle.protocol.specs.SettledRule.{bySettled}
 use Rattle.protocol.specs.Take.{withTake, refuseTake}
 use Rattle.protocol.specs.Elect.{withElect}
-use Rattle.protocol.specs.Folding.{FoldedOffice, Packet, settledLength, shorn, leastKnown, foldCount, withFold, withFoldedIssue, refuseFoldedIssue, withFoldedElect, caughtUp, fromThere, withFoldedTake, beginsPast, endsInside, refuseFoldedTake}
+use Rattle.protocol.specs.Folding.{
+  FoldedOffice,
+  Packet,
+  settledLength,
+  shorn,
+  leastKnown,
+  foldCount,
+  withFold,
+  withFoldedIssue,
+  refuseFoldedIssue,
+  withFoldedElect,
+  caughtUp,
+  fromThere,
+  withFoldedTake,
+  beginsPast,
+  endsInside,
+  refuseFoldedTake,
+}
 use Rattle.protocol.proofs.FoldedWorld.{Desk, Posted, leaving, whole, wholeDesk, wholeMessage}
 use Rattle.lists.proofs.Tests.{pick-cases, or-right}
 use Rattle.protocol.proofs.Beginning.{⊑-trans, ⊑-comparable, ⊑-append, ⊑-rest, ⊏-length}

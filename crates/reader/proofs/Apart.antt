@@ -52,7 +52,8 @@ module _ {M : Type 1} (𝓤 : URA M) (H : Heap 𝓤) (A : Atoms 𝓤) (W : Given
     opens : ent 𝓤 (onEntry 𝓤 H A (onReader m D) κs qs (d, xs) whole) (sep 𝓤 (onEntry 𝓤 H A (onSlice m D) κs qs (d .src, (d .at, xs)) parts) (emp 𝓤))
     opens =
         qed W (raw (alive 𝓤 H A (onReader m D) κs qs) ∷ ‵ (owns (typesAt (onReader m D .params) κs) (d, xs) whole) ∷ []) ∵ move ! (1 ∷ []) $ fsplit ! $
-        use1 W (given (T′.lowered d ∷ [] ≡ T′.lowered d ∷ []) (‵ (all-own (T.the-type (α κs) .parts) (T′.the-laws (α κs)) (d .src, (d .at, tt))))) (own-open 𝓤 H A W (T.the-type (α κs)) (T′.the-laws (α κs)) (d .src, (d .at, tt)) (T′.lowered d)) $
+        use1 W (given (T′.lowered d ∷ [] ≡ T′.lowered d ∷ []) (‵ (all-own (T.the-type (α κs) .parts) (T′.the-laws (α κs)) (d .src, (d .at, tt)))))
+        (own-open 𝓤 H A W (T.the-type (α κs)) (T′.the-laws (α κs)) (d .src, (d .at, tt)) (T′.lowered d)) $
         -- [the position; nothing; the slice; the numbers; the token]
         learn ! (λ _. fsplit ! $ move ! (1 ∷ []) $ fsplit ! $ move ! (0 ∷ 3 ∷ []) $ fjoin ! $ move ! (2 ∷ 0 ∷ []) $ fjoin ! $ move ! (2 ∷ 0 ∷ []) $ join ! $ done !)
 
@@ -69,12 +70,15 @@ module _ {M : Type 1} (𝓤 : URA M) (H : Heap 𝓤) (A : Atoms 𝓤) (W : Given
       let qs : Shares 1 = y .0 .1 in
       let d : Reader = y .0 .3 .0 in
       let xs : Numbers m κs = y .0 .3 .1 in
-      via 𝓤 _ (fst∗ 𝓤 _ (emp 𝓤)) (said 𝓤 H A (onReader m D) κs qs (LL.vals (T.the-type (α κs)) (T′.the-laws (α κs)), spells m κs) (LL.tells (T.the-type (α κs)) (T′.the-laws (α κs)), tells m κs) (y .0 .3)
+      via 𝓤 _ (fst∗ 𝓤 _ (emp 𝓤)) (said 𝓤 H A (onReader m D) κs qs (LL.vals (T.the-type (α κs)) (T′.the-laws (α κs)), spells m κs)
+      (LL.tells (T.the-type (α κs)) (T′.the-laws (α κs)), tells m κs) (y .0 .3)
       (λ us. WpFn 𝓤 H C Λ (taking m (layout (shape D)) g) (flat (typesAt (onReader m D .params) κs) us) (Held 𝓤 H A m D f .post y)) (y .0 .4) (λ are.
-      via 𝓤 _ (via 𝓤 _ (via 𝓤 _ (opens κs qs d xs) (known ((κs, qs, tt, (d .src, (d .at, xs)), parts κs qs d xs), tt))) (fm→mono 𝓤 _ (fm g _) _ _ (hands-on 𝓤 H A W D L κs qs _ _ (says-so κs qs d xs))))
+      via 𝓤 _ (via 𝓤 _ (via 𝓤 _ (opens κs qs d xs) (known ((κs, qs, tt, (d .src, (d .at, xs)), parts κs qs d xs), tt)))
+      (fm→mono 𝓤 _ (fm g _) _ _ (hands-on 𝓤 H A W D L κs qs _ _ (says-so κs qs d xs))))
       (runs κs d xs (LL.lawful (T.the-type (α κs)) (T′.the-laws (α κs)) 𝓤 H A W .typed d _ (are .0) .0) (are .1) (Held 𝓤 H A m D f .post y))))
 
-module _ {M : Type 1} (𝓤 : URA M) (H : Heap 𝓤) (𝓜 : Model 𝓤 H) (𝓖 : GhostRules 𝓤 H) (𝓡 : Running 𝓤 H 𝓜) (m : ℕ) (D : Declared) (L : LL.Laws D) (f : (κs : Lfts 1) → Numbers m κs → ℕ → List ℕ → D .D) (γ : Env) where
+module _ {M : Type 1} (𝓤 : URA M) (H : Heap 𝓤) (𝓜 : Model 𝓤 H) (𝓖 : GhostRules 𝓤 H) (𝓡 : Running 𝓤 H 𝓜)
+    (m : ℕ) (D : Declared) (L : LL.Laws D) (f : (κs : Lfts 1) → Numbers m κs → ℕ → List ℕ → D .D) (γ : Env) where
   -- a function k over the struct meets its contract, where the callee g meets its own
   pub over-reader : (k g : Name) (ρ : Routine) → γ g ≡ ρ → Closed 𝓤 H (tables 𝓤 H 𝓜 𝓡 γ .C) (tables 𝓤 H 𝓜 𝓡 γ .Λ) k (taking m (layout (shape D)) g)
       → ((A : Atoms 𝓤) (W : Given 𝓤 H A) (τ : Ty) (C : Calls 𝓤 H) (Λ : Loops 𝓤 H) → FmC 𝓤 H (W .laws) C → (n : Name) → Calling 𝓤 H m τ C Λ n)

@@ -60,7 +60,8 @@ module _ {M : Type 1} (𝓤 : URA M) (H : Heap 𝓤) (A : Atoms 𝓤) (mem : Mem
   abbrev New : Contract 𝓤
   New = tripleOf 𝓤 H A new.signature (new.spec 𝓤 H A mem run)
 
-module _ {M : Type 1} (𝓤 : URA M) (H : Heap 𝓤) (A : Atoms 𝓤) (W : Given 𝓤 H A) (mem : Memory → SProp 𝓤) (run : Routine → Fun 𝓤) (m : ℕ) (D : Declared) (L : LL.Laws D) (f : (κs : Lfts 1) → Numbers m κs → ℕ → List ℕ → D .D) where
+module _ {M : Type 1} (𝓤 : URA M) (H : Heap 𝓤) (A : Atoms 𝓤) (W : Given 𝓤 H A) (mem : Memory → SProp 𝓤)
+    (run : Routine → Fun 𝓤) (m : ℕ) (D : Declared) (L : LL.Laws D) (f : (κs : Lfts 1) → Numbers m κs → ℕ → List ℕ → D .D) where
   module _ (κs : Lfts 1) (qs : Shares 1) (s : RefT (List ℕ)) (i : ℕ) (xs : Numbers m κs) where
     abbrev vals : Vals (onSlice m D) κs
     vals = (slice-vals s, (vint w64 i ∷ [], valss (typesAt (numbers m) κs) (spells m κs) xs))
@@ -88,11 +89,15 @@ module _ {M : Type 1} (𝓤 : URA M) (H : Heap 𝓤) (A : Atoms 𝓤) (W : Given
 
     -- the reader that was made, with the numbers, is what the second call asks
     passes-on : (C : Calls 𝓤 H) (g : Name) → FmC 𝓤 H (W .laws) C → Triple 𝓤 (C g) (Held 𝓤 H A m D f) → (u : Val)
-        → ent 𝓤 (sep 𝓤 (New 𝓤 H A mem run .post to-new u) Rest) (typed 𝓤 H (T′.mir erased) (λ r. C g (r ∷ words m κs xs) (typed 𝓤 H (layout (shape D)) (Slice 𝓤 H A m D f .post ((κs, qs, tt, (s, (i, xs)), vals), tt)))) u)
+        → ent 𝓤 (sep 𝓤 (New 𝓤 H A mem run .post to-new u) Rest)
+        (typed 𝓤 H (T′.mir erased) (λ r. C g (r ∷ words m κs xs) (typed 𝓤 H (layout (shape D)) (Slice 𝓤 H A m D f .post ((κs, qs, tt, (s, (i, xs)), vals), tt)))) u)
     passes-on C g fm known u =
-        qed W (later (some (λ (d : Reader). (raw (alive 𝓤 H A new.signature κs qs) ⊛ ‵ (B κs .own d (u ∷ []))) ⊛ raw (ensured 𝓤 H A new.ended (new.clauses 𝓤 H A mem run) κs (s, (i, tt)) tt d))) ∷ ‵ (owns (typesAt (numbers m) κs) xs (vals .1 .1)) ∷ []) ∵
+        qed W (later (some (λ (d : Reader). (raw (alive 𝓤 H A new.signature κs qs) ⊛ ‵ (B κs .own d (u ∷ [])))
+        ⊛ raw (ensured 𝓤 H A new.ended (new.clauses 𝓤 H A mem run) κs (s, (i, tt)) tt d))) ∷ ‵ (owns (typesAt (numbers m) κs) xs (vals .1 .1)) ∷ []) ∵
         updating ! $ await ! tt $ pick ! (λ d. split ! $ move ! (1 ∷ []) $
-        use1 W (raw (fact 𝓤 ((d .src ≡ s) × (d .at ≡ i)))) (exE 𝓤 _ (λ ws. snd∗ 𝓤 (sem 𝓤 H A (lasts new.ended κs (s, (i, tt)) ws)) (fact 𝓤 ((d .src ≡ s) × (d .at ≡ i))))) $ heard ! ((d .src ≡ s) × (d .at ≡ i)) (λ e. split ! $ move ! (1 ∷ []) $
+        use1 W (raw (fact 𝓤 ((d .src ≡ s) × (d .at ≡ i))))
+        (exE 𝓤 _ (λ ws. snd∗ 𝓤 (sem 𝓤 H A (lasts new.ended κs (s, (i, tt)) ws)) (fact 𝓤 ((d .src ≡ s) × (d .at ≡ i))))) $
+        heard ! ((d .src ≡ s) × (d .at ≡ i)) (λ e. split ! $ move ! (1 ∷ []) $
         -- [what the reader owns; the token; the numbers]
         peeks ! (B κs) (Is (B κs)) (shows 𝓤 H A (B κs)) d (u ∷ []) (λ is. at-once ! $ check ! (LL.lawful (T.the-type (αᵉ κs)) (T′.the-laws (αᵉ κs)) 𝓤 H A W .typed d _ is .0) $
         move ! (0 ∷ 2 ∷ []) $ fjoin ! $ move ! (1 ∷ 0 ∷ []) $ join ! $ nothing ! $ move ! (1 ∷ 0 ∷ []) $ join ! $
@@ -111,7 +116,8 @@ module _ {M : Type 1} (𝓤 : URA M) (H : Heap 𝓤) (A : Atoms 𝓤) (W : Given
       via 𝓤 _ (via 𝓤 _ (via 𝓤 _ (goes κs qs s i xs) (monoL 𝓤 (Rest κs qs s i xs) (known-new (to-new κs qs s i xs)))) (fm n _ _ _ (Rest κs qs s i xs) (passes-on κs qs s i xs C g fm known)))
       (runs κs (sliceVal (s .ptr) (length (s .now))) i xs (shr-slice-lawful 𝓤 H A W (named 0) (κs .0) u8 .typed s _ (are .0) .0) (are .1 .0 .1) (are .1 .1) (Slice 𝓤 H A m D f .post y))))
 
-module _ {M : Type 1} (𝓤 : URA M) (H : Heap 𝓤) (𝓜 : Model 𝓤 H) (𝓖 : GhostRules 𝓤 H) (𝓡 : Running 𝓤 H 𝓜) (m : ℕ) (D : Declared) (L : LL.Laws D) (f : (κs : Lfts 1) → Numbers m κs → ℕ → List ℕ → D .D) (γ : Env) where
+module _ {M : Type 1} (𝓤 : URA M) (H : Heap 𝓤) (𝓜 : Model 𝓤 H) (𝓖 : GhostRules 𝓤 H) (𝓡 : Running 𝓤 H 𝓜)
+    (m : ℕ) (D : Declared) (L : LL.Laws D) (f : (κs : Lfts 1) → Numbers m κs → ℕ → List ℕ → D .D) (γ : Env) where
   -- a function k over the slice meets its contract, where the function g over the struct meets its own
   pub over-slice : (k g : Name) (ρ : Routine) → γ g ≡ ρ → γ new-def.name ≡ new-def.routine
       → Closed 𝓤 H (tables 𝓤 H 𝓜 𝓡 γ .C) (tables 𝓤 H 𝓜 𝓡 γ .Λ) k (making m (layout (shape D)) sliceMir (T′.mir erased) new-def.name g)
@@ -123,4 +129,5 @@ module _ {M : Type 1} (𝓤 : URA M) (H : Heap 𝓤) (𝓜 : Model 𝓤 H) (𝓖
       let W : Given 𝓤 H (𝓖 .A) = givenOf 𝓤 H 𝓜 𝓖 in
       let fm : FmC 𝓤 H (W .laws) (𝓣 .C) = fmOf 𝓤 H (W .laws) 𝓣 in
       entered 𝓤 H _ (𝓣 .C) (𝓣 .Λ) k _ closed (made 𝓤 H (𝓖 .A) W (𝓜 .mem) (𝓡 .run) m D L f (𝓣 .C) (𝓣 .Λ) new-def.name g fm
-      (cited 𝓤 H (New 𝓤 H (𝓖 .A) (𝓜 .mem) (𝓡 .run)) 𝓜 𝓡 γ new-def.name new-def.routine at-new (new-thm.met 𝓤 H 𝓜 𝓖 𝓡)) (cited 𝓤 H _ 𝓜 𝓡 γ g ρ at met) (runs (𝓖 .A) W _ _ _ (𝓣 .C) (𝓣 .Λ) fm new-def.name g))
+      (cited 𝓤 H (New 𝓤 H (𝓖 .A) (𝓜 .mem) (𝓡 .run)) 𝓜 𝓡 γ new-def.name new-def.routine at-new (new-thm.met 𝓤 H 𝓜 𝓖 𝓡))
+      (cited 𝓤 H _ 𝓜 𝓡 γ g ρ at met) (runs (𝓖 .A) W _ _ _ (𝓣 .C) (𝓣 .Λ) fm new-def.name g))

@@ -88,8 +88,10 @@ module _ {M : Type 1} (𝓤 : URA M) (H : Heap 𝓤) (A : Atoms 𝓤) (W : Given
 
   pub calls₁ : Calling 𝓤 H 1 τ C Λ g
   calls₁ κs d xs wt fit Q =
-      qed W (raw (C g (sliceVal (d .src .ptr) (length (d .src .now)) ∷ vint w64 (d .at) ∷ vint w64 (xs .0) ∷ []) (typed 𝓤 H τ Q)) ∷ []) ∵ enter ! C Λ (taking 1 τ g) (T′.lowered d ∷ vint w64 (xs .0) ∷ []) Q $
-      alloc1 ! (λ l₀. alloc1 ! (λ l₁. alloc1 ! (λ l₂. alloc1 ! (λ l₃. alloc1 ! (λ l₄. alloc0 ! $ params1 ! $ pass1 ! (init ! 6 refl wt) $ pass1 ! (init ! 4 refl (tt, record { fits = fit .0 .1 })) $ pass0 ! $
+      qed W (raw (C g (sliceVal (d .src .ptr) (length (d .src .now)) ∷ vint w64 (d .at) ∷ vint w64 (xs .0) ∷ []) (typed 𝓤 H τ Q)) ∷ []) ∵
+      enter ! C Λ (taking 1 τ g) (T′.lowered d ∷ vint w64 (xs .0) ∷ []) Q $
+      alloc1 ! (λ l₀. alloc1 ! (λ l₁. alloc1 ! (λ l₂. alloc1 ! (λ l₃. alloc1 ! (λ l₄. alloc0 ! $ params1 ! $
+      pass1 ! (init ! 6 refl wt) $ pass1 ! (init ! 4 refl (tt, record { fits = fit .0 .1 })) $ pass0 ! $
       assigns ! (of-opd ! (load ! (from ! (fld ! refl (stop !))) (look-in ! 6 (sub ! 0 refl (whole !))))) (from ! (stop !)) (init ! 2 refl (tt, wt .1 .0)) $
       assigns ! (of-opd ! (load ! (from ! (fld ! refl (stop !))) (look-in ! 6 (sub ! 1 refl (whole !))))) (from ! (stop !)) (init ! 0 refl (tt, wt .1 .1 .0)) $
       move ! (10 ∷ []) $ calls ! fm (then τ Q) (and-then ! (held ! 3 refl) (and-then ! (held ! 1 refl) (and-then ! (held ! 5 refl) (no-more !)))) (λ u.
@@ -104,14 +106,19 @@ module _ {M : Type 1} (𝓤 : URA M) (H : Heap 𝓤) (A : Atoms 𝓤) (W : Given
   makes₀ κs v i xs wt fits fit Q =
       qed W (raw (C n (v ∷ vint w64 i ∷ []) (typed 𝓤 H ρ (second ([]) Q))) ∷ []) ∵ enter ! C Λ (making 0 τ σ ρ n g) (v ∷ vint w64 i ∷ []) Q $
       alloc1 ! (λ l₀. alloc1 ! (λ l₁. alloc1 ! (λ l₂. alloc1 ! (λ l₃. alloc0 ! $ params1 ! $ pass1 ! (init ! 4 refl wt) $ pass1 ! (init ! 2 refl (tt, record { fits = fits })) $ pass0 ! $
-      move ! (8 ∷ []) $ calls ! fm (then ρ (second ([]) Q)) (and-then ! (held ! 5 refl) (and-then ! (held ! 3 refl) (no-more !))) (λ r. await ! tt $ learn ! (λ t. land ! (from ! (stop !)) (init ! 1 refl t) $
+      move ! (8 ∷ []) $ calls ! fm (then ρ (second ([]) Q)) (and-then ! (held ! 5 refl) (and-then ! (held ! 3 refl) (no-more !))) (λ r. await ! tt $
+      learn ! (λ t. land ! (from ! (stop !)) (init ! 1 refl t) $
       calls ! fm (then τ Q) (and-then ! (held ! 1 refl) (no-more !)) (λ u. await ! tt $ learn ! (λ t′. land ! (from ! (stop !)) (init ! 7 refl t′) $ returns ! (look ! 7 refl) $
       move ! (7 ∷ 8 ∷ 5 ∷ 6 ∷ 3 ∷ 4 ∷ 1 ∷ 2 ∷ []) $ gone ! $ gone ! $ gone ! $ gone ! $ free0 ! $ done !))))))))
 
   pub makes₁ : Making 𝓤 H 1 τ σ ρ C Λ n g
   makes₁ κs v i xs wt fits fit Q =
       qed W (raw (C n (v ∷ vint w64 i ∷ []) (typed 𝓤 H ρ (second (vint w64 (xs .0) ∷ []) Q))) ∷ []) ∵ enter ! C Λ (making 1 τ σ ρ n g) (v ∷ vint w64 i ∷ vint w64 (xs .0) ∷ []) Q $
-      alloc1 ! (λ l₀. alloc1 ! (λ l₁. alloc1 ! (λ l₂. alloc1 ! (λ l₃. alloc1 ! (λ l₄. alloc0 ! $ params1 ! $ pass1 ! (init ! 6 refl wt) $ pass1 ! (init ! 4 refl (tt, record { fits = fits })) $ pass1 ! (init ! 2 refl (tt, record { fits = fit .0 .1 })) $ pass0 ! $
-      move ! (10 ∷ []) $ calls ! fm (then ρ (second (vint w64 (xs .0) ∷ []) Q)) (and-then ! (held ! 7 refl) (and-then ! (held ! 5 refl) (no-more !))) (λ r. await ! tt $ learn ! (λ t. land ! (from ! (stop !)) (init ! 1 refl t) $
-      calls ! fm (then τ Q) (and-then ! (held ! 1 refl) (and-then ! (held ! 3 refl) (no-more !))) (λ u. await ! tt $ learn ! (λ t′. land ! (from ! (stop !)) (init ! 9 refl t′) $ returns ! (look ! 9 refl) $
+      alloc1 ! (λ l₀. alloc1 ! (λ l₁. alloc1 ! (λ l₂. alloc1 ! (λ l₃. alloc1 ! (λ l₄. alloc0 ! $ params1 ! $ pass1 ! (init ! 6 refl wt) $
+      pass1 ! (init ! 4 refl (tt, record { fits = fits })) $ pass1 ! (init ! 2 refl (tt, record { fits = fit .0 .1 })) $ pass0 ! $
+      move ! (10 ∷ []) $
+      calls ! fm (then ρ (second (vint w64 (xs .0) ∷ []) Q)) (and-then ! (held ! 7 refl) (and-then ! (held ! 5 refl) (no-more !))) (λ r. await ! tt $
+      learn ! (λ t. land ! (from ! (stop !)) (init ! 1 refl t) $
+      calls ! fm (then τ Q) (and-then ! (held ! 1 refl) (and-then ! (held ! 3 refl) (no-more !))) (λ u. await ! tt $
+      learn ! (λ t′. land ! (from ! (stop !)) (init ! 9 refl t′) $ returns ! (look ! 9 refl) $
       move ! (9 ∷ 10 ∷ 7 ∷ 8 ∷ 5 ∷ 6 ∷ 3 ∷ 4 ∷ 1 ∷ 2 ∷ []) $ gone ! $ gone ! $ gone ! $ gone ! $ gone ! $ free0 ! $ done !)))))))))

@@ -160,7 +160,10 @@ eightAt rest n k = eightTails n (tailsAt (after rest k) 0 n)
 module _ (s : List ℕ) (b : Bytes s) where
   -- what is left of the limits: the tests that hold of all bytes are gone
   limits : validContent (contentAt s)
-      ≡ both (isOffice (countAt s) (senderAt s)) (both (both (both (leb (heldAt s) 1024) (allB (isEntry (countAt s)) (runAt 6 recordAt (heldAt s) (restAt s)))) (tailsFine (countAt s) (heldAt s) (eightAt (restAt s) (countAt s) (heldAt s)))) (lengthsFine (droppedAt s + heldAt s) (eightAt (restAt s) (countAt s) (heldAt s))))
+      ≡ both (isOffice (countAt s) (senderAt s))
+      (both (both (both (leb (heldAt s) 1024) (allB (isEntry (countAt s)) (runAt 6 recordAt (heldAt s) (restAt s))))
+      (tailsFine (countAt s) (heldAt s) (eightAt (restAt s) (countAt s) (heldAt s))))
+      (lengthsFine (droppedAt s + heldAt s) (eightAt (restAt s) (countAt s) (heldAt s))))
   unfolding validContent contentAt asPacket foldedFine officeFine logFine both
   limits =
       rw (
@@ -173,7 +176,9 @@ module _ (s : List ℕ) (b : Bytes s) where
       )
 
   in-order : both (layoutOk s) (validContent (contentAt s))
-      ≡ both (headWithin s) (both (logWithin (restAt s) (countAt s) (heldAt s)) (both (both (ballotsOk (after (restAt s) (heldAt s)) 0 (countAt s)) (tailsFine (countAt s) (heldAt s) (eightAt (restAt s) (countAt s) (heldAt s)))) (lengthsFine (droppedAt s + heldAt s) (eightAt (restAt s) (countAt s) (heldAt s)))))
+      ≡ both (headWithin s) (both (logWithin (restAt s) (countAt s) (heldAt s))
+      (both (both (ballotsOk (after (restAt s) (heldAt s)) 0 (countAt s)) (tailsFine (countAt s) (heldAt s) (eightAt (restAt s) (countAt s) (heldAt s))))
+      (lengthsFine (droppedAt s + heldAt s) (eightAt (restAt s) (countAt s) (heldAt s)))))
   unfolding layoutOk recordsOk headWithin logWithin
   in-order = ap (both (layoutOk s)) limits ∙ ordered (headOk s) _ _ (isOffice (countAt s) (senderAt s)) _ _ _ _
     where

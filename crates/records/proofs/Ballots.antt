@@ -51,4 +51,16 @@ module _ (s : List ℕ) (at o : ℕ) where
             → record { ok = true; next = at + (4 + 4 * m); ballot = record { len = m; cells = cs } } ≡ ballotAt s at o
         unfolding ballotAt pick both
         step-read cs room q =
-            rw (tests, le-leb 1 m h1, le-leb m 32 h2, le-leb (4 + 4 * m) (length s - at) room, size-yes (drop at s) o next, tail-yes (drop at s) o next, getD-drop, drop-drop, ← e, q, runAt-length 4 be32 m (drop (at + 4) s))
+            rw (
+              tests,
+              le-leb 1 m h1,
+              le-leb m 32 h2,
+              le-leb (4 + 4 * m) (length s - at) room,
+              size-yes (drop at s) o next,
+              tail-yes (drop at s) o next,
+              getD-drop,
+              drop-drop,
+              ← e,
+              q,
+              runAt-length 4 be32 m (drop (at + 4) s),
+            )

@@ -37,7 +37,8 @@ pub record LineRead (w₀ : World) (h₀ s out₀ : List ℕ) (w : World) (h out
   pub read : line ≡ lineOf (cut (h ++ take (end - at) (drop at s)))
 
 -- and its answer x
-module _ {w₀ : World} {h₀ s out₀ : List ℕ} {w : World} {h out : List ℕ} {at printed end : ℕ} {h′ : List ℕ} {line : Line} (A : LineRead w₀ h₀ s out₀ w h out at printed end h′ line) (x : Answered) (e : x ≡ answerLine w line) where
+module _ {w₀ : World} {h₀ s out₀ : List ℕ} {w : World} {h out : List ℕ} {at printed end : ℕ} {h′ : List ℕ} {line : Line}
+    (A : LineRead w₀ h₀ s out₀ w h out at printed end h′ line) (x : Answered) (e : x ≡ answerLine w line) where
   says : sayLine w (cut (h ++ take (end - at) (drop at s))) ≡ record { world = x .world; printed = printedOf (x .answer) }
   says = says-as w _ line (A .read) x e
 

@@ -52,9 +52,12 @@ module _ {W : Type 0} (say : W → List ℕ → Said W) where
   feed-append w held (b ∷ x) y = append-by w held b x y (eqb b 10) refl (λ v h. feed-append v h x y)
 
   line-by : (w : W) (held : List ℕ) (b : ℕ) (s : List ℕ) (t : Bool) → eqb b 10 ≡ t → length held ≤ 129 →
-      ((h : List ℕ) → length h ≤ 129 → partLength 10 s < length s → feedBy say w h s ≡ saidThen (say w (cut (h ++ take (partLength 10 s) s))) (feedBy say (say w (cut (h ++ take (partLength 10 s) s)) .world) [] (drop (suc (partLength 10 s)) s))) →
+      ((h : List ℕ) → length h ≤ 129 → partLength 10 s < length s
+      → feedBy say w h s ≡ saidThen (say w (cut (h ++ take (partLength 10 s) s)))
+      (feedBy say (say w (cut (h ++ take (partLength 10 s) s)) .world) [] (drop (suc (partLength 10 s)) s))) →
       partLength 10 (b ∷ s) < length (b ∷ s) →
-      feedBy say w held (b ∷ s) ≡ saidThen (say w (cut (held ++ take (partLength 10 (b ∷ s)) (b ∷ s)))) (feedBy say (say w (cut (held ++ take (partLength 10 (b ∷ s)) (b ∷ s))) .world) [] (drop (suc (partLength 10 (b ∷ s))) (b ∷ s)))
+      feedBy say w held (b ∷ s) ≡ saidThen (say w (cut (held ++ take (partLength 10 (b ∷ s)) (b ∷ s))))
+      (feedBy say (say w (cut (held ++ take (partLength 10 (b ∷ s)) (b ∷ s))) .world) [] (drop (suc (partLength 10 (b ∷ s))) (b ∷ s)))
   unfolding feedBy partLength pick
   line-by w held b s true e l h k =
       let c : cut (held ++ []) ≡ held = rw append-nil (take-all 129 held l) in

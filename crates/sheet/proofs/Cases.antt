@@ -24,7 +24,8 @@ five = bytes 5 0 10 ++ bytes 8 1 1 ++ bytes 6 0 0 ++ bytes 9 0 2 ++ bytes 5 0 30
 abbrev row : ℕ → ℕ → Row
 row class total = record { class = class; total = total }
 
-pub on-sheet : (areHouseholds five ≡ true) × (sheetBy codes (householdsIn five) ≡ row 0 2 ∷ row 1 257 ∷ row 8 0 ∷ row 141 40 ∷ []) × ((areHouseholds [] ≡ true) × (sheetBy codes (householdsIn []) ≡ []))
+pub on-sheet : (areHouseholds five ≡ true) × (sheetBy codes (householdsIn five) ≡ row 0 2 ∷ row 1 257 ∷ row 8 0 ∷ row 141 40 ∷ []) ×
+    ((areHouseholds [] ≡ true) × (sheetBy codes (householdsIn []) ≡ []))
 unfolding areHouseholds runOk recordHere householdsAt be32 both pick pool pooled
 on-sheet = (refl, refl, (refl, refl))
 

@@ -70,7 +70,8 @@ module _ (r : Record) (words s : List ℕ) where
   done h =
       let m = done-means h in
       let rows : sheetBy (settledCodes r words) (householdsIn s) ≡ sheetRows r words s = sym (m .1 .1) in
-      let is : IsSheet (settledCodes r words) (householdsIn s) (sheetRows r words s) = subst (IsSheet (settledCodes r words) (householdsIn s)) rows (sheet-is (settledCodes r words) (householdsIn s)) in
+      let is : IsSheet (settledCodes r words) (householdsIn s) (sheetRows r words s) =
+      subst (IsSheet (settledCodes r words) (householdsIn s)) rows (sheet-is (settledCodes r words) (householdsIn s)) in
       record {
         is = is;
         settled = λ line l. ap (λ (n : ℕ). record { number = n; edit = storedEdit (getD (settledCodes r words) line 0) }) (sym (number-sound r words (m .0))) ∙ lines-frames r words line l;

@@ -88,8 +88,10 @@ module _ (n own settled : ℕ) (noted : List ℕ) where
   Walked good i = (good ≡ true → (j : ℕ) → j < i → getD noted j 0 ≤ limitAt n own settled j) × (NotedFacts n own settled noted → good ≡ true)
 
   pub limits-next : (good : Bool) (i : ℕ) → Walked good i → (x : Bool) → x ≡ leb (getD noted i 0) (limitAt n own settled i) → Walked (good && x) (i + 1)
-  limits-next good i w x e =
-      ((λ t. let both-hold = and-true good x t in λ j h. at j (w .0 (both-hold .0)) (leb-true _ _ (sym e ∙ both-hold .1)) (eq-or-lt-of-le (at-most j h))), (λ F. and-of good x (w .1 F) (e ∙ le-leb _ _ (limited F i))))
+  limits-next good i w x e = (
+    (λ t. let both-hold = and-true good x t in λ j h. at j (w .0 (both-hold .0)) (leb-true _ _ (sym e ∙ both-hold .1)) (eq-or-lt-of-le (at-most j h))),
+    (λ F. and-of good x (w .1 F) (e ∙ le-leb _ _ (limited F i))),
+  )
     where
       at-most : (j : ℕ) → j < i + 1 → j ≤ i
       at-most j h = omega arith

@@ -175,7 +175,14 @@ ballot-back s o bs ok = by-test _ (ballotNext s o) yes-case (λ e. rw (tail-no s
         let l : ℕ = lengthAt s in
         let t : List ℕ = runAt 4 be32 l (drop 4 s) in
         let lt : length t ≡ l = runAt-length 4 be32 l (drop 4 s) in
-        rw (tail-yes s o e, after-yes s o e, ballot-cons o t (omega arith), lt, ← drop-drop (4 * l) 4 s, run-back 4 bytes32 be32 (roomFor 4) isWord valueItem l (drop 4 s) (bytes-drop 4 s bs) (room-for 4 l (drop 4 s) (rw length-drop (omega arith))))
+        rw (
+          tail-yes s o e,
+          after-yes s o e,
+          ballot-cons o t (omega arith),
+          lt,
+          ← drop-drop (4 * l) 4 s,
+          run-back 4 bytes32 be32 (roomFor 4) isWord valueItem l (drop 4 s) (bytes-drop 4 s bs) (room-for 4 l (drop 4 s) (rw length-drop (omega arith))),
+        )
         (next-head s o e)
 
 bytes-after : (s : List ℕ) (o : ℕ) → Bytes s → Bytes (afterBallot s o)

@@ -58,13 +58,17 @@ longest c e = by-test _ (leb (length (c .log)) 992) (λ q. few (leb-true _ _ q))
 
     few : length (c .log) ≤ 992 → length (spelling c) ≤ 7046
     few h =
-        let b : length (ballotsBytes 0 (c .tails)) ≤ 8 * 132 = ballots-most (c .n) (length (c .log)) 132 0 8 (c .tails) (omega (arith, v .tails-length, v .few-offices)) (λ t q. omega (arith, fine-tail (c .n) (length (c .log)) t q)) (tails-fine c v) in
+        let b : length (ballotsBytes 0 (c .tails)) ≤ 8 * 132 =
+        ballots-most (c .n) (length (c .log)) 132 0 8 (c .tails) (omega (arith, v .tails-length, v .few-offices))
+        (λ t q. omega (arith, fine-tail (c .n) (length (c .log)) t q)) (tails-fine c v) in
         omega (arith, spelling-length c, v .weights-length, v .few-offices)
 
     many : 992 < length (c .log) → length (spelling c) ≤ 7046
     many h =
         let m : ℕ = 4 + 4 * (1024 - length (c .log)) in
-        let b : length (ballotsBytes 0 (c .tails)) ≤ 8 * m = ballots-most (c .n) (length (c .log)) m 0 8 (c .tails) (omega (arith, v .tails-length, v .few-offices)) (λ t q. omega (arith, fine-tail (c .n) (length (c .log)) t q)) (tails-fine c v) in
+        let b : length (ballotsBytes 0 (c .tails)) ≤ 8 * m =
+        ballots-most (c .n) (length (c .log)) m 0 8 (c .tails) (omega (arith, v .tails-length, v .few-offices))
+        (λ t q. omega (arith, fine-tail (c .n) (length (c .log)) t q)) (tails-fine c v) in
         omega (arith, spelling-length c, v .weights-length, v .few-offices, log-length c v)
 
 -- a tail of four entries of each of the offices below k: of all eight, a full tail in which each has its part

@@ -11,7 +11,26 @@ use Rattle.protocol.specs.Limits.{isOffice, isWeight, isEmpty, logFine, tailFin
 use Rattle.lists.specs.Tests.{allB, both, pick}
 use Rattle.spelling.specs.Content.{Content, asPacket, eightTails, validContent}
 use Rattle.numbers.specs.Numbers.{bytes32, bytes64, runOk, runAt, bytes16, be16, run, be32, be64}
-use Rattle.spelling.specs.Reading.{sizeAt, tailAt, tailsAt, ballotOk, settledAt, droppedAt, reading, endOk, headOk, ballotsOk, recordsOk, restAt, contentAt, recordHere, layoutOk, ballotNext, afterBallot, recordAt}
+use Rattle.spelling.specs.Reading.{
+  sizeAt,
+  tailAt,
+  tailsAt,
+  ballotOk,
+  settledAt,
+  droppedAt,
+  reading,
+  endOk,
+  headOk,
+  ballotsOk,
+  recordsOk,
+  restAt,
+  contentAt,
+  recordHere,
+  layoutOk,
+  ballotNext,
+  afterBallot,
+  recordAt,
+}
 use Rattle.spelling.specs.Spelling.{headBytes, ballotBytes, spelling, ballotsBytes, logRecord, endBytes}
 
 -- the head of office `sender`, of the last two bytes of its settled length and of its dropped count
@@ -41,5 +60,7 @@ folded-written = refl
 
 -- both are read back; "a message with more dropped than settled is 7"
 pub read : (reading bytes ≡ some message) × (reading foldedBytes ≡ some folded) × (reading (head 1 (1 ∷ 2 ∷ []) (1 ∷ 3 ∷ []) ++ (69 ∷ 78 ∷ [])) ≡ none)
-unfolding message bytes folded foldedBytes reading pick both layoutOk contentAt headOk recordsOk settledAt droppedAt restAt be16 be32 be64 run runAt runOk recordHere recordAt ballotsOk ballotOk ballotNext tailsAt tailAt sizeAt afterBallot endOk validContent isOffice isWeight asPacket eightTails foldedFine lengthsFine lengthLimit officeFine logFine tailsFine tailFine fair countsAfter isEmpty isEntry proper allB
+unfolding message bytes folded foldedBytes reading pick both layoutOk contentAt headOk recordsOk settledAt droppedAt restAt be16 be32 be64 run runAt
+    runOk recordHere recordAt ballotsOk ballotOk ballotNext tailsAt tailAt sizeAt afterBallot endOk validContent isOffice isWeight asPacket eightTails
+    foldedFine lengthsFine lengthLimit officeFine logFine tailsFine tailFine fair countsAfter isEmpty isEntry proper allB
 read = (refl, refl, refl)

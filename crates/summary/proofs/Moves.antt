@@ -35,7 +35,8 @@ pub moves-next : {b : Bool} (xs : List ℕ) (bits i : ℕ) → i < length xs →
     → AllWith b noMove xs (eqb (bitOr bits (getD xs i 0) / 4194304 % 4) 0) (i + 1)
 moves-next xs bits i h inv =
     let v = getD xs i 0 in
-    rw (and-both (eqb (bits / 4194304 % 4) 0) (eqb (v / 4194304 % 4) 0) ∙ sym (or-bits 22 2 bits v)) at (with-next noMove 0 xs (eqb (bits / 4194304 % 4) 0) i inv h (eqb (v / 4194304 % 4) 0) (line-bits v))
+    rw (and-both (eqb (bits / 4194304 % 4) 0) (eqb (v / 4194304 % 4) 0)
+    ∙ sym (or-bits 22 2 bits v)) at (with-next noMove 0 xs (eqb (bits / 4194304 % 4) 0) i inv h (eqb (v / 4194304 % 4) 0) (line-bits v))
 
 -- ── one entry ──
 past-end : (w : List ℕ) (k : ℕ) → length w ≤ k → getD w k 0 ≡ 0

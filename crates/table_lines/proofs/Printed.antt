@@ -42,11 +42,15 @@ module _ (input : List ℕ) (ns : Numbers) (e : ns ≡ numbersIn input) where
 
   pub answer-lines : threeNumbers ns ≡ true → founded (ns .cells) .number ≡ 0 → answerTo input ≡ linesOf (founded (ns .cells) .«record») tables
   unfolding printedFor
-  answer-lines q z = answer-weights q ∙ pick-true (eqb (founded (ns .cells) .number) 0) (linesOf (founded (ns .cells) .«record») tables) (decimalOf (founded (ns .cells) .number) ++ (10 ∷ [])) (eq-eqb (founded (ns .cells) .number) 0 z)
+  answer-lines q z =
+      answer-weights q ∙ pick-true (eqb (founded (ns .cells) .number) 0) (linesOf (founded (ns .cells) .«record») tables)
+      (decimalOf (founded (ns .cells) .number) ++ (10 ∷ [])) (eq-eqb (founded (ns .cells) .number) 0 z)
 
   pub answer-refused : threeNumbers ns ≡ true → (founded (ns .cells) .number ≡ 0 → ⊥) → answerTo input ≡ decimalOf (founded (ns .cells) .number) ++ (10 ∷ [])
   unfolding printedFor
-  answer-refused q z = answer-weights q ∙ pick-false (eqb (founded (ns .cells) .number) 0) (linesOf (founded (ns .cells) .«record») tables) (decimalOf (founded (ns .cells) .number) ++ (10 ∷ [])) (ne-eqb (founded (ns .cells) .number) 0 z)
+  answer-refused q z =
+      answer-weights q ∙ pick-false (eqb (founded (ns .cells) .number) 0) (linesOf (founded (ns .cells) .«record») tables)
+      (decimalOf (founded (ns .cells) .number) ++ (10 ∷ [])) (ne-eqb (founded (ns .cells) .number) 0 z)
 
 -- ── what the code writes ──
 pub write-refused : (out last : List ℕ) (next n : ℕ) → 20 ≤ length out → next ≡ 0 + length (printedAt out 0 n) → last ≡ sets out 0 (printedAt out 0 n)

@@ -129,7 +129,8 @@ office-fine t T =
       eight = refl;
       most = omega arith;
       entries = refl;
-      tails = both-true _ _ (small-fine (T .x) (T .small-x)) (both-true _ _ (small-fine (T .y) (T .small-y)) (both-true _ _ (small-fine (T .z) (T .small-z)) (all-replicate (tailFine 3 0) 5 [] none-fine)));
+      tails = both-true _ _ (small-fine (T .x) (T .small-x))
+          (both-true _ _ (small-fine (T .y) (T .small-y)) (both-true _ _ (small-fine (T .z) (T .small-z)) (all-replicate (tailFine 3 0) 5 [] none-fine)));
       rest = refl;
     })
 

@@ -85,7 +85,9 @@ pool-same r (s ∷ rows) h e = go (pool-same r rows) (ltb (s .class) (r .class))
     first q b d = pool-with r s rows (sym d) ∙ ap (λ (c : ℕ). record { class = c; total = r .total + s .total } ∷ rows) d
 
     Again : Type 0
-    Again = placeOf (r .class) rows < length rows → getD rows (placeOf (r .class) rows) noRow .class ≡ r .class → pool r rows ≡ set rows (placeOf (r .class) rows) (record { class = r .class; total = r .total + getD rows (placeOf (r .class) rows) noRow .total })
+    Again =
+        placeOf (r .class) rows < length rows → getD rows (placeOf (r .class) rows) noRow .class ≡ r .class
+        → pool r rows ≡ set rows (placeOf (r .class) rows) (record { class = r .class; total = r .total + getD rows (placeOf (r .class) rows) noRow .total })
 
     later : Again → s .class < r .class → place (suc (placeOf (r .class) rows))
     later again q b d = pool-behind r s rows q ∙ ap (λ (l : List Row). s ∷ l) (again (le-of-suc-le-suc b) d)
@@ -108,7 +110,9 @@ pool-new r (s ∷ rows) n = go (pool-new r rows) (ltb (s .class) (r .class)) ref
     first q m = pool-before r s rows (omega (arith, m (omega arith)))
 
     Again : Type 0
-    Again = (placeOf (r .class) rows < length rows → getD rows (placeOf (r .class) rows) noRow .class ≡ r .class → ⊥) → pool r rows ≡ take (placeOf (r .class) rows) rows ++ (r ∷ drop (placeOf (r .class) rows) rows)
+    Again =
+        (placeOf (r .class) rows < length rows → getD rows (placeOf (r .class) rows) noRow .class ≡ r .class → ⊥)
+        → pool r rows ≡ take (placeOf (r .class) rows) rows ++ (r ∷ drop (placeOf (r .class) rows) rows)
 
     later : Again → s .class < r .class → place (suc (placeOf (r .class) rows))
     later again q m = pool-behind r s rows q ∙ ap (λ (l : List Row). s ∷ l) (again (λ b d. m (omega arith) d))
@@ -188,7 +192,8 @@ module _ (sheet : Rows) (row : Row) (room : RoomFor sheet row) (at : ℕ) (place
       let b : at < length (held sheet) = omega (arith, count-held) in
       let v : Row = record { class = row .class; total = row .total + getD (held sheet) at noRow .total } in
       let made : pool row (held sheet) ≡ set (held sheet) at v =
-      subst (λ (p : ℕ). p < length (held sheet) → getD (held sheet) p noRow .class ≡ row .class → pool row (held sheet) ≡ set (held sheet) p (record { class = row .class; total = row .total + getD (held sheet) p noRow .total }))
+      subst (λ (p : ℕ). p < length (held sheet) → getD (held sheet) p noRow .class ≡ row .class
+      → pool row (held sheet) ≡ set (held sheet) p (record { class = row .class; total = row .total + getD (held sheet) p noRow .total }))
       (sym place) (pool-same row (held sheet)) b (ap (λ (x : Row). x .class) (sym e) ∙ c) in
       let count : sheet .count ≡ length (pool row (held sheet)) = count-held ∙ sym (length-set (held sheet) at v) ∙ ap length (sym made) in
       let rows : set (sheet .rows) at (record { class = row .class; total = row .total + getD (sheet .rows) at noRow .total }) ≡ cellsOf (pool row (held sheet)) =

@@ -19,7 +19,8 @@ use Rattle.tabulation.proofs.Under.{under, more-weight, pooled-under, p
 weight-under : (codes : List ℕ) (c : ℕ) (hs : List Household) → Option·getD (under c (classed codes hs)) 0 ≡ weightUnder codes c hs
 unfolding under weightUnder
 weight-under codes c [] = refl
-weight-under codes c (h ∷ hs) = more-weight (eqb (classOf codes h) c) (h .weight) (under c (classed codes hs)) ∙ ap (λ (n : ℕ). pick (eqb (classOf codes h) c) (h .weight) 0 + n) (weight-under codes c hs)
+weight-under codes c (h ∷ hs) =
+    more-weight (eqb (classOf codes h) c) (h .weight) (under c (classed codes hs)) ∙ ap (λ (n : ℕ). pick (eqb (classOf codes h) c) (h .weight) 0 + n) (weight-under codes c hs)
 
 weights-total : (codes : List ℕ) (hs : List Household) → totalOf (classed codes hs) ≡ weightsRead hs
 unfolding totalOf weightsRead

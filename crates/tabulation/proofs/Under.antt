@@ -172,7 +172,8 @@ rows-same [] (s ∷ b) ra rb same = absurd (Option·none-ne-some (s .total) (sam
 rows-same (r ∷ a) [] ra rb same = absurd (Option·none-ne-some (r .total) (sym (same (r .class)) ∙ first-under r a (ra .0)))
 rows-same (r ∷ a) (s ∷ b) ra rb same =
     let first = first-row r s a b (ra .0) (rb .0) same in
-    let rest : (After (r .class) b) × ((c : ℕ) → under c (r ∷ a) ≡ under c (r ∷ b)) = subst (λ (x : Row). (After (x .class) b) × ((c : ℕ) → under c (r ∷ a) ≡ under c (x ∷ b))) (sym first) (rb .0, same) in
+    let rest : (After (r .class) b) × ((c : ℕ) → under c (r ∷ a) ≡ under c (r ∷ b)) =
+    subst (λ (x : Row). (After (x .class) b) × ((c : ℕ) → under c (r ∷ a) ≡ under c (x ∷ b))) (sym first) (rb .0, same) in
     ap₂ (λ (x : Row) (l : List Row). x ∷ l) first (rows-same a b (ra .1) (rb .1) (rest-same r a b (ra .0) (rest .0) (rest .1)))
   where
     first-row : (r s : Row) (a b : List Row) → After (r .class) a → After (s .class) b → ((c : ℕ) → under c (r ∷ a) ≡ under c (s ∷ b)) → r ≡ s

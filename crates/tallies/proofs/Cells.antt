@@ -97,7 +97,8 @@ without-first-is b s o cs q = λ i. record { len = left i; cells = (q ∙ moved)
 
     moved : drop 1 (b .cells) ++ 0 ∷ [] ≡ drop 1 (tailOf b) ++ replicate (32 - length (drop 1 (tailOf b))) 0
     moved =
-        ap (λ (l : List ℕ). l ++ 0 ∷ []) (ap (drop 1) (sym (take-append-drop (b .len) (b .cells)) ∙ ap (λ (l : List ℕ). tailOf b ++ l) unused) ∙ drop-front (tailOf b) (replicate (32 - b .len) 0) (omega (arith, long, o))) ∙
+        ap (λ (l : List ℕ). l ++ 0 ∷ []) (ap (drop 1) (sym (take-append-drop (b .len) (b .cells)) ∙ ap (λ (l : List ℕ). tailOf b ++ l) unused)
+        ∙ drop-front (tailOf b) (replicate (32 - b .len) 0) (omega (arith, long, o))) ∙
         append-assoc (drop 1 (tailOf b)) (replicate (32 - b .len) 0) (0 ∷ []) ∙
         ap (λ (l : List ℕ). drop 1 (tailOf b) ++ l) (replicate-append-replicate (32 - b .len) 1 0 ∙ ap (λ (k : ℕ). replicate k 0) one-more)
 

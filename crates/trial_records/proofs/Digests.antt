@@ -49,7 +49,8 @@ module _ (start : ℕ) (bs : List Ballot) (h k : ℕ) (inv : BallotsLeft start b
   ballots-done l = sym (ap (λ (r : List Ballot). digestFrom h (ballotsNumbers r)) (drop-of-length-le bs l)) ∙ inv
 
 -- a digest after each part of what is kept, and of the record
-pub kept-digest : (k : Kept) (h a b c d : ℕ) → a ≡ digestWith h (k .dropped) → b ≡ digestFrom a (k .summary .present) → c ≡ digestFrom b (k .summary .codes) → d ≡ digestFrom c (k .counts) → d ≡ digestFrom h (keptNumbers k)
+pub kept-digest : (k : Kept) (h a b c d : ℕ) → a ≡ digestWith h (k .dropped) → b ≡ digestFrom a (k .summary .present)
+    → c ≡ digestFrom b (k .summary .codes) → d ≡ digestFrom c (k .counts) → d ≡ digestFrom h (keptNumbers k)
 kept-digest k h a b c d ea eb ec ed =
     let codes = k .summary .codes in
     let present = k .summary .present in

@@ -14,7 +14,27 @@ use Rattle.frame.specs.declared.Record.{Record}
 use Rattle.frame.specs.State.{withKept, withNoted, withBallots}
 use Rattle.trial_lines.specs.declared.line.Line.{Line}
 use Rattle.trial_lines.specs.Writing.{hasRoom, weightsFrom}
-use Rattle.trial_records.specs.Setting.{letterA, letterF, letterJ, letterK, letterN, letterP, letterQ, letterR, letterT, fitsRecord, withPresent, withCodes, withKeptSummary, withNumbers, setKept, setHead, setBallots, withSummary, setRecord}
+use Rattle.trial_records.specs.Setting.{
+  letterA,
+  letterF,
+  letterJ,
+  letterK,
+  letterN,
+  letterP,
+  letterQ,
+  letterR,
+  letterT,
+  fitsRecord,
+  withPresent,
+  withCodes,
+  withKeptSummary,
+  withNumbers,
+  setKept,
+  setHead,
+  setBallots,
+  withSummary,
+  setRecord,
+}
 
 module _ (l : Line) where
   -- the line has another letter

@@ -125,7 +125,14 @@ module _ {l₀ : List ℕ} {at n : ℕ} {base : List ℕ} {bs : List Ballot} {l 
 
   pub write-room : o < n → at + length (versionsBytes base (tailsIn n bs)) ≤ length l₀ → p + 8 * n ≤ length l
   write-room h room =
-      omega (arith, inv .left .place, inv .left .long, ap length (rest-next h), length-append (vectorBytes base next) (versionsBytes base (drop (o + 1) (tailsIn n bs))), vector-length n base long next)
+      omega (
+        arith,
+        inv .left .place,
+        inv .left .long,
+        ap length (rest-next h),
+        length-append (vectorBytes base next) (versionsBytes base (drop (o + 1) (tailsIn n bs))),
+        vector-length n base long next,
+      )
 
   pub write-again : o < n → {l′ : List ℕ} {p′ : ℕ} (counts : List ℕ) → counts ≡ vectorOf base (tailOf (getD bs o offEnd)) → p′ ≡ p + 8 * n
       → l′ ≡ sets l p (run bytes64 counts) → ToWrite l₀ at n base bs l′ p′ (o + 1)

@@ -36,4 +36,5 @@ returns-3 c =
 
 pub write-spec : {M : Type 1} → statement M
 write-spec =
-    tie.close (tie.spec (λ c κs. search needs) returns (λ c. passed (c .before) .within) (λ c. sym (log-length _ _ (passed (c .before .before .before .before)))) (λ c κs. countable _ _ (passed (c .before .before .before .before .before))) (λ c. search needs) returns-2 (λ c. search needs) returns-3)
+    tie.close (tie.spec (λ c κs. search needs) returns (λ c. passed (c .before) .within) (λ c. sym (log-length _ _ (passed (c .before .before .before .before))))
+    (λ c κs. countable _ _ (passed (c .before .before .before .before .before))) (λ c. search needs) returns-2 (λ c. search needs) returns-3)

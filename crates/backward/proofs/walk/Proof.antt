@@ -53,4 +53,5 @@ returns c =
 pub walk-spec : {M : Type 1} → statement M
 walk-spec =
     tie.close (tie.spec Inv-loop μ-loop (λ c κs. search needs) loop-holds (λ c. search needs) (λ c. search needs) (λ c. search needs)
-    (λ c κs. c .before .before .before .before .loop .inv .long) sub-left (λ c. search needs) loop-again (λ c κs. search needs) (λ c. omega (arith, c .before .before .before .loop .inv .within)) returns)
+    (λ c κs. c .before .before .before .before .loop .inv .long) sub-left (λ c. search needs) loop-again
+    (λ c κs. search needs) (λ c. omega (arith, c .before .before .before .loop .inv .within)) returns)

@@ -23,10 +23,18 @@ loop-holds : tie.Need-loop-holds Inv-loop μ-loop
 loop-holds c = (search needs, refl)
 
 returns : tie.Need-returns Inv-loop μ-loop
-returns c = let l = c .before .before .loop in let s = c .before .before .before in let f = few s in fit-stop (s .args .n) (f .0) (s .args .t2) (s .args .t3) (f .1) (f .2) _ (l .i) (l .inv .1) (omega arith) (omega arith)
+returns c =
+    let l = c .before .before .loop in
+    let s = c .before .before .before in
+    let f = few s in
+    fit-stop (s .args .n) (f .0) (s .args .t2) (s .args .t3) (f .1) (f .2) _ (l .i) (l .inv .1) (omega arith) (omega arith)
 
 loop-again : tie.Need-loop-again Inv-loop μ-loop
-loop-again c = let l = c .before .before .loop in let s = c .before .before .before in let f = few s in (omega arith, fit-next (s .args .n) (f .0) (s .args .t2) (s .args .t3) (f .1) (f .2) _ (l .i) (l .inv .1) (omega arith) (omega arith))
+loop-again c =
+    let l = c .before .before .loop in
+    let s = c .before .before .before in
+    let f = few s in
+    (omega arith, fit-next (s .args .n) (f .0) (s .args .t2) (s .args .t3) (f .1) (f .2) _ (l .i) (l .inv .1) (omega arith) (omega arith))
 
 returns-2 : tie.Need-returns-2 Inv-loop μ-loop
 returns-2 c = let l = c .before .loop in let s = c .before .before in let f = few s in fit-done (s .args .n) (f .0) (s .args .t2) (s .args .t3) (f .1) (f .2) _ (l .i) (l .inv .1) (omega arith)

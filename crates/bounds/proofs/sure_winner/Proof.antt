@@ -13,7 +13,10 @@ use Rattle.bounds.proofs.sure_winner.Statement.{statement}
 use Rattle.bounds.proofs.sure_winner.Tie as tie
 
 abbrev Inv-loop : tie.InvT-loop
-Inv-loop counts n lowest highest votes i₀ i = (i ≤ n) × (winnerIs (sureWinner (take n lowest) (take n highest) (quieterBy counts) (votesIn votes)) ≡ winnerIs (firstThat (winsWorst (take n lowest) (take n highest) (quieterBy counts) (votesIn votes)) (supported (drop i (take n lowest)) (votesIn (drop i votes)))))
+Inv-loop counts n lowest highest votes i₀ i =
+    (i ≤ n) ×
+    (winnerIs (sureWinner (take n lowest) (take n highest) (quieterBy counts) (votesIn votes))
+    ≡ winnerIs (firstThat (winsWorst (take n lowest) (take n highest) (quieterBy counts) (votesIn votes)) (supported (drop i (take n lowest)) (votesIn (drop i votes)))))
 
 abbrev μ-loop : tie.MeasureT-loop
 μ-loop counts n lowest highest votes i₀ i = n - i
@@ -31,13 +34,28 @@ unfolding sureWinner
 loop-holds c = (search needs, refl)
 
 returns : tie.Need-returns Inv-loop μ-loop
-returns c = let l = c .before .before .before .loop in let s = turn (c .before) in let a = s .args in let f = few s in sure-stop (a .n) (f .0) (a .lowest) (a .highest) (f .2) (f .3) (a .t1) (f .1) _ _ (l .i) (l .inv .1) (omega arith) _ (c .before .wins-worst .ensures) (c .if1 .taken)
+returns c =
+    let l = c .before .before .before .loop in
+    let s = turn (c .before) in
+    let a = s .args in
+    let f = few s in
+    sure-stop (a .n) (f .0) (a .lowest) (a .highest) (f .2) (f .3) (a .t1) (f .1) _ _ (l .i) (l .inv .1) (omega arith) _ (c .before .wins-worst .ensures) (c .if1 .taken)
 
 loop-again : tie.Need-loop-again Inv-loop μ-loop
-loop-again c = let l = c .before .before .before .loop in let s = turn (c .before) in let a = s .args in let f = few s in (omega arith, sure-next (a .n) (f .0) (a .lowest) (a .highest) (f .2) (f .3) (a .t1) (f .1) _ _ (l .i) (l .inv .1) (omega arith) _ (c .before .wins-worst .ensures) (c .if1 .left))
+loop-again c =
+    let l = c .before .before .before .loop in
+    let s = turn (c .before) in
+    let a = s .args in
+    let f = few s in
+    (omega arith, sure-next (a .n) (f .0) (a .lowest) (a .highest) (f .2) (f .3) (a .t1) (f .1) _ _ (l .i) (l .inv .1) (omega arith) _ (c .before .wins-worst .ensures) (c .if1 .left))
 
 returns-2 : tie.Need-returns-2 Inv-loop μ-loop
-returns-2 c = let l = c .before .loop in let s = c .before .before in let a = s .args in let f = few s in sure-done (a .n) (f .0) (a .lowest) (a .highest) (f .2) (f .3) (a .t1) (f .1) _ _ (l .i) (l .inv .1) (omega arith)
+returns-2 c =
+    let l = c .before .loop in
+    let s = c .before .before in
+    let a = s .args in
+    let f = few s in
+    sure-done (a .n) (f .0) (a .lowest) (a .highest) (f .2) (f .3) (a .t1) (f .1) _ _ (l .i) (l .inv .1) (omega arith)
 
 pub sure-winner-spec : {M : Type 1} → statement M
 sure-winner-spec =

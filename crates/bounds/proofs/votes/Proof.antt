@@ -25,7 +25,10 @@ loop-holds : tie.Need-loop-holds Inv-loop μ-loop
 loop-holds c = (search needs, refl)
 
 loop-again : tie.Need-loop-again Inv-loop μ-loop
-loop-again c = let l = c .before .before .before .loop in let s = c .before .before .before .before in (search needs, votes-next (s .args .t1) (eight s) (l .votes) (l .i) (l .inv .1) (omega arith) _ (c .vote .ensures))
+loop-again c =
+    let l = c .before .before .before .loop in
+    let s = c .before .before .before .before in
+    (search needs, votes-next (s .args .t1) (eight s) (l .votes) (l .i) (l .inv .1) (omega arith) _ (c .vote .ensures))
 
 returns : tie.Need-returns Inv-loop μ-loop
 returns c = let l = c .before .loop in let s = c .before .before in votes-done (s .args .t1) (eight s) (l .votes) (l .i) (l .inv .1) (omega arith)

@@ -28,14 +28,16 @@ won c e q =
     let s = start c in
     let a = s .args in
     let h = eight s in
-    worst-won (a .n) (s .pre .0) (a .lowest) (a .highest) (h .1) (h .2) (a .votes) (h .0) (a .vote) (c .before .before .if1 .left) (a .counts) (s .pre) _ (c .before .worst .ensures) _ (c .find-winner .ensures) e q
+    worst-won (a .n) (s .pre .0) (a .lowest) (a .highest) (h .1) (h .2) (a .votes) (h .0) (a .vote)
+    (c .before .before .if1 .left) (a .counts) (s .pre) _ (c .before .worst .ensures) _ (c .find-winner .ensures) e q
 
 lost : (c : tie.After-find-winner) → c .find-winner .result ≡ Nobody → false ≡ answer c
 lost c q =
     let s = start c in
     let a = s .args in
     let h = eight s in
-    worst-lost (a .n) (s .pre .0) (a .lowest) (a .highest) (h .1) (h .2) (a .votes) (h .0) (a .vote) (c .before .before .if1 .left) (a .counts) (s .pre) _ (c .before .worst .ensures) _ (c .find-winner .ensures) q
+    worst-lost (a .n) (s .pre .0) (a .lowest) (a .highest) (h .1) (h .2) (a .votes) (h .0) (a .vote)
+    (c .before .before .if1 .left) (a .counts) (s .pre) _ (c .before .worst .ensures) _ (c .find-winner .ensures) q
 
 returns : tie.Need-returns
 returns c = none-worst _ (c .before .args .vote) (c .if1 .taken)

@@ -25,10 +25,21 @@ loop-holds : tie.Need-loop-holds Inv-loop μ-loop
 loop-holds c = (search needs, refl)
 
 loop-again : tie.Need-loop-again Inv-loop μ-loop
-loop-again c = let l = c .before .before .loop in let s = c .before .before .before in let f = few s in (omega arith, worst-next (s .args .n) (f .0) (s .args .t3) (s .args .t4) (f .2) (f .3) (s .args .t1) (f .1) (s .args .entry) (s .pre .1) (l .weights) (l .i) (l .inv .1) (omega arith) _ refl _ (c .worse .ensures))
+loop-again c =
+    let l = c .before .before .loop in
+    let s = c .before .before .before in
+    let f = few s in (
+      omega arith,
+      worst-next (s .args .n) (f .0) (s .args .t3) (s .args .t4) (f .2) (f .3) (s .args .t1) (f .1)
+          (s .args .entry) (s .pre .1) (l .weights) (l .i) (l .inv .1) (omega arith) _ refl _ (c .worse .ensures),
+    )
 
 returns : tie.Need-returns Inv-loop μ-loop
-returns c = let l = c .before .loop in let s = c .before .before in let f = few s in worst-done (s .args .n) (f .0) (s .args .t3) (s .args .t4) (f .2) (f .3) (s .args .t1) (f .1) (s .args .entry) (s .pre .1) (l .weights) (l .i) (l .inv .1) (omega arith)
+returns c =
+    let l = c .before .loop in
+    let s = c .before .before in
+    let f = few s in
+    worst-done (s .args .n) (f .0) (s .args .t3) (s .args .t4) (f .2) (f .3) (s .args .t1) (f .1) (s .args .entry) (s .pre .1) (l .weights) (l .i) (l .inv .1) (omega arith)
 
 pub worst-spec : {M : Type 1} → statement M
 worst-spec =
@@ -36,4 +47,5 @@ worst-spec =
     (tie.spec Inv-loop μ-loop loop-holds (λ c. let f = few (c .before .before) in omega arith) (λ c. let f = few (c .before .before) in omega arith)
     (λ c. let f = few (c .before .before) in omega arith) (λ c. let f = few (c .before .before) in omega arith)
     (λ c. let f = few (c .before .before) in omega arith) (λ c. let f = few (c .before .before) in omega arith)
-    (λ c κs. search needs) (λ c. let f = few (c .before .before .before) in omega arith) (λ c. let f = few (c .before .before .before) in omega arith) (λ c. search needs) (λ c. search needs) loop-again returns)
+    (λ c κs. search needs) (λ c. let f = few (c .before .before .before) in omega arith)
+    (λ c. let f = few (c .before .before .before) in omega arith) (λ c. search needs) (λ c. search needs) loop-again returns)

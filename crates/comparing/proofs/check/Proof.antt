@@ -42,7 +42,9 @@ returns : tie.Need-returns
 returns c = let s = c .before .before .before .before .before in by-none _ _ _ _ _ 16 _ (c .refused .ensures) (early .0) (past _ _ _ _ (omega (arith, own-long s)))
 
 returns-2 : tie.Need-returns-2
-returns-2 c = let s = c .before .before .before .before .before .before .before in by-none _ _ _ _ _ 17 _ (c .refused2 .ensures) (early .1) (inside _ _ _ _ (omega (arith, own-long s)) (omega (arith, their-long s)))
+returns-2 c =
+    let s = c .before .before .before .before .before .before .before in
+    by-none _ _ _ _ _ 17 _ (c .refused2 .ensures) (early .1) (inside _ _ _ _ (omega (arith, own-long s)) (omega (arith, their-long s)))
 
 -- the parts of both logs that are lent, from the places a and b on
 parts : (log rest : List ℕ) (held k a b : ℕ) → b ≤ k
@@ -102,5 +104,6 @@ returns-4 c =
 pub check-spec : {M : Type 1} → statement M
 check-spec =
     tie.close
-    (tie.spec (λ c κs. search needs) (λ c κs. search needs) returns (λ c κs. search needs) (λ c κs. search needs) returns-2 (λ c. search needs) (λ c. search needs) (λ c. search needs) (λ c. search needs)
+    (tie.spec (λ c κs. search needs) (λ c κs. search needs) returns (λ c κs. search needs) (λ c κs. search needs)
+    returns-2 (λ c. search needs) (λ c. search needs) (λ c. search needs) (λ c. search needs)
     (λ c. search needs) (λ c. search needs) (λ c. search needs) (λ c. search needs) (λ c κs. search needs) returns-3 returns-4)

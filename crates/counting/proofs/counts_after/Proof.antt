@@ -46,7 +46,10 @@ loop-again c =
     (search needs, counts-next (a .start) (a .words .now) (l .cells) (l .k) (eight s) (l .inv .1) (omega arith) _ (has s (l .k) (omega arith)))
 
 returns : tie.Need-returns Inv-loop μ-loop
-returns c = let l = c .before .loop in let s = c .before .before in counts-done (s .before .before .args .start) (s .before .before .args .words .now) (l .cells) (l .k) (eight s) (l .inv .1) (omega arith)
+returns c =
+    let l = c .before .loop in
+    let s = c .before .before in
+    counts-done (s .before .before .args .start) (s .before .before .args .words .now) (l .cells) (l .k) (eight s) (l .inv .1) (omega arith)
 
 pub counts-after-spec : {M : Type 1} → statement M
 counts-after-spec =

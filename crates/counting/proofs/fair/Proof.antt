@@ -58,6 +58,7 @@ returns-2 c =
 pub fair-spec : {M : Type 1} → statement M
 fair-spec =
     tie.close
-    (tie.spec Inv-loop μ-loop (λ c. search needs) returns (λ c. omega (arith, part-most (c .before .args .n))) (λ c. omega (arith, part-most (c .before .args .n))) (λ c. omega (arith, c .before .pre .1 .1 .0))
+    (tie.spec Inv-loop μ-loop (λ c. search needs) returns (λ c. omega (arith, part-most (c .before .args .n)))
+    (λ c. omega (arith, part-most (c .before .args .n))) (λ c. omega (arith, c .before .pre .1 .1 .0))
     (λ c. omega (arith, part-most (c .before .args .n))) loop-holds (λ c. search needs) (λ c. search needs) (λ c κs. search needs) (λ c. search needs) office add-counts
     (λ c. search needs) (λ c. search needs) loop-again (λ c κs. search needs) returns-2)

@@ -35,11 +35,17 @@ add-next c =
 loop-again : tie.Need-loop-again Inv-loop μ-loop
 loop-again c =
     let l = c .before .before .loop in
-    let s = start c in
-    (search needs, counts-next (s .args .counts) (s .args .word ∷ []) (l .next) (l .k) (eight s) (l .inv .1) (omega arith) (c .one-of .result) (c .one-of .ensures .0 ∙ one-entry (l .k) (s .args .word)))
+    let s = start c in (
+      search needs,
+      counts-next (s .args .counts) (s .args .word ∷ []) (l .next) (l .k) (eight s) (l .inv .1)
+          (omega arith) (c .one-of .result) (c .one-of .ensures .0 ∙ one-entry (l .k) (s .args .word)),
+    )
 
 returns : tie.Need-returns Inv-loop μ-loop
-returns c = let l = c .before .loop in let s = c .before .before in counts-done (s .args .counts) (s .args .word ∷ []) (l .next) (l .k) (eight s) (l .inv .1) (omega arith) ∙ after-one (s .args .counts) (s .args .word)
+returns c =
+    let l = c .before .loop in
+    let s = c .before .before in
+    counts-done (s .args .counts) (s .args .word ∷ []) (l .next) (l .k) (eight s) (l .inv .1) (omega arith) ∙ after-one (s .args .counts) (s .args .word)
 
 pub one-more-spec : {M : Type 1} → statement M
 one-more-spec =

@@ -25,7 +25,8 @@ returns c =
     let a = s .args in
     let f = full s in
     let t = four-none (32 - a .a .len) (32 - a .b .len) (32 - a .c .len) (32 - a .d .len) (c .if1 .taken) in
-    four-tests unusedZero _ _ _ _ true true true true (unused-none _ (f .0) (t .0)) (unused-none _ (f .1 .0) (t .1 .0)) (unused-none _ (f .1 .1 .0) (t .1 .1 .0)) (unused-none _ (f .1 .1 .1) (t .1 .1 .1))
+    four-tests unusedZero _ _ _ _ true true true true (unused-none _ (f .0) (t .0)) (unused-none _ (f .1 .0) (t .1 .0))
+    (unused-none _ (f .1 .1 .0) (t .1 .1 .0)) (unused-none _ (f .1 .1 .1) (t .1 .1 .1))
 
 -- the masks are those that the walk asks for
 masks-are : (s : tie.Start Inv-loop μ-loop) → s .args .masks .now ≡ maskWords
@@ -67,15 +68,29 @@ returns-2 c =
 
 loop-holds : tie.Need-loop-holds Inv-loop μ-loop
 loop-holds c =
-    let a = c .before .before .before .before .before .before .before .before .before .before .args in
-    (search needs, (unused-begins (a .a .cells) (32 - a .a .len), (unused-begins (a .b .cells) (32 - a .b .len), (unused-begins (a .c .cells) (32 - a .c .len), unused-begins (a .d .cells) (32 - a .d .len)))))
+    let a = c .before .before .before .before .before .before .before .before .before .before .args in (
+      search needs,
+      (
+        unused-begins (a .a .cells) (32 - a .a .len),
+        (unused-begins (a .b .cells) (32 - a .b .len), (unused-begins (a .c .cells) (32 - a .c .len), unused-begins (a .d .cells) (32 - a .d .len))),
+      ),
+    )
 
 pub four-unused-spec : {M : Type 1} → statement M
 four-unused-spec =
     tie.close
     (tie.spec Inv-loop μ-loop (λ c. omega arith) (λ c. omega arith) (λ c. omega arith) (λ c. omega arith) returns loop-holds
-    (λ c. omega arith) (λ c. omega arith) (λ c. omega arith) (λ c. omega arith) (λ c. omega (arith, long (c .before .before .before .before .before .before .before .before .before .before .before .before .before))) (λ c κs. search needs)
-    (λ c. omega arith) (λ c. omega arith) (λ c. omega arith) (λ c. omega arith) (λ c. omega (arith, long (c .before .before .before .before .before .before .before .before .before .before .before .before .before .before .before))) (λ c κs. search needs)
-    (λ c. omega arith) (λ c. omega arith) (λ c. omega arith) (λ c. omega arith) (λ c. omega (arith, long (c .before .before .before .before .before .before .before .before .before .before .before .before .before .before .before .before .before))) (λ c κs. search needs)
-    (λ c. omega arith) (λ c. omega arith) (λ c. omega arith) (λ c. omega arith) (λ c. omega (arith, long (c .before .before .before .before .before .before .before .before .before .before .before .before .before .before .before .before .before .before .before))) (λ c κs. search needs)
+    (λ c. omega arith) (λ c. omega arith) (λ c. omega arith) (λ c. omega arith)
+    (λ c. omega (arith, long (c .before .before .before .before .before .before .before .before .before .before .before .before .before))) (λ c κs. search needs)
+    (λ c. omega arith) (λ c. omega arith) (λ c. omega arith) (λ c. omega arith)
+    (λ c. omega (arith, long (c .before .before .before .before .before .before .before .before .before .before .before .before .before .before .before))) (λ c κs. search needs)
+    (λ c. omega arith) (λ c. omega arith) (λ c. omega arith) (λ c. omega arith)
+    (λ c. omega (arith, long (c .before .before .before .before .before .before .before .before .before .before .before .before .before .before .before .before .before)))
+    (λ c κs. search needs)
+    (λ c. omega arith) (λ c. omega arith) (λ c. omega arith) (λ c. omega arith)
+    (λ c. omega (
+      arith,
+      long (c .before .before .before .before .before .before .before .before .before .before .before .before .before .before .before .before .before .before .before),
+    ))
+    (λ c κs. search needs)
     (λ c. omega arith) (λ c. omega arith) loop-again returns-2)

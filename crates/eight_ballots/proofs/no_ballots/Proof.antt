@@ -24,7 +24,10 @@ unfolding both
 loop-holds c = (search needs, refl)
 
 loop-again : tie.Need-loop-again Inv-loop μ-loop
-loop-again c = let l = c .before .before .before .loop in let s = c .before .before .before .before in (search needs, with-next emptyBallot offEnd (s .args .t1) (l .none) (l .i) (l .inv .1) (omega (arith, eight s)) _ (c .is-none .ensures))
+loop-again c =
+    let l = c .before .before .before .loop in
+    let s = c .before .before .before .before in
+    (search needs, with-next emptyBallot offEnd (s .args .t1) (l .none) (l .i) (l .inv .1) (omega (arith, eight s)) _ (c .is-none .ensures))
 
 returns : tie.Need-returns Inv-loop μ-loop
 returns c = let l = c .before .loop in let s = c .before .before in with-done emptyBallot offEnd (s .args .t1) (l .none) (l .i) (l .inv .1) (omega (arith, eight s))

@@ -21,7 +21,11 @@ unfolding both
 loop-holds c = (search needs, refl)
 
 loop-again : tie.Need-loop-again Inv-loop μ-loop
-loop-again c = let l = c .before .loop in let a = c .before .before .args in let h : length (a .t1) ≡ 32 = search needs in (search needs, with-next (eqb 0) 0 (a .t1) (l .good) (l .i) (l .inv .1) (omega arith) _ refl)
+loop-again c =
+    let l = c .before .loop in
+    let a = c .before .before .args in
+    let h : length (a .t1) ≡ 32 = search needs in
+    (search needs, with-next (eqb 0) 0 (a .t1) (l .good) (l .i) (l .inv .1) (omega arith) _ refl)
 
 returns : tie.Need-returns Inv-loop μ-loop
 returns c = let l = c .before .loop in let a = c .before .before .args in let h : length (a .t1) ≡ 32 = search needs in with-done (eqb 0) 0 (a .t1) (l .good) (l .i) (l .inv .1) (omega arith)

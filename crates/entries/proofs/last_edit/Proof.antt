@@ -33,8 +33,12 @@ loop-again : tie.Need-loop-again Inv-loop μ-loop Inv-loop2 μ-loop2
 loop-again c =
     let l = c .before .before .before .before .before .before .before .before .before .before .loop in
     let a = c .before .before .before .before .before .before .before .before .before .before .before .before .args in
-    let words = a .words .now in
-    (search needs, l .inv .1 ∙ four-past (a .line) (ofCell (a .before)) words (l .end) (omega arith) (omega arith) _ _ _ _ (c .before .before .before .before .before .before .before .is-for .ensures) (c .before .before .before .before .before .is-for2 .ensures) (c .before .before .before .is-for3 .ensures) (c .before .is-for4 .ensures) (c .if1 .left))
+    let words = a .words .now in (
+      search needs,
+      l .inv .1 ∙ four-past (a .line) (ofCell (a .before)) words (l .end) (omega arith) (omega arith) _ _ _ _
+          (c .before .before .before .before .before .before .before .is-for .ensures) (c .before .before .before .before .before .is-for2 .ensures)
+          (c .before .before .before .is-for3 .ensures) (c .before .is-for4 .ensures) (c .if1 .left),
+    )
 
 returns : tie.Need-returns Inv-loop μ-loop Inv-loop2 μ-loop2
 returns c =

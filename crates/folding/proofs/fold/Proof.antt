@@ -49,5 +49,6 @@ returns-2 c =
 pub fold-spec : {M : Type 1} → statement M
 fold-spec =
     tie.close
-    (tie.spec (λ c κs. search needs) (λ c. search needs) returns (λ c. omega (arith, sounds (c .before .before .before .before) .within)) (λ c κs. sounds (c .before .before .before .before) .head .most) drop-first-requires (λ c. search needs)
+    (tie.spec (λ c κs. search needs) (λ c. search needs) returns (λ c. omega (arith, sounds (c .before .before .before .before) .within))
+    (λ c κs. sounds (c .before .before .before .before) .head .most) drop-first-requires (λ c. search needs)
     returns-2)

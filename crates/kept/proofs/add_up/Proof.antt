@@ -24,7 +24,10 @@ returns : tie.Need-returns Inv-loop μ-loop
 returns c = let l = c .before .before .loop in let s = c .before .before .before in left-short (s .args .dropped) (s .args .t1) (l .left) (l .i) (l .inv .1) (omega (arith, eight s)) (omega arith)
 
 loop-again : tie.Need-loop-again Inv-loop μ-loop
-loop-again c = let l = c .before .before .loop in let s = c .before .before .before in (omega arith, left-next (s .args .dropped) (s .args .t1) (l .left) (l .i) (l .inv .1) (omega (arith, eight s)) _ (omega arith))
+loop-again c =
+    let l = c .before .before .loop in
+    let s = c .before .before .before in
+    (omega arith, left-next (s .args .dropped) (s .args .t1) (l .left) (l .i) (l .inv .1) (omega (arith, eight s)) _ (omega arith))
 
 returns-2 : tie.Need-returns-2 Inv-loop μ-loop
 returns-2 c = let l = c .before .loop in let s = c .before .before in left-end (s .args .dropped) (s .args .t1) (l .left) (l .i) (l .inv .1) (omega (arith, eight s))

@@ -43,13 +43,19 @@ abbrev from-weights : tie.After-zero-from → tie.After-no-counts-from
 from-weights c = c .before .before
 
 returns : tie.Need-returns
-returns c = let s = from-sum (c .before) in kept-not (s .args .n) (s .args .founding) (s .args .kept) (λ F. true≢false (sym (eq-eqb _ _ (F .add-up)) ∙ sym (c .before .add-up .ensures) ∙ not-true _ (c .if1 .taken)))
+returns c =
+    let s = from-sum (c .before) in
+    kept-not (s .args .n) (s .args .founding) (s .args .kept) (λ F. true≢false (sym (eq-eqb _ _ (F .add-up)) ∙ sym (c .before .add-up .ensures) ∙ not-true _ (c .if1 .taken)))
 
 returns-2 : tie.Need-returns-2
-returns-2 c = let s = from-sum (from-counts (c .before)) in kept-not (s .args .n) (s .args .founding) (s .args .kept) (λ F. true≢false (sym (F .rest-counts) ∙ sym (c .before .no-counts-from .ensures) ∙ not-true _ (c .if2 .taken)))
+returns-2 c =
+    let s = from-sum (from-counts (c .before)) in
+    kept-not (s .args .n) (s .args .founding) (s .args .kept) (λ F. true≢false (sym (F .rest-counts) ∙ sym (c .before .no-counts-from .ensures) ∙ not-true _ (c .if2 .taken)))
 
 returns-3 : tie.Need-returns-3
-returns-3 c = let s = from-sum (from-counts (from-weights (c .before))) in kept-not (s .args .n) (s .args .founding) (s .args .kept) (λ F. true≢false (sym (F .rest) ∙ sym (c .before .zero-from .ensures) ∙ not-true _ (c .if3 .taken)))
+returns-3 c =
+    let s = from-sum (from-counts (from-weights (c .before))) in
+    kept-not (s .args .n) (s .args .founding) (s .args .kept) (λ F. true≢false (sym (F .rest) ∙ sym (c .before .zero-from .ensures) ∙ not-true _ (c .if3 .taken)))
 
 -- what is left to test where these three found nothing
 abbrev from-three : tie.Else3 → tie.Start
@@ -88,5 +94,6 @@ returns-6 c =
 pub fine-spec : {M : Type 1} → statement M
 fine-spec =
     tie.close
-    (tie.spec (λ c κs. search needs) returns (λ c κs. search needs) returns-2 (λ c κs. search needs) returns-3 (λ c κs. search needs) (λ c κs. search needs) returns-4 (λ c κs. search needs) (λ c κs. search needs)
+    (tie.spec (λ c κs. search needs) returns (λ c κs. search needs) returns-2 (λ c κs. search needs) returns-3
+    (λ c κs. search needs) (λ c κs. search needs) returns-4 (λ c κs. search needs) (λ c κs. search needs)
     returns-5 (λ c κs. search needs) returns-6)

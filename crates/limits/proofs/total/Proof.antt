@@ -24,7 +24,12 @@ add-sum : tie.Need-add-sum Inv-loop μ-loop
 add-sum c = let f : Fits w16 (getD (c .before .before .args .t1) (c .before .loop .i) 0) = search needs in omega arith
 
 loop-again : tie.Need-loop-again Inv-loop μ-loop
-loop-again c = let l = c .before .loop in let a = c .before .before .args in let f : Fits w16 (getD (a .t1) (l .i) 0) = search needs in let h : length (a .t1) ≡ 8 = search needs in (omega arith, omega arith, omega (arith, sum-next (a .t1) (l .i) (omega arith)))
+loop-again c =
+    let l = c .before .loop in
+    let a = c .before .before .args in
+    let f : Fits w16 (getD (a .t1) (l .i) 0) = search needs in
+    let h : length (a .t1) ≡ 8 = search needs in
+    (omega arith, omega arith, omega (arith, sum-next (a .t1) (l .i) (omega arith)))
 
 returns : tie.Need-returns Inv-loop μ-loop
 returns c = let l = c .before .loop in let a = c .before .before .args in let h : length (a .t1) ≡ 8 = search needs in omega (arith, sum-done (a .t1) (l .i) (omega arith))

@@ -21,10 +21,18 @@ loop-holds : tie.Need-loop-holds Inv-loop μ-loop
 loop-holds c = refl
 
 returns : tie.Need-returns Inv-loop μ-loop
-returns c = let l = c .before .before .loop in let a = c .before .before .before .args in let h : length (a .t1) ≡ 8 = search needs in all-stop (eqb 0) 0 (a .t1) (l .i) (l .inv) (omega arith) (ne-eqb 0 _ (λ e. c .if1 .taken (sym e)))
+returns c =
+    let l = c .before .before .loop in
+    let a = c .before .before .before .args in
+    let h : length (a .t1) ≡ 8 = search needs in
+    all-stop (eqb 0) 0 (a .t1) (l .i) (l .inv) (omega arith) (ne-eqb 0 _ (λ e. c .if1 .taken (sym e)))
 
 loop-again : tie.Need-loop-again Inv-loop μ-loop
-loop-again c = let l = c .before .before .loop in let a = c .before .before .before .args in let h : length (a .t1) ≡ 8 = search needs in all-next (eqb 0) 0 (a .t1) (l .i) (l .inv) (omega arith) (eq-eqb 0 _ (sym (c .if1 .left)))
+loop-again c =
+    let l = c .before .before .loop in
+    let a = c .before .before .before .args in
+    let h : length (a .t1) ≡ 8 = search needs in
+    all-next (eqb 0) 0 (a .t1) (l .i) (l .inv) (omega arith) (eq-eqb 0 _ (sym (c .if1 .left)))
 
 returns-2 : tie.Need-returns-2 Inv-loop μ-loop
 returns-2 c = let l = c .before .loop in let a = c .before .before .args in let h : length (a .t1) ≡ 8 = search needs in all-done (eqb 0) 0 (a .t1) (l .i) (l .inv) (omega arith)

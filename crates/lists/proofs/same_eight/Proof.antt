@@ -22,10 +22,18 @@ loop-holds : tie.Need-loop-holds Inv-loop μ-loop
 loop-holds c = (search needs, refl)
 
 returns : tie.Need-returns Inv-loop μ-loop
-returns c = let l = c .before .before .loop in let a = c .before .before .before .args in let h = eight (c .before .before .before) in sym (l .inv .1 ∙ same-stop (a .t1) (a .t2) (l .i) (omega arith) (omega arith) (c .if1 .taken))
+returns c =
+    let l = c .before .before .loop in
+    let a = c .before .before .before .args in
+    let h = eight (c .before .before .before) in
+    sym (l .inv .1 ∙ same-stop (a .t1) (a .t2) (l .i) (omega arith) (omega arith) (c .if1 .taken))
 
 loop-again : tie.Need-loop-again Inv-loop μ-loop
-loop-again c = let l = c .before .before .loop in let a = c .before .before .before .args in let h = eight (c .before .before .before) in (search needs, l .inv .1 ∙ same-next (a .t1) (a .t2) (l .i) (omega arith) (omega arith) (c .if1 .left))
+loop-again c =
+    let l = c .before .before .loop in
+    let a = c .before .before .before .args in
+    let h = eight (c .before .before .before) in
+    (search needs, l .inv .1 ∙ same-next (a .t1) (a .t2) (l .i) (omega arith) (omega arith) (c .if1 .left))
 
 returns-2 : tie.Need-returns-2 Inv-loop μ-loop
 returns-2 c = let l = c .before .loop in let a = c .before .before .args in let h = eight (c .before .before) in sym (l .inv .1 ∙ same-done (a .t1) (a .t2) (l .i) (omega arith) (omega arith))

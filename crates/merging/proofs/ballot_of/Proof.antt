@@ -24,10 +24,21 @@ array-write-cells : tie.Need-array-write-cells Inv-loop μ-loop
 array-write-cells c = omega (arith, c .before .before .before .pre)
 
 loop-again : tie.Need-loop-again Inv-loop μ-loop
-loop-again c = let l = c .before .before .loop in let a = c .before .before .before .args in let p = c .before .before .before .pre in (search needs, ap (λ (d : List ℕ). set d (l .i) (getD (a .words .now) (l .i) 0)) (l .inv .1) ∙ front-step 0 (a .words .now) (replicate 32 0) (l .i) (omega arith) (omega arith))
+loop-again c =
+    let l = c .before .before .loop in
+    let a = c .before .before .before .args in
+    let p = c .before .before .before .pre in
+    (search needs, ap (λ (d : List ℕ). set d (l .i) (getD (a .words .now) (l .i) 0)) (l .inv .1) ∙ front-step 0 (a .words .now) (replicate 32 0) (l .i) (omega arith) (omega arith))
 
 returns : tie.Need-returns Inv-loop μ-loop
-returns c = let l = c .before .loop in let ws = c .before .before .args .words .now in let e : l .i ≡ length ws = omega arith in λ j. record { len = length ws; cells = (l .inv .1 ∙ ap (filled ws (replicate 32 0)) e ∙ ap₂ (λ (x y : List ℕ). x ++ y) (take-all (length ws) ws (omega arith)) (zeros-behind (length ws))) j }
+returns c =
+    let l = c .before .loop in
+    let ws = c .before .before .args .words .now in
+    let e : l .i ≡ length ws = omega arith in
+    λ j. record {
+      len = length ws;
+      cells = (l .inv .1 ∙ ap (filled ws (replicate 32 0)) e ∙ ap₂ (λ (x y : List ℕ). x ++ y) (take-all (length ws) ws (omega arith)) (zeros-behind (length ws))) j;
+    }
 
 pub ballot-of-spec : {M : Type 1} → statement M
 ballot-of-spec =

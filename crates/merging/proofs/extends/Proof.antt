@@ -26,10 +26,16 @@ loop-holds : tie.Need-loop-holds Inv-loop μ-loop
 loop-holds c = (search needs, search needs, refl)
 
 returns-2 : tie.Need-returns-2 Inv-loop μ-loop
-returns-2 c = let l = c .before .before .before .before .loop in let a = start (c .before .before .before .before) .args in sym (l .inv .2 ∙ extends-stop (a .tail .now) (a .words .now) (l .i) (l .inv .1) (omega arith) (c .if2 .taken))
+returns-2 c =
+    let l = c .before .before .before .before .loop in
+    let a = start (c .before .before .before .before) .args in
+    sym (l .inv .2 ∙ extends-stop (a .tail .now) (a .words .now) (l .i) (l .inv .1) (omega arith) (c .if2 .taken))
 
 loop-again : tie.Need-loop-again Inv-loop μ-loop
-loop-again c = let l = c .before .before .before .before .loop in let a = start (c .before .before .before .before) .args in (search needs, l .inv .1, l .inv .2 ∙ extends-next (a .tail .now) (a .words .now) (l .i) (l .inv .1) (omega arith) (c .if2 .left))
+loop-again c =
+    let l = c .before .before .before .before .loop in
+    let a = start (c .before .before .before .before) .args in
+    (search needs, l .inv .1, l .inv .2 ∙ extends-next (a .tail .now) (a .words .now) (l .i) (l .inv .1) (omega arith) (c .if2 .left))
 
 returns-3 : tie.Need-returns-3 Inv-loop μ-loop
 returns-3 c = let l = c .before .loop in let a = start (c .before) .args in sym (l .inv .2 ∙ extends-done (a .tail .now) (a .words .now) (l .i) (l .inv .1) (omega arith))

@@ -16,7 +16,11 @@ returns : tie.Need-returns
 returns c = let a = c .before .before .args in offer-short (a .words .now) (a .b) (a .offer) (omega (arith, tail-most (a .offer)))
 
 returns-2 : tie.Need-returns-2
-returns-2 c = let a = start (c .before) .args in let hb : length (a .b .cells) ≡ 32 = search needs in let hq : length (a .offer .cells) ≡ 32 = search needs in offer-short (a .words .now) (a .b) (a .offer) (simp length-take (omega arith))
+returns-2 c =
+    let a = start (c .before) .args in
+    let hb : length (a .b .cells) ≡ 32 = search needs in
+    let hq : length (a .offer .cells) ≡ 32 = search needs in
+    offer-short (a .words .now) (a .b) (a .offer) (simp length-take (omega arith))
 
 returns-3 : tie.Need-returns-3
 returns-3 c = let a = start (c .before .before .before) .args in c .adopted-ballot .ensures ∙ ap (adoptedBallot (a .b)) (c .before .past-ballot .ensures)

@@ -38,7 +38,8 @@ fine-requires c κs = (omega arith, (omega arith, omega arith))
 returns-8 : tie.Need-returns-8
 returns-8 c =
     let e = weighed c in
-    follows-last _ _ _ (c .fine .ensures) (omega arith) (omega arith) (same-true _ _ (sym (e .before .same-eight .ensures) ∙ not-false _ (e .if3 .left))) (omega arith) (omega arith) (omega arith) (omega arith)
+    follows-last _ _ _ (c .fine .ensures) (omega arith) (omega arith)
+    (same-true _ _ (sym (e .before .same-eight .ensures) ∙ not-false _ (e .if3 .left))) (omega arith) (omega arith) (omega arith) (omega arith)
 
 pub follows-spec : {M : Type 1} → statement M
 follows-spec = tie.close (tie.spec returns returns-2 (λ c κs. search needs) returns-3 returns-4 returns-5 returns-6 returns-7 fine-requires returns-8)

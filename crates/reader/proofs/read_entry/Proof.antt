@@ -12,4 +12,5 @@ use Rattle.reader.proofs.read_entry.Code as code
 pub read-entry-spec : {M : Type 1} → stated.statement M
 unfolding code.routine
 read-entry-spec 𝓤 H 𝓜 𝓖 𝓡 =
-    over-slice 𝓤 H 𝓜 𝓖 𝓡 0 S.the-type S′.the-laws (λ _ _ at s. entryAt s at) code.env name _ _ code.calls-reader·entry code.calls-reader·reader-at (code.unfolded 𝓤 H 𝓜 𝓡) (makes₀ 𝓤 H) (callee.met 𝓤 H 𝓜 𝓖 𝓡)
+    over-slice 𝓤 H 𝓜 𝓖 𝓡 0 S.the-type S′.the-laws (λ _ _ at s. entryAt s at) code.env name _ _
+    code.calls-reader·entry code.calls-reader·reader-at (code.unfolded 𝓤 H 𝓜 𝓡) (makes₀ 𝓤 H) (callee.met 𝓤 H 𝓜 𝓖 𝓡)

@@ -30,12 +30,16 @@ returns c =
 returns-2 : tie.Need-returns-2 Inv-loop μ-loop
 returns-2 c =
     let x = c .before .before .before in
-    log-refused _ _ _ _ _ _ (x .before .loop-test .taken) (x .read-log .ensures) (not-false _ (c .before .before .if1 .left)) (sym (c .before .is-entry .ensures) ∙ not-true _ (c .if2 .taken)) ∙ turn x .loop .inv .1
+    log-refused _ _ _ _ _ _ (x .before .loop-test .taken) (x .read-log .ensures) (not-false _ (c .before .before .if1 .left))
+    (sym (c .before .is-entry .ensures) ∙ not-true _ (c .if2 .taken)) ∙ turn x .loop .inv .1
 
 loop-again : tie.Need-loop-again Inv-loop μ-loop
 loop-again c =
-    let x = c .before .before .before in
-    (omega arith, log-turn _ _ _ _ _ _ (x .before .loop-test .taken) (x .read-log .ensures) (not-false _ (c .before .before .if1 .left)) (sym (c .before .is-entry .ensures) ∙ not-false _ (c .if2 .left)) ∙ turn x .loop .inv .1)
+    let x = c .before .before .before in (
+      omega arith,
+      log-turn _ _ _ _ _ _ (x .before .loop-test .taken) (x .read-log .ensures) (not-false _ (c .before .before .if1 .left))
+          (sym (c .before .is-entry .ensures) ∙ not-false _ (c .if2 .left)) ∙ turn x .loop .inv .1,
+    )
 
 returns-3 : tie.Need-returns-3 Inv-loop μ-loop
 returns-3 c = log-ends _ _ (c .before .loop .at) _ _ (c .loop-test .left) ∙ c .before .loop .inv .1

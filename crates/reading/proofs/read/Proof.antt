@@ -19,7 +19,24 @@ use Rattle.spelling.specs.Reading.{ballotsOk, droppedAt, tailsAt}
 use Rattle.reading.specs.Read.{ballotsOf, headSaid, headWithin}
 use Rattle.reading.specs.declared.Reading.{Reading}
 use Rattle.reading.proofs.Ballots.{Left, again, all-stored, begins-left, decides, fails, skipped}
-use Rattle.reading.proofs.Whole.{Parts, Within, fine-shapes, head-passed, no-ballots, no-head, no-lengths, no-log, no-tails, read-all, rest-at, said-beside, settled-fits, stored-fine, stored-tails, within-facts}
+use Rattle.reading.proofs.Whole.{
+  Parts,
+  Within,
+  fine-shapes,
+  head-passed,
+  no-ballots,
+  no-head,
+  no-lengths,
+  no-log,
+  no-tails,
+  read-all,
+  rest-at,
+  said-beside,
+  settled-fits,
+  stored-fine,
+  stored-tails,
+  within-facts,
+}
 use Rattle.reading.proofs.read.Statement.{statement}
 use Rattle.reading.proofs.read.Tie as tie
 

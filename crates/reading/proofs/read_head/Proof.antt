@@ -47,7 +47,8 @@ returns-2 c =
     let w = h .before in
     let b = w .before .before .before in
     let n = counted (sized b) in
-    head-made (message (passed n)) _ _ _ _ _ _ _ (within (passed n)) (w .before .wide2 .ensures .0) (n .wide .ensures .0) (w .weights-at .ensures) (dropped (sized b)) (settled b) (h .head-size .ensures) (c .none .ensures)
+    head-made (message (passed n)) _ _ _ _ _ _ _ (within (passed n)) (w .before .wide2 .ensures .0) (n .wide .ensures .0)
+    (w .weights-at .ensures) (dropped (sized b)) (settled b) (h .head-size .ensures) (c .none .ensures)
 
 pub read-head-spec : {M : Type 1} → statement M
 read-head-spec =

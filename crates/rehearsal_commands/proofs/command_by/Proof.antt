@@ -17,15 +17,35 @@ returns-2 c = let a = c .before .before .before .args in c .with-one .ensures �
 
 returns-3 : tie.Need-returns-3
 unfolding commandBy pick
-returns-3 c = let a = c .before .before .before .before .args in c .with-two .ensures ∙ rw (ne-eqb (a .letter) 102 (c .before .before .before .if1 .left), ne-eqb (a .count) 0 (c .before .before .if2 .left), eq-eqb (a .count) 1 (c .before .if3 .taken))
+returns-3 c =
+    let a = c .before .before .before .before .args in
+    c .with-two .ensures ∙ rw (
+      ne-eqb (a .letter) 102 (c .before .before .before .if1 .left),
+      ne-eqb (a .count) 0 (c .before .before .if2 .left),
+      eq-eqb (a .count) 1 (c .before .if3 .taken),
+    )
 
 returns-4 : tie.Need-returns-4
 unfolding commandBy pick
-returns-4 c = let a = c .before .before .before .before .before .args in c .with-three .ensures ∙ rw (ne-eqb (a .letter) 102 (c .before .before .before .before .if1 .left), ne-eqb (a .count) 0 (c .before .before .before .if2 .left), ne-eqb (a .count) 1 (c .before .before .if3 .left), eq-eqb (a .count) 2 (c .before .if4 .taken))
+returns-4 c =
+    let a = c .before .before .before .before .before .args in
+    c .with-three .ensures ∙ rw (
+      ne-eqb (a .letter) 102 (c .before .before .before .before .if1 .left),
+      ne-eqb (a .count) 0 (c .before .before .before .if2 .left),
+      ne-eqb (a .count) 1 (c .before .before .if3 .left),
+      eq-eqb (a .count) 2 (c .before .if4 .taken),
+    )
 
 returns-5 : tie.Need-returns-5
 unfolding commandBy pick
-returns-5 c = let a = c .before .before .before .before .args in rw (ne-eqb (a .letter) 102 (c .before .before .before .if1 .left), ne-eqb (a .count) 0 (c .before .before .if2 .left), ne-eqb (a .count) 1 (c .before .if3 .left), ne-eqb (a .count) 2 (c .if4 .left))
+returns-5 c =
+    let a = c .before .before .before .before .args in
+    rw (
+      ne-eqb (a .letter) 102 (c .before .before .before .if1 .left),
+      ne-eqb (a .count) 0 (c .before .before .if2 .left),
+      ne-eqb (a .count) 1 (c .before .if3 .left),
+      ne-eqb (a .count) 2 (c .if4 .left),
+    )
 
 pub command-by-spec : {M : Type 1} → statement M
 command-by-spec =

@@ -19,11 +19,15 @@ returns-2 c = let s = c .before .before .before .before .args .bytes .now in c .
 
 returns-3 : tie.Need-returns-3
 unfolding lineOf pick
-returns-3 c = let s = c .before .before .before .before .before .before .args .bytes .now in c .no-line3 .ensures ∙ rw (le-ltb 128 (length s) (omega arith), le-ltb (length s) 2 (omega arith), ne-eqb (getD s 1 0) 32 (c .before .if3 .taken))
+returns-3 c =
+    let s = c .before .before .before .before .before .before .args .bytes .now in
+    c .no-line3 .ensures ∙ rw (le-ltb 128 (length s) (omega arith), le-ltb (length s) 2 (omega arith), ne-eqb (getD s 1 0) 32 (c .before .if3 .taken))
 
 returns-4 : tie.Need-returns-4
 unfolding lineOf pick
-returns-4 c = let s = c .before .before .before .before .before .before .before .args .bytes .now in c .line-from .ensures ∙ rw (le-ltb 128 (length s) (omega arith), le-ltb (length s) 2 (omega arith), eq-eqb (getD s 1 0) 32 (c .before .before .if3 .left))
+returns-4 c =
+    let s = c .before .before .before .before .before .before .before .args .bytes .now in
+    c .line-from .ensures ∙ rw (le-ltb 128 (length s) (omega arith), le-ltb (length s) 2 (omega arith), eq-eqb (getD s 1 0) 32 (c .before .before .if3 .left))
 
 pub line-of-spec : {M : Type 1} → statement M
 line-of-spec =

@@ -12,11 +12,21 @@ returns c = rw (eq-eqb (c .before .before .before .args .letter) 115 (c .before 
 
 returns-2 : tie.Need-returns-2
 unfolding withTwo pick
-returns-2 c = let x = c .before .before .before .before .args .letter in rw (ne-eqb x 115 (c .before .before .before .if1 .left), eq-eqb x 116 (c .before .before .if2 .taken), c .before .place3 .ensures, c .place4 .ensures)
+returns-2 c =
+    let x = c .before .before .before .before .args .letter in
+    rw (ne-eqb x 115 (c .before .before .before .if1 .left), eq-eqb x 116 (c .before .before .if2 .taken), c .before .place3 .ensures, c .place4 .ensures)
 
 returns-3 : tie.Need-returns-3
 unfolding withTwo pick
-returns-3 c = let x = c .before .before .before .before .before .args .letter in rw (ne-eqb x 115 (c .before .before .before .before .if1 .left), ne-eqb x 116 (c .before .before .before .if2 .left), eq-eqb x 118 (c .before .before .if3 .taken), c .before .place5 .ensures, c .wide .ensures)
+returns-3 c =
+    let x = c .before .before .before .before .before .args .letter in
+    rw (
+      ne-eqb x 115 (c .before .before .before .before .if1 .left),
+      ne-eqb x 116 (c .before .before .before .if2 .left),
+      eq-eqb x 118 (c .before .before .if3 .taken),
+      c .before .place5 .ensures,
+      c .wide .ensures,
+    )
 
 returns-4 : tie.Need-returns-4
 unfolding withTwo pick

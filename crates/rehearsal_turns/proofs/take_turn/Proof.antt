@@ -16,9 +16,13 @@ returns c =
     let size = c .before .before .before .before .before .before .before .within .result in
     let lent = from + size - from in
     let s : lent ≡ size = omega arith in
-    let e : take lent (drop from (a .slots .now)) ≡ messageIn (a .slots .now) (a .t2) (a .m) = message-lent (a .slots .now) (a .t2) (a .m) lent (c .before .before .before .before .before .before .before .before .before .before .pre .0) (c .before .before .before .before .before .before .before .before .before .before .pre .1) (s ∙ c .before .before .before .before .before .before .before .within .ensures) in (
-      taken-turn (a .record) (a .t2) (a .log .now) (c .says-one .result) (a .slots .now) (a .m) lent (c .before .before .before .before .take .result) e (c .before .before .before .before .take .ensures .0) (c .says-one .ensures),
-      taken-words (a .record) (a .t2) (a .log .now) (c .says-one .result) (a .slots .now) (a .m) lent (c .before .before .before .before .take .last .1 .0) e (c .before .before .before .before .take .ensures .1),
+    let e : take lent (drop from (a .slots .now)) ≡ messageIn (a .slots .now) (a .t2) (a .m) =
+    message-lent (a .slots .now) (a .t2) (a .m) lent (c .before .before .before .before .before .before .before .before .before .before .pre .0)
+    (c .before .before .before .before .before .before .before .before .before .before .pre .1) (s ∙ c .before .before .before .before .before .before .before .within .ensures) in (
+      taken-turn (a .record) (a .t2) (a .log .now) (c .says-one .result) (a .slots .now) (a .m) lent
+          (c .before .before .before .before .take .result) e (c .before .before .before .before .take .ensures .0) (c .says-one .ensures),
+      taken-words (a .record) (a .t2) (a .log .now) (c .says-one .result) (a .slots .now) (a .m) lent
+          (c .before .before .before .before .take .last .1 .0) e (c .before .before .before .before .take .ensures .1),
     )
 
 pub take-turn-spec : {M : Type 1} → statement M

@@ -25,11 +25,16 @@ returns-4 c = rw (c .before .before .before .command .given .1) (c .issue-turn .
 
 returns-5 : tie.Need-returns-5
 unfolding turnAt turnWords turnSlots pick
-returns-5 c = let m = c .before .before .before .before .before .command2 .given .0 .1 .0 in rw (c .before .before .before .before .before .command2 .given .1, lt-ltb m 4 (c .before .before .before .if1 .left)) (c .send-turn .ensures .0, (refl, c .send-turn .ensures .1))
+returns-5 c =
+    let m = c .before .before .before .before .before .command2 .given .0 .1 .0 in
+    rw (c .before .before .before .before .before .command2 .given .1, lt-ltb m 4 (c .before .before .before .if1 .left)) (c .send-turn .ensures .0, (refl, c .send-turn .ensures .1))
 
 returns-6 : tie.Need-returns-6
 unfolding turnAt turnWords turnSlots pick
-returns-6 c = let m = c .before .before .before .before .before .before .before .before .command3 .given .0 .1 .0 in rw (c .before .before .before .before .before .before .before .before .command3 .given .1, lt-ltb m 4 (c .before .before .before .before .before .before .if2 .left)) (c .before .before .take-turn .ensures .0, (c .before .before .take-turn .ensures .1, refl))
+returns-6 c =
+    let m = c .before .before .before .before .before .before .before .before .command3 .given .0 .1 .0 in
+    rw (c .before .before .before .before .before .before .before .before .command3 .given .1, lt-ltb m 4 (c .before .before .before .before .before .before .if2 .left))
+    (c .before .before .take-turn .ensures .0, (c .before .before .take-turn .ensures .1, refl))
 
 returns-7 : tie.Need-returns-7
 unfolding turnAt turnWords turnSlots

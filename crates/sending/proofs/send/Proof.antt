@@ -37,5 +37,6 @@ returns-3 c =
 pub send-spec : {M : Type 1} → statement M
 send-spec =
     tie.close
-    (tie.spec (λ c κs. search needs) returns (λ c. omega (arith, passed (c .before .before .before) .within)) (λ c κs. writable-with _ _ (passed (c .before .before .before .before)) _ refl) (λ c. search needs) returns-2 (λ c. search needs)
+    (tie.spec (λ c κs. search needs) returns (λ c. omega (arith, passed (c .before .before .before) .within))
+    (λ c κs. writable-with _ _ (passed (c .before .before .before .before)) _ refl) (λ c. search needs) returns-2 (λ c. search needs)
     returns-3)

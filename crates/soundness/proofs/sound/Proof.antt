@@ -29,7 +29,8 @@ returns c = sound-not _ _ _ _ _ _ _ _ _ (λ S. omega (arith, S .room))
 returns-2 : tie.Need-returns-2
 returns-2 c =
     sound-not _ _ _ _ _ _ _ _ _
-    (λ S. true≢false (sym (both-true _ _ (head-true _ _ _ (S .head)) (both-true _ _ (le-leb _ _ (S .within)) (noted-true _ _ _ _ (S .noted)))) ∙ sym (c .before .numbers-fine .ensures) ∙ not-true _ (c .if2 .taken)))
+    (λ S. true≢false (sym (both-true _ _ (head-true _ _ _ (S .head)) (both-true _ _ (le-leb _ _ (S .within)) (noted-true _ _ _ _ (S .noted))))
+    ∙ sym (c .before .numbers-fine .ensures) ∙ not-true _ (c .if2 .taken)))
 
 -- the places of the code: the call's start, and behind the tests of the numbers, of what is kept, of the words and of what they have done
 abbrev start : tie.Else2 → tie.Start

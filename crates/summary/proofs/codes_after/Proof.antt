@@ -23,8 +23,11 @@ loop-holds c = (search needs, refl)
 loop-again : tie.Need-loop-again Inv-loop μ-loop
 loop-again c =
     let l = c .before .before .before .before .loop in
-    let words = c .before .before .before .before .before .before .before .before .args .words .now in
-    (search needs, fold-next coded (c .before .before .before .before .before .widened .result) words (l .wide) (l .i) (l .inv .1) (search needs) _ (ap₂ (set (l .wide)) (c .line-of .ensures .0) (c .before .cell-of .ensures)))
+    let words = c .before .before .before .before .before .before .before .before .args .words .now in (
+      search needs,
+      fold-next coded (c .before .before .before .before .before .widened .result) words (l .wide) (l .i)
+          (l .inv .1) (search needs) _ (ap₂ (set (l .wide)) (c .line-of .ensures .0) (c .before .cell-of .ensures)),
+    )
 
 returns : tie.Need-returns Inv-loop μ-loop
 unfolding codesAfter
@@ -44,4 +47,5 @@ returns-2 c =
 
 pub codes-after-spec : {M : Type 1} → statement M
 codes-after-spec =
-    tie.close (tie.spec Inv-loop μ-loop returns (λ c κs. search needs) loop-holds (λ c. search needs) (λ c. search needs) (λ c κs. search needs) (λ c κs. search needs) (λ c. search needs) (λ c. search needs) (λ c. search needs) (λ c. search needs) loop-again (λ c κs. search needs) returns-2)
+    tie.close (tie.spec Inv-loop μ-loop returns (λ c κs. search needs) loop-holds (λ c. search needs) (λ c. search needs) (λ c κs. search needs)
+    (λ c κs. search needs) (λ c. search needs) (λ c. search needs) (λ c. search needs) (λ c. search needs) loop-again (λ c κs. search needs) returns-2)

@@ -26,11 +26,16 @@ loop-again : tie.Need-loop-again Inv-loop μ-loop
 loop-again c =
     let l = c .before .loop in
     let wide = c .before .before .args .t1 in
-    let here : l .i < 64 = omega arith in
-    (search needs, ap₂ (λ (s : List ℕ) (x : ℕ). set s (l .i) x) (l .inv .1) (sym (getD-take 64 wide (l .i) 0 here)) ∙ fill-step 0 (take 64 wide) (replicate 64 0) (front (c .before .before)) (l .i) here)
+    let here : l .i < 64 = omega arith in (
+      search needs,
+      ap₂ (λ (s : List ℕ) (x : ℕ). set s (l .i) x) (l .inv .1) (sym (getD-take 64 wide (l .i) 0 here))
+          ∙ fill-step 0 (take 64 wide) (replicate 64 0) (front (c .before .before)) (l .i) here,
+    )
 
 returns : tie.Need-returns Inv-loop μ-loop
 returns c = let l = c .before .loop in l .inv .1 ∙ fill-end 0 (take 64 (c .before .before .args .t1)) (replicate 64 0) (front (c .before .before)) (l .i) (search needs)
 
 pub narrowed-spec : {M : Type 1} → statement M
-narrowed-spec = tie.close (tie.spec Inv-loop μ-loop loop-holds (λ c. search needs) (λ c. search needs) (λ c. search needs) (λ c. search needs) (λ c. search needs) (λ c. search needs) loop-again returns)
+narrowed-spec =
+    tie.close (tie.spec Inv-loop μ-loop loop-holds (λ c. search needs) (λ c. search needs)
+    (λ c. search needs) (λ c. search needs) (λ c. search needs) (λ c. search needs) loop-again returns)

@@ -23,10 +23,16 @@ unfolding both
 loop-holds c = (search needs, refl)
 
 loop-again : tie.Need-loop-again Inv-loop μ-loop
-loop-again c = let l = c .before .loop in let a = c .before .before .args in let h = all (c .before .before) in (search needs, same-with-next (a .t1) (a .t2) (l .good) (l .i) (l .inv .1) (omega arith) (omega arith))
+loop-again c =
+    let l = c .before .loop in
+    let a = c .before .before .args in
+    let h = all (c .before .before) in
+    (search needs, same-with-next (a .t1) (a .t2) (l .good) (l .i) (l .inv .1) (omega arith) (omega arith))
 
 returns : tie.Need-returns Inv-loop μ-loop
 returns c = let l = c .before .loop in let a = c .before .before .args in let h = all (c .before .before) in same-with-done (a .t1) (a .t2) (l .good) (l .i) (l .inv .1) (omega arith) (omega arith)
 
 pub same-codes-spec : {M : Type 1} → statement M
-same-codes-spec = tie.close (tie.spec Inv-loop μ-loop loop-holds (λ c. search needs) (λ c. search needs) (λ c. search needs) (λ c. search needs) (λ c. search needs) (λ c. search needs) loop-again returns)
+same-codes-spec =
+    tie.close (tie.spec Inv-loop μ-loop loop-holds (λ c. search needs) (λ c. search needs)
+    (λ c. search needs) (λ c. search needs) (λ c. search needs) (λ c. search needs) loop-again returns)

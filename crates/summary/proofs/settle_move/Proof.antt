@@ -20,12 +20,16 @@ returns-4 c = let a = c .before .before .before .before .before .before .before 
 returns-5 : tie.Need-returns-5
 returns-5 c =
     let a = c .before .before .before .before .before .before .before .before .before .before .args in
-    stays-poor (a .weights .now) (a .word) _ _ _ (c .before .before .before .before .before .before .before .before .office-of .ensures .0) (c .before .before .before .before .before .before .before .before .before .line-of .ensures .0) (c .before .before .before .before .before .before .before .code-of .ensures .0) (c .if5 .taken)
+    stays-poor (a .weights .now) (a .word) _ _ _ (c .before .before .before .before .before .before .before .before .office-of .ensures .0)
+    (c .before .before .before .before .before .before .before .before .before .line-of .ensures .0)
+    (c .before .before .before .before .before .before .before .code-of .ensures .0) (c .if5 .taken)
 
 returns-6 : tie.Need-returns-6
 returns-6 c =
     let a = c .before .before .before .before .before .before .before .before .before .before .before .args in
-    stays-full (a .weights .now) (a .word) _ _ _ (c .before .before .before .before .before .before .before .before .before .office-of .ensures .0) (c .before .before .before .before .before .before .before .before .before .before .line-of .ensures .0) (c .before .before .before .before .before .before .before .before .code-of .ensures .0) (c .if6 .taken)
+    stays-full (a .weights .now) (a .word) _ _ _ (c .before .before .before .before .before .before .before .before .before .office-of .ensures .0)
+    (c .before .before .before .before .before .before .before .before .before .before .line-of .ensures .0)
+    (c .before .before .before .before .before .before .before .before .code-of .ensures .0) (c .if6 .taken)
 
 returns-7 : tie.Need-returns-7
 returns-7 c =
@@ -33,9 +37,11 @@ returns-7 c =
     let line = c .before .before .before .before .before .before .before .before .before .before .line-of in
     let office = c .before .before .before .before .before .before .before .before .before .office-of in
     let code = c .before .before .before .before .before .before .before .before .code-of in
-    shifted (a .weights .now) (a .word) (office .result) (line .result) (code .result) (office .ensures .0) (line .ensures .0) (code .ensures .0) (omega arith) (omega arith) (λ q. omega arith) (omega arith) (omega arith) (code .ensures .1)
+    shifted (a .weights .now) (a .word) (office .result) (line .result) (code .result) (office .ensures .0) (line .ensures .0)
+    (code .ensures .0) (omega arith) (omega arith) (λ q. omega arith) (omega arith) (omega arith) (code .ensures .1)
 
 pub settle-move-spec : {M : Type 1} → statement M
 settle-move-spec =
-    tie.close (tie.spec (λ c κs. search needs) (λ c κs. search needs) (λ c κs. search needs) returns returns-2 returns-3 returns-4 (λ c. search needs) (λ c. search needs) (λ c. search needs) (λ c. search needs)
+    tie.close (tie.spec (λ c κs. search needs) (λ c κs. search needs) (λ c κs. search needs) returns returns-2
+    returns-3 returns-4 (λ c. search needs) (λ c. search needs) (λ c. search needs) (λ c. search needs)
     returns-5 (λ c. search needs) returns-6 (λ c. search needs) (λ c. search needs) (λ c. search needs) (λ c. search needs) (λ c. search needs) returns-7)

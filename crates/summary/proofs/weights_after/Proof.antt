@@ -34,4 +34,6 @@ unfolding weightsAfter
 returns-2 c = let l = c .before .loop in let a = c .before .before .before .before .before .args in fold-done move (a .weights) (a .words .now) (l .present) (l .i) (l .inv .2) (search needs)
 
 pub weights-after-spec : {M : Type 1} → statement M
-weights-after-spec = tie.close (tie.spec Inv-loop μ-loop (λ c κs. search needs) returns loop-holds (λ c. search needs) (λ c. search needs) (λ c κs. c .before .before .before .loop .inv .1) (λ c. search needs) (λ c. search needs) loop-again returns-2)
+weights-after-spec =
+    tie.close (tie.spec Inv-loop μ-loop (λ c κs. search needs) returns loop-holds (λ c. search needs) (λ c. search needs)
+    (λ c κs. c .before .before .before .loop .inv .1) (λ c. search needs) (λ c. search needs) loop-again returns-2)

@@ -35,4 +35,6 @@ returns c =
     l .inv .1 ∙ ap (filled codes (replicate 256 0)) e ∙ ap (λ (s : List ℕ). s ++ replicate 192 0) (take-all 64 codes (omega arith))
 
 pub widened-spec : {M : Type 1} → statement M
-widened-spec = tie.close (tie.spec Inv-loop μ-loop loop-holds (λ c. search needs) (λ c. search needs) (λ c. search needs) (λ c. search needs) (λ c. search needs) (λ c. search needs) loop-again returns)
+widened-spec =
+    tie.close (tie.spec Inv-loop μ-loop loop-holds (λ c. search needs) (λ c. search needs)
+    (λ c. search needs) (λ c. search needs) (λ c. search needs) (λ c. search needs) loop-again returns)

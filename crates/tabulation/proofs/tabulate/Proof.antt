@@ -43,8 +43,11 @@ loop-again c =
     let x = c .before .before in
     let l = x .before .loop in
     let s = start (x .before) in
-    let n = lengths s in
-    (omega arith, c .pool .ensures ∙ line-pooled (s .args .t1) (s .args .t2) (s .args .t3) (n .0) (n .1 .0) (n .1 .1) (l .i - 1) (l .sheet) (l .i) (down x .0) (down x .1) (l .inv .1) (c .before .if1 .taken))
+    let n = lengths s in (
+      omega arith,
+      c .pool .ensures ∙ line-pooled (s .args .t1) (s .args .t2) (s .args .t3) (n .0) (n .1 .0)
+          (n .1 .1) (l .i - 1) (l .sheet) (l .i) (down x .0) (down x .1) (l .inv .1) (c .before .if1 .taken),
+    )
 
 loop-again-2 : tie.Need-loop-again-2 Inv-loop μ-loop
 loop-again-2 c =

@@ -13,7 +13,10 @@ use Rattle.tallies.proofs.beats_all.Statement.{statement}
 use Rattle.tallies.proofs.beats_all.Tie as tie
 
 abbrev Inv-loop : tie.InvT-loop
-Inv-loop weights counts n te u entry votes i₀ i = (i ≤ n) × (beatsAll weights (quieterBy counts) (votesIn votes) entry (supported weights (votesIn votes)) ≡ beatsAll weights (quieterBy counts) (votesIn votes) entry (supported (drop i weights) (votesFrom i votes)))
+Inv-loop weights counts n te u entry votes i₀ i =
+    (i ≤ n) ×
+    (beatsAll weights (quieterBy counts) (votesIn votes) entry (supported weights (votesIn votes))
+    ≡ beatsAll weights (quieterBy counts) (votesIn votes) entry (supported (drop i weights) (votesFrom i votes)))
 
 abbrev μ-loop : tie.MeasureT-loop
 μ-loop weights counts n te u entry votes i₀ i = n - i
@@ -26,13 +29,29 @@ loop-holds : tie.Need-loop-holds Inv-loop μ-loop
 loop-holds c = (search needs, refl)
 
 returns : tie.Need-returns Inv-loop μ-loop
-returns c = let l = c .before .before .before .loop in let a = c .before .before .before .before .args in let h = fits (c .before .before .before .before) in beats-stop (quieterBy (a .counts)) _ (a .entry) (votesIn (a .t1)) (a .weights) (a .t1) (a .weights) (l .i) (l .inv .1) (omega arith) (omega arith) _ (c .before .beats-vote .ensures) (not-true _ (c .if1 .taken))
+returns c =
+    let l = c .before .before .before .loop in
+    let a = c .before .before .before .before .args in
+    let h = fits (c .before .before .before .before) in
+    beats-stop (quieterBy (a .counts)) _ (a .entry) (votesIn (a .t1)) (a .weights) (a .t1) (a .weights) (l .i)
+    (l .inv .1) (omega arith) (omega arith) _ (c .before .beats-vote .ensures) (not-true _ (c .if1 .taken))
 
 loop-again : tie.Need-loop-again Inv-loop μ-loop
-loop-again c = let l = c .before .before .before .loop in let a = c .before .before .before .before .args in let h = fits (c .before .before .before .before) in (omega arith, beats-next (quieterBy (a .counts)) _ (a .entry) (votesIn (a .t1)) (a .weights) (a .t1) (a .weights) (l .i) (l .inv .1) (omega arith) (omega arith) _ (c .before .beats-vote .ensures) (not-false _ (c .if1 .left)))
+loop-again c =
+    let l = c .before .before .before .loop in
+    let a = c .before .before .before .before .args in
+    let h = fits (c .before .before .before .before) in (
+      omega arith,
+      beats-next (quieterBy (a .counts)) _ (a .entry) (votesIn (a .t1)) (a .weights) (a .t1) (a .weights) (l .i)
+          (l .inv .1) (omega arith) (omega arith) _ (c .before .beats-vote .ensures) (not-false _ (c .if1 .left)),
+    )
 
 returns-2 : tie.Need-returns-2 Inv-loop μ-loop
-returns-2 c = let l = c .before .loop in let s = c .before .before in let a = s .args in beats-done (quieterBy (a .counts)) _ (a .entry) (votesIn (a .t1)) (a .weights) (a .t1) (a .weights) (l .i) (l .inv .1) (a .n) (s .pre .0) (omega arith)
+returns-2 c =
+    let l = c .before .loop in
+    let s = c .before .before in
+    let a = s .args in
+    beats-done (quieterBy (a .counts)) _ (a .entry) (votesIn (a .t1)) (a .weights) (a .t1) (a .weights) (l .i) (l .inv .1) (a .n) (s .pre .0) (omega arith)
 
 pub beats-all-spec : {M : Type 1} → statement M
 beats-all-spec =

@@ -19,10 +19,19 @@ loop-holds : tie.Need-loop-holds Inv-loop μ-loop
 loop-holds c = (search needs, search needs, omega arith)
 
 loop-again : tie.Need-loop-again Inv-loop μ-loop
-loop-again c = let l = c .before .before .loop in let a = c .before .before .before .args in let hx : length (a .t1) ≡ 8 = search needs in let hw : length (a .t2) ≡ 8 = search needs in (search needs, omega arith, weight-step (a .vote) (a .t1) (a .t2) (l .i) _ (l .sum) (l .inv .2) (omega arith) (omega arith) _ refl (c .share .result) (c .share .ensures .0))
+loop-again c =
+    let l = c .before .before .loop in
+    let a = c .before .before .before .args in
+    let hx : length (a .t1) ≡ 8 = search needs in
+    let hw : length (a .t2) ≡ 8 = search needs in
+    (search needs, omega arith, weight-step (a .vote) (a .t1) (a .t2) (l .i) _ (l .sum) (l .inv .2) (omega arith) (omega arith) _ refl (c .share .result) (c .share .ensures .0))
 
 returns : tie.Need-returns Inv-loop μ-loop
-returns c = let l = c .before .loop in let a = c .before .before .args in let hw : length (a .t2) ≡ 8 = search needs in (weight-end (a .vote) (a .t1) (a .t2) (l .i) _ (l .sum) (l .inv .2) (omega arith), omega arith)
+returns c =
+    let l = c .before .loop in
+    let a = c .before .before .args in
+    let hw : length (a .t2) ≡ 8 = search needs in
+    (weight-end (a .vote) (a .t1) (a .t2) (l .i) _ (l .sum) (l .inv .2) (omega arith), omega arith)
 
 pub weight-for-spec : {M : Type 1} → statement M
 weight-for-spec =

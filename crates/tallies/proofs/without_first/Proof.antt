@@ -19,10 +19,19 @@ loop-holds : tie.Need-loop-holds Inv-loop μ-loop
 loop-holds c = (search needs, refl)
 
 loop-again : tie.Need-loop-again Inv-loop μ-loop
-loop-again c = let l = c .before .loop in let b = c .before .before .before .args .b in let h : length (b .cells) ≡ 32 = search needs in (search needs, moved-step (b .cells) (l .cells) (l .j) h (l .inv .1) (omega arith))
+loop-again c =
+    let l = c .before .loop in
+    let b = c .before .before .before .args .b in
+    let h : length (b .cells) ≡ 32 = search needs in
+    (search needs, moved-step (b .cells) (l .cells) (l .j) h (l .inv .1) (omega arith))
 
 returns : tie.Need-returns Inv-loop μ-loop
-returns c = let l = c .before .before .loop in let s = c .before .before .before .before in let b = s .args .b in let h : length (b .cells) ≡ 32 = search needs in without-first-is b (s .pre .0) (s .pre .1) (l .cells) (moved-end (b .cells) (l .cells) (l .j) h (l .inv .1) (omega arith))
+returns c =
+    let l = c .before .before .loop in
+    let s = c .before .before .before .before in
+    let b = s .args .b in
+    let h : length (b .cells) ≡ 32 = search needs in
+    without-first-is b (s .pre .0) (s .pre .1) (l .cells) (moved-end (b .cells) (l .cells) (l .j) h (l .inv .1) (omega arith))
 
 pub without-first-spec : {M : Type 1} → statement M
 without-first-spec =

@@ -128,7 +128,8 @@ returns-2 c =
     let put = headed l .put-vector in
     let w = written (all s) (a .out .now) _ (size s) (omega (arith, fits (fitted (counted l)), size s)) in (
       w .0,
-      whole (a .n) (kept s) (kept-long s) (a .log .now) (a .t4) (base (counted l)) (log-counts (counted l)) (a .out .now) (put .last .0) (l .loop .out) (put .result) (put .ensures .0) (put .ensures .1)
+      whole (a .n) (kept s) (kept-long s) (a .log .now) (a .t4) (base (counted l)) (log-counts (counted l))
+          (a .out .now) (put .last .0) (l .loop .out) (put .result) (put .ensures .0) (put .ensures .1)
           (write-ends (l .loop .inv) (base-long (counted l)) (ballots-long s) (c .loop-test .left)) (fits (fitted (counted l))) ∙ w .1,
     )
 

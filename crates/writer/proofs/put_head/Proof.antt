@@ -39,7 +39,8 @@ returns c =
     let s = start w in
     let a = s .args in (
       omega arith,
-      head-stores (a .sender) (a .n) _ _ (a .dropped) (a .out .now) (length-take-le (a .n) (a .t4) (omega (arith, full s))) (w .put-weights .ensures .0) (w .put-weights .ensures .1) (p .put64 .ensures) (d .put642 .ensures),
+      head-stores (a .sender) (a .n) _ _ (a .dropped) (a .out .now) (length-take-le (a .n) (a .t4) (omega (arith, full s)))
+          (w .put-weights .ensures .0) (w .put-weights .ensures .1) (p .put64 .ensures) (d .put642 .ensures),
     )
 
 pub put-head-spec : {M : Type 1} → statement M

@@ -80,7 +80,12 @@ fits : (c : tie.After-put-front-arg Inv-loop μ-loop Inv-loop2 μ-loop2)
     → let a = begun c .args in headSize (a .n) + 6 * a .held + 2 + length (ballotsBytes 0 (tailsOf (a .n) (a .t7))) ≤ length (a .out .now)
 fits c =
     let s = begun c in
-    omega (arith, size-counted (tested c), c .before .if1 .left, message-length (s .args .sender) (s .args .n) (s .args .weights) (s .args .dropped) (s .args .log .now) (s .args .held) (s .args .t7) (weights-long s) (s .pre .log-long))
+    omega (
+      arith,
+      size-counted (tested c),
+      c .before .if1 .left,
+      message-length (s .args .sender) (s .args .n) (s .args .weights) (s .args .dropped) (s .args .log .now) (s .args .held) (s .args .t7) (weights-long s) (s .pre .log-long),
+    )
 
 put-front-requires : tie.Need-put-front-requires Inv-loop μ-loop Inv-loop2 μ-loop2
 unfolding lengthLimit
@@ -94,8 +99,10 @@ room c = let front = fronted c .put-front in omega (arith, fits (fronted c .befo
 put-ballot-requires : tie.Need-put-ballot-requires Inv-loop μ-loop Inv-loop2 μ-loop2
 put-ballot-requires c κs =
     let turn = c .before .before in
-    let s = begun (fronted (turn .before) .before) in
-    (len-at (s .args .t7) _ _ (s .pre .shapes) (omega (arith, ballots-long s)), (omega arith, put-room (turn .before .loop2 .inv) none (turn .loop2-test .taken) (ballots-long s) (omega (arith, room (turn .before)))))
+    let s = begun (fronted (turn .before) .before) in (
+      len-at (s .args .t7) _ _ (s .pre .shapes) (omega (arith, ballots-long s)),
+      (omega arith, put-room (turn .before .loop2 .inv) none (turn .loop2-test .taken) (ballots-long s) (omega (arith, room (turn .before)))),
+    )
 
 loop2-again : tie.Need-loop2-again Inv-loop μ-loop Inv-loop2 μ-loop2
 loop2-again c =

@@ -44,7 +44,9 @@ returns-2 c =
     let end = read .before .before in
     let l = end .before .before .before in
     let e = sym (read .number-of .ensures) ∙ c .before .enum-told .given .1 in
-    c .no-numbers2 .ensures ∙ sym (sym (l .loop .inv .1) ∙ numbers-step (l .before .before .args .bytes .now) (l .loop .cells) (l .loop .count) (l .loop .at) _ (omega arith) (end .part-end .ensures) ∙ rw (ne-eqb (l .loop .count) 8 (end .before .if1 .left), e))
+    c .no-numbers2 .ensures ∙ sym (sym (l .loop .inv .1)
+    ∙ numbers-step (l .before .before .args .bytes .now) (l .loop .cells) (l .loop .count) (l .loop .at) _ (omega arith) (end .part-end .ensures)
+    ∙ rw (ne-eqb (l .loop .count) 8 (end .before .if1 .left), e))
 
 loop-again : tie.Need-loop-again Inv-loop μ-loop
 unfolding pick byNumber
@@ -52,8 +54,11 @@ loop-again c =
     let read = c .before .before .before in
     let end = read .before .before in
     let l = end .before .before .before in
-    let e = sym (read .number-of .ensures) ∙ c .before .value .given .1 in
-    (omega arith, sym (sym (l .loop .inv .1) ∙ numbers-step (l .before .before .args .bytes .now) (l .loop .cells) (l .loop .count) (l .loop .at) _ (omega arith) (end .part-end .ensures) ∙ rw (ne-eqb (l .loop .count) 8 (end .before .if1 .left), e)))
+    let e = sym (read .number-of .ensures) ∙ c .before .value .given .1 in (
+      omega arith,
+      sym (sym (l .loop .inv .1) ∙ numbers-step (l .before .before .args .bytes .now) (l .loop .cells) (l .loop .count)
+          (l .loop .at) _ (omega arith) (end .part-end .ensures) ∙ rw (ne-eqb (l .loop .count) 8 (end .before .if1 .left), e)),
+    )
 
 returns-3 : tie.Need-returns-3 Inv-loop μ-loop
 returns-3 c = let l = c .before .loop in sym (sym (l .inv .1) ∙ numbers-end (c .before .before .before .args .bytes .now) (l .cells) (l .count) (l .at) (omega arith))

@@ -26,7 +26,8 @@ loop-again : tie.Need-loop-again Inv-loop μ-loop
 loop-again c =
     let l = c .before .before .before .loop in
     let a = c .before .before .before .before .args in
-    let e : partLength (a .mark) (drop (l .i) (a .bytes .now)) ≡ suc (partLength (a .mark) (drop (l .i + 1) (a .bytes .now))) = part-next (a .mark) (a .bytes .now) (l .i) (omega arith) (c .if1 .left) in
+    let e : partLength (a .mark) (drop (l .i) (a .bytes .now)) ≡ suc (partLength (a .mark) (drop (l .i + 1) (a .bytes .now))) =
+    part-next (a .mark) (a .bytes .now) (l .i) (omega arith) (c .if1 .left) in
     omega arith
 
 returns-2 : tie.Need-returns-2 Inv-loop μ-loop

@@ -74,7 +74,8 @@ counts-after-requires c κs =
     (omega (arith, h .held .ensures, S .most), λ k. omega (arith, electable _ _ S .countable k, h .held .ensures, S .most))
 
 -- the run so far
-begun : (c : tie.After-counts-after Inv-loop μ-loop) → let a = start (tested (held c)) .args in c .counts-after .result ≡ countsAfter (a .self .kept .counts) (take (heldLength (a .self)) (a .log .now))
+begun : (c : tie.After-counts-after Inv-loop μ-loop) → let a = start (tested (held c)) .args in
+    c .counts-after .result ≡ countsAfter (a .self .kept .counts) (take (heldLength (a .self)) (a .log .now))
 begun c =
     let a = start (tested (held c)) .args in
     c .counts-after .ensures ∙ ap (λ (n : ℕ). countsAfter (a .self .kept .counts) (take n (a .log .now))) (held c .held .ensures)

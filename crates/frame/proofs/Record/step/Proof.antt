@@ -94,9 +94,12 @@ loop2-again c =
     let bs = l .next .ballots in
     let turn = next-turn (withHeld r (r .kept) (r .noted) (t .before .before .next .result) (r .settled + 1) (r .ballots)) (l .next) (c .if1 .next) e (r .ballots) (l .i + 1) (l .inv .1) in
     ⊎-elim
-    (λ x. let m = turn (set bs (l .i) (x .3 .result)) (x .4) (lost-first _ _ _ S e bs (l .i) (l .inv .2) (omega arith) (omega arith) (x .1 .result) (x .1 .ensures) (x .2 .taken) (x .3 .result) (x .3 .ensures)) in (omega arith, m .0, m .1))
+    (λ x. let m = turn (set bs (l .i) (x .3 .result)) (x .4)
+    (lost-first _ _ _ S e bs (l .i) (l .inv .2) (omega arith) (omega arith) (x .1 .result) (x .1 .ensures) (x .2 .taken) (x .3 .result) (x .3 .ensures)) in
+    (omega arith, m .0, m .1))
     (⊎-elim
-    (λ x. let m = turn (set bs (l .i) (x .3 .result)) (x .4) (lost-rival _ _ _ S e bs (l .i) (l .inv .2) (omega arith) (omega arith) (x .1 .result) (x .1 .ensures) (x .2 .left) (x .3 .result) (x .3 .ensures)) in (omega arith, m .0, m .1))
+    (λ x. let m = turn (set bs (l .i) (x .3 .result)) (x .4)
+    (lost-rival _ _ _ S e bs (l .i) (l .inv .2) (omega arith) (omega arith) (x .1 .result) (x .1 .ensures) (x .2 .left) (x .3 .result) (x .3 .ensures)) in (omega arith, m .0, m .1))
     (λ x. let m = turn bs (x .1) (lost-keep _ _ _ S e bs (l .i) (l .inv .2) (omega arith) (omega arith)) in (omega arith, m .0, m .1)))
     (c .if1 .came)
 

@@ -93,7 +93,8 @@ returns-3 : tie.Need-returns-3
 returns-3 c =
     let w = worked (c .before .before .before) in
     let e = accepted w in
-    take-made _ _ _ _ (done e) (read (e .before .before) .read .ensures) _ (w .before .state .ensures) _ _ (w .take-in .ensures .0) (w .take-in .ensures .1) _ (placed (e .before)) _ (c .before .before .noted .ensures) _
+    take-made _ _ _ _ (done e) (read (e .before .before) .read .ensures) _ (w .before .state .ensures) _ _
+    (w .take-in .ensures .0) (w .take-in .ensures .1) _ (placed (e .before)) _ (c .before .before .noted .ensures) _
     (c .with-state .ensures ∙ ap (λ (y : Record). withState y (w .take-in .result .state)) (c .before .with-kept-and-noted .ensures))
 
 pub take-spec : {M : Type 1} → statement M

@@ -19,7 +19,8 @@ returns c =
     let none : a .k ≡ 0 = c .if1 .taken in
     let long : length (take (a .held) words) ≡ a .held = length-take-le (a .held) words (P .1 .1) in (
       sym (ap (λ (k : ℕ). keptAfter (a .self) (take k words)) none ∙ kept-nil (a .self)),
-      sym (ap (λ (k : ℕ). drop k (take (a .held) words) ++ drop (length (drop k (take (a .held) words))) words) none ∙ ap (λ (k : ℕ). take (a .held) words ++ drop k words) long ∙ take-append-drop (a .held) words),
+      sym (ap (λ (k : ℕ). drop k (take (a .held) words) ++ drop (length (drop k (take (a .held) words))) words) none
+          ∙ ap (λ (k : ℕ). take (a .held) words ++ drop k words) long ∙ take-append-drop (a .held) words),
     )
 
 first : (c : tie.After-after-arg) → let a = c .before .before .before .args in length (take (a .k) (a .log .now)) ≡ a .k

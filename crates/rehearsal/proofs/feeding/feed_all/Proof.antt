@@ -54,7 +54,8 @@ less c = omega (arith, c .before .before .before .part-end .ensures, c .if1 .lef
 
 -- what the line says
 said : (c : tie.After-none Inv-loop μ-loop) → let a = entryOf (loopOf (insideOf c)) .args in let l = loopOf (insideOf c) .loop in
-    LineRead (worldAt (a .r .offices) (a .logs .now) (a .slots .now)) (lineHeld (a .r .held)) (a .chunk .now) (a .out .now) (worldAt (l .offices) (l .logs) (l .slots)) (lineHeld (l .held)) (l .out) (l .at) (l .printed)
+    LineRead (worldAt (a .r .offices) (a .logs .now) (a .slots .now)) (lineHeld (a .r .held)) (a .chunk .now)
+    (a .out .now) (worldAt (l .offices) (l .logs) (l .slots)) (lineHeld (l .held)) (l .out) (l .at) (l .printed)
     (insideOf c .before .before .before .part-end .result) (lineHeld (c .none .result)) (c .before .before .line-held .result)
 said c =
     let here = insideOf c in
@@ -67,7 +68,8 @@ said c =
       there = end .part-end .ensures;
       inside = here .if1 .left;
       empty = ap lineHeld (c .none .ensures);
-      read = c .before .before .line-held .ensures ∙ ap lineOf (ap lineHeld (held .with .ensures) ∙ line-held (lineHeld (l .held) ++ take (end .part-end .result - l .at) (drop (l .at) (a .chunk .now))));
+      read = c .before .before .line-held .ensures
+          ∙ ap lineOf (ap lineHeld (held .with .ensures) ∙ line-held (lineHeld (l .held) ++ take (end .part-end .result - l .at) (drop (l .at) (a .chunk .now))));
     }
 
 loop-holds : tie.Need-loop-holds Inv-loop μ-loop
@@ -85,7 +87,9 @@ returns c =
     let l = loop .loop in
     let a = entryOf loop .args in
     let end = c .before .before .before .part-end in
-    let x = feed-ends sayLine (worldAt (a .r .offices) (a .logs .now) (a .slots .now)) (lineHeld (a .r .held)) (a .chunk .now) (a .out .now) (worldAt (l .offices) (l .logs) (l .slots)) (lineHeld (l .held)) (l .out) (l .at) (l .printed) (l .inv) (end .result) (end .ensures) (c .if1 .taken) (omega (arith, end .ensures, part-within 10 (a .chunk .now) (l .at) (l .inv .within))) in
+    let x = feed-ends sayLine (worldAt (a .r .offices) (a .logs .now) (a .slots .now)) (lineHeld (a .r .held)) (a .chunk .now)
+    (a .out .now) (worldAt (l .offices) (l .logs) (l .slots)) (lineHeld (l .held)) (l .out) (l .at) (l .printed) (l .inv) (end .result)
+    (end .ensures) (c .if1 .taken) (omega (arith, end .ensures, part-within 10 (a .chunk .now) (l .at) (l .inv .within))) in
     feed-answers _ _ (worldAt (l .offices) (l .logs) (l .slots)) (lineHeld (l .held) ++ take (end .result - l .at) (drop (l .at) (a .chunk .now))) _ _ _ x (c .before .with .ensures)
 
 -- ── a founding ──

@@ -31,7 +31,8 @@ returns c =
     let start = none .before .before .before .before in
     let a = start .args in
     let size = none .before .within in
-    let t : take (size .result) (a .self .bytes) ≡ lineHeld (a .self) = ap (λ (k : ℕ). take k (a .self .bytes)) (size .ensures) ∙ take-within (a .self .length) 129 (a .self .bytes) (bytes-129 start) in
+    let t : take (size .result) (a .self .bytes) ≡ lineHeld (a .self) =
+    ap (λ (k : ℕ). take k (a .self .bytes)) (size .ensures) ∙ take-within (a .self .length) 129 (a .self .bytes) (bytes-129 start) in
     c .with-behind2 .ensures ∙ held-more (line .with-behind .result) (lineHeld (none .none .result) ++ take (size .result) (a .self .bytes)) (line .with-behind .ensures) (a .more .now) ∙
     ap (λ (h : Held). heldOf ((lineHeld h ++ take (size .result) (a .self .bytes)) ++ a .more .now)) (none .none .ensures) ∙ ap (λ (l : List ℕ). heldOf (l ++ a .more .now)) t
 

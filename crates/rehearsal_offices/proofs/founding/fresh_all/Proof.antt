@@ -24,8 +24,12 @@ fresh-at-requires c κs = (omega arith, c .before .before .before .pre)
 loop-again : tie.Need-loop-again Inv-loop μ-loop
 loop-again c =
     let a = c .before .before .before .before .args in
-    let l = c .before .before .loop in
-    (omega arith, l .inv .1, ap (λ s. set s (l .k) (c .fresh-at .result)) (l .inv .2) ∙ fresh-next (a .n) (a .weights) (a .logs .now) (a .records) (l .inv .1) (l .k) (c .fresh-at .result) (omega arith) (c .fresh-at .ensures))
+    let l = c .before .before .loop in (
+      omega arith,
+      l .inv .1,
+      ap (λ s. set s (l .k) (c .fresh-at .result)) (l .inv .2)
+          ∙ fresh-next (a .n) (a .weights) (a .logs .now) (a .records) (l .inv .1) (l .k) (c .fresh-at .result) (omega arith) (c .fresh-at .ensures),
+    )
 
 returns : tie.Need-returns Inv-loop μ-loop
 returns c = let a = c .before .before .before .args in let l = c .before .loop in l .inv .2 ∙ fresh-ends (a .n) (a .weights) (a .logs .now) (a .records) (l .inv .1) (l .k) (omega arith)

@@ -62,7 +62,8 @@ written c =
     let number : f .found .result .number ≡ founded (ns .result .cells) .number = ap (λ (x : Founded). x .number) (answered f) in
     let n : c .before .wide .result ≡ founded (ns .result .cells) .number = c .before .wide .ensures ∙ number in
     let e = answer-refused (s .args .input .now) (ns .result) (ns .ensures) (three t) (λ z. refused c .if2 .taken (number ∙ z)) in
-    let w = write-refused (s .args .out .now) (c .put-number .last .0) (c .put-number .result) (c .before .wide .result) (omega (arith, full c)) (c .put-number .ensures .0) (c .put-number .ensures .1) in
+    let w = write-refused (s .args .out .now) (c .put-number .last .0) (c .put-number .result)
+    (c .before .wide .result) (omega (arith, full c)) (c .put-number .ensures .0) (c .put-number .ensures .1) in
     subst (λ (l : List ℕ). (c .put-number .result + 1 ≡ length l) × (set (c .put-number .last .0) (c .put-number .result) 10 ≡ sets (s .args .out .now) 0 l))
     (ap (λ (k : ℕ). decimalOf k ++ (10 ∷ [])) n ∙ sym e) w
 

@@ -35,7 +35,8 @@ loop-again c =
     let a = l .before .before .args in
     let i = l .loop .i in
     let h : length (a .t1 .numbers) ≡ 25 = search needs in
-    let w : low16 (getD (a .t1 .numbers) (l .before .within .result + i) 0) ≡ getD (weightsFrom (a .t1) (a .from)) i 0 = rw (l .before .within .ensures) (sym (weight-at (a .t1) (a .from) i (c .before .loop-test .taken))) in
+    let w : low16 (getD (a .t1 .numbers) (l .before .within .result + i) 0) ≡ getD (weightsFrom (a .t1) (a .from)) i 0 =
+    rw (l .before .within .ensures) (sym (weight-at (a .t1) (a .from) i (c .before .loop-test .taken))) in
     ap₂ (λ (x : List ℕ) (v : ℕ). set x i v) (l .loop .inv) w ∙ fill-step 0 (weightsFrom (a .t1) (a .from)) (replicate 8 0) (eight (a .t1) (a .from) h) i (c .before .loop-test .taken)
 
 returns : tie.Need-returns Inv-loop μ-loop

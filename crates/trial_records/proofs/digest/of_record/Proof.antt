@@ -14,7 +14,8 @@ returns c =
     let weights = present .before in
     let own = weights .before in
     let n = own .before in
-    record-digest (n .before .before .before .before .before .args .«record») (n .with .result) (own .with2 .result) (weights .with-weights .result) (present .with-weights2 .result) (settled .with3 .result)
+    record-digest (n .before .before .before .before .before .args .«record») (n .with .result)
+    (own .with2 .result) (weights .with-weights .result) (present .with-weights2 .result) (settled .with3 .result)
     (codes .with-codes .result) (kept .with-kept .result) (noted .with-eight .result) _
     (n .with .ensures) (own .with2 .ensures) (weights .with-weights .ensures) (present .with-weights2 .ensures) (settled .with3 .ensures)
     (codes .with-codes .ensures) (kept .with-kept .ensures) (noted .with-eight .ensures) (c .with-ballots .ensures)

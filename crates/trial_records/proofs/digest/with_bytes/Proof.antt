@@ -21,7 +21,10 @@ loop-again c =
     (refl, fold-next digestWith _ _ (l .h) (l .i) (l .inv .1) (c .before .before .loop-test .taken) (c .with2 .result) (c .with2 .ensures))
 
 returns : tie.Need-returns Inv-loop μ-loop
-returns c = let l = c .before in fold-done digestWith _ _ (l .loop .h) (l .loop .i) (l .loop .inv .1) (c .loop-test .left) ∙ ap (λ (n : ℕ). digestFrom n (l .before .before .before .args .bytes .now)) (l .before .with .ensures)
+returns c =
+    let l = c .before in
+    fold-done digestWith _ _ (l .loop .h) (l .loop .i) (l .loop .inv .1) (c .loop-test .left)
+    ∙ ap (λ (n : ℕ). digestFrom n (l .before .before .before .args .bytes .now)) (l .before .with .ensures)
 
 pub with-bytes-spec : {M : Type 1} → statement M
 with-bytes-spec =

@@ -9,10 +9,12 @@ use Rattle.trial_records.proofs.record.set_head.Tie as tie
 
 -- the summaries with the line's weights
 module _ (c : tie.After-next) where
-  kept-summary : c .before .before .with-present .result ≡ withPresent (c .before .before .before .before .before .args .«record» .kept .summary) (weightsFrom (c .before .before .before .before .before .args .t2) 3)
+  kept-summary : c .before .before .with-present .result
+      ≡ withPresent (c .before .before .before .before .before .args .«record» .kept .summary) (weightsFrom (c .before .before .before .before .before .args .t2) 3)
   kept-summary = let w = c .before .before .before .before in c .before .before .with-present .ensures ∙ ap (withPresent (w .before .args .«record» .kept .summary)) (w .weights .ensures)
 
-  own-summary : c .before .with-present2 .result ≡ withPresent (c .before .before .before .before .before .args .«record» .summary) (weightsFrom (c .before .before .before .before .before .args .t2) 3)
+  own-summary : c .before .with-present2 .result
+      ≡ withPresent (c .before .before .before .before .before .args .«record» .summary) (weightsFrom (c .before .before .before .before .before .args .t2) 3)
   own-summary = let w = c .before .before .before .before in c .before .with-present2 .ensures ∙ ap (withPresent (w .before .args .«record» .summary)) (w .weights .ensures)
 
 returns : tie.Need-returns
