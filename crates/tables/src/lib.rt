@@ -10,8 +10,10 @@ use ballots::Ballot;
 // How many tails an office may have: none, three of one entry, nine of two.
 const TAILS: usize = 13;
 
-// How many tables there are.
-pub const TABLES: usize = 2197;
+// How many pairs of tails there are, and how many tables, of three tails.
+const PAIRS: usize = TAILS * TAILS;
+
+pub const TABLES: usize = TAILS * PAIRS;
 
 // The three offices' tails.
 pub struct Table {
@@ -53,8 +55,8 @@ pub fn table_at(place: usize) -> Table
     if place >= TABLES {
         return Table { tails };
     }
-    tails[0] = tail_at(place / 169);
-    tails[1] = tail_at(place / 13 % 13);
-    tails[2] = tail_at(place % 13);
+    tails[0] = tail_at(place / PAIRS);
+    tails[1] = tail_at(place / TAILS % TAILS);
+    tails[2] = tail_at(place % TAILS);
     Table { tails }
 }
