@@ -97,7 +97,7 @@ pub fn tentative_frame(office: Record, log: &[u32], line: u32) -> Framed
     let b = own_ballot(office);
     let len = b.len;
     let cells = b.cells;
-    let last = entries::last_edit(&cells[..len], line, base);
+    let last = last_edits::last_edit(&cells[..len], line, base);
     let edit = stored_edit(last);
     Framed { number: 0, edit }
 }

@@ -1,4 +1,3 @@
 -- Laws that belong to no one function.
 pub mod Carries
-pub mod LastEdit
 pub mod Word

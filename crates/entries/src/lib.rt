@@ -1,10 +1,9 @@
-// Entries as 32-bit words: packing, the tests of words, and walks over a slice of them.
+// Entries as 32-bit words: packing, the parts of a word, the tests of words, and walks over a slice of them.
 ghost use mathlib.Core.Path.{_≡_};
-ghost use lib.Dec.{eqb, leb};
+ghost use Prim.Native.Nat.{_<_};
+ghost use lib.Dec.{leb};
 ghost use Rattle.lists.specs.Tests.{allB, pick};
-ghost use Rattle.protocol.specs.Entry.{value, lineOf, proper, isEntry};
-ghost use Rattle.protocol.specs.Codes.{cell, ofCell};
-ghost use Rattle.protocol.specs.Frames.{editAfter};
+ghost use Rattle.protocol.specs.Entry.{value, officeOf, lineOf, codeOf, proper, isEntry};
 ghost use Rattle.entries.specs.Carries.{isCoding, raised, noCarry};
 
 // The lines of the frame; lines from here on are those of moves. And the codes.
@@ -17,6 +16,25 @@ pub fn pack(office: u8, line: u8, code: u16) -> u32
     ensures { λ r. ⌜ r ≡ value office line code ⌝ }
 {
     (office as u32) * 16777216 + (line as u32) * 65536 + (code as u32)
+}
+
+// The parts of a word.
+pub fn office_of(word: u32) -> usize
+    ensures { λ r. ⌜ (r ≡ officeOf word) × (r < 256) ⌝ }
+{
+    (word / 16777216) as usize
+}
+
+pub fn line_of(word: u32) -> usize
+    ensures { λ r. ⌜ (r ≡ lineOf word) × (r < 256) ⌝ }
+{
+    (word / 65536 % 256) as usize
+}
+
+pub fn code_of(word: u32) -> u16
+    ensures { λ r. ⌜ (r ≡ codeOf word) × (r < 65536) ⌝ }
+{
+    (word % 65536) as u16
 }
 
 // n where it is below 256, else 256: a word has 8 bits for its office and 8 for its line.
@@ -88,38 +106,4 @@ pub fn all_entries(words: &[u32], n: usize) -> bool
         good = good & is_entry(words[i], n);
     }
     good
-}
-
-// Whether the word is an entry for the line.
-fn is_for(word: u32, line: u32) -> bool
-    ensures { λ r. ⌜ r ≡ eqb (lineOf word) line ⌝ }
-{
-    word / 65536 % 256 == line
-}
-
-// The last edit of the line as it is stored (0 for no edit yet, else the code + 1), or the one before where no entry is for the line. The newest
-// entry is the likeliest, so the walk is from the end; four words at a time are passed over while none of them is for the line, which runs on
-// vectors.
-pub fn last_edit(words: &[u32], line: u32, before: u32) -> u32
-    ensures { λ r. ⌜ r ≡ cell (editAfter line (ofCell before) (now (words .entry))) ⌝ }
-{
-    let mut end = words.len();
-    while end >= 4 {
-        if is_for(words[end - 1], line)
-            | is_for(words[end - 2], line)
-            | is_for(words[end - 3], line)
-            | is_for(words[end - 4], line)
-        {
-            break;
-        }
-        end = end - 4;
-    }
-    while end > 0 {
-        let word = words[end - 1];
-        if is_for(word, line) {
-            return word % 65536 + 1;
-        }
-        end = end - 1;
-    }
-    before
 }

@@ -1,8 +1,8 @@
 -- Walks of `editAfter`, from the end.
---     word-here, word-past, four-past  the last word is for the line, or it is not, or the last four are not
+--     word-here, word-past      the last word is for the line, or it is not
 -- Assumes nothing.
 use mathlib.Core.Path.{_≡_, refl, sym, ap, _∙_}
-use mathlib.Core.Bool.{Bool, true, false, true≢false, _||_}
+use mathlib.Core.Bool.{Bool, true, false}
 use mathlib.Core.List.{List, [], _∷_}
 use mathlib.Core.Option.{Option, some}
 use Prim.Native.Nat.{ℕ, suc, _-_, _<_, _≤_}
@@ -28,17 +28,8 @@ module _ (line : ℕ) (before : Option ℕ) (xs : List ℕ) (j : ℕ) (h : j < l
   last-before : eqb (lineOf (getD xs j 0)) line ≡ false → editAfter line before (take (suc j) xs) ≡ editAfter line before (take j xs)
   last-before e = last-of ∙ pick-false _ _ _ e
 
--- the same word by word, and for four words of which none is for the line
-either-false-0 : (a b : Bool) → (a || b) ≡ false → a ≡ false
-either-false-0 false b e = refl
-either-false-0 true b e = e
-
-either-false-1 : (a b : Bool) → (a || b) ≡ false → b ≡ false
-either-false-1 false b e = e
-either-false-1 true b e = absurd (true≢false e)
-
+-- the same of a word that the code tested
 module _ (line : ℕ) (before : Option ℕ) (xs : List ℕ) where
-  -- a word that the code tested
   abbrev Tested : Bool → ℕ → Type 0
   Tested f j = f ≡ eqb (lineOf (getD xs j 0)) line
 
@@ -47,12 +38,3 @@ module _ (line : ℕ) (before : Option ℕ) (xs : List ℕ) where
 
   pub word-past : (end j : ℕ) → end ≡ suc j → end ≤ length xs → (f : Bool) → Tested f j → f ≡ false → editAfter line before (take end xs) ≡ editAfter line before (take j xs)
   word-past end j e l f t z = ap (λ (k : ℕ). editAfter line before (take k xs)) e ∙ last-before line before xs j (omega arith) (sym t ∙ z)
-
-  pub four-past : (end : ℕ) → 4 ≤ end → end ≤ length xs → (a b c d : Bool) → Tested a (end - 1) → Tested b (end - 2) → Tested c (end - 3) → Tested d (end - 4)
-      → (((a || b) || c) || d) ≡ false → editAfter line before (take end xs) ≡ editAfter line before (take (end - 4) xs)
-  four-past end h l a b c d ta tb tc td z =
-      let abc = either-false-0 ((a || b) || c) d z in
-      let ab = either-false-0 (a || b) c abc in
-      word-past end (end - 1) (omega arith) l a ta (either-false-0 a b ab) ∙ word-past (end - 1) (end - 2) (omega arith) (omega arith) b tb (either-false-1 a b ab) ∙
-      word-past (end - 2) (end - 3) (omega arith) (omega arith) c tc (either-false-1 (a || b) c abc)
-      ∙ word-past (end - 3) (end - 4) (omega arith) (omega arith) d td (either-false-1 ((a || b) || c) d z)
