@@ -1,9 +1,7 @@
 // A walk over words from their end, for up to 64 lines of the frame together, that stops when each line has its edit. Where the words have none for a
 // line, it is the one that is kept of what was before them.
 ghost use mathlib.Core.Path.{_≡_};
-ghost use Prim.Native.Nat.{_<_};
 ghost use lib.ListN.{length};
-ghost use Rattle.protocol.specs.Entry.{lineOf};
 ghost use Rattle.backward.specs.Runs.{Named};
 ghost use Rattle.backward.specs.Cells.{askedOf, editAdded, newEdits, orKept, placed, cellsAt, walkedOf};
 
@@ -34,18 +32,12 @@ fn ask(lines: &[u32]) -> Asked
     Asked { left, cells }
 }
 
-fn line_of(word: u32) -> usize
-    ensures { λ r. ⌜ (r ≡ lineOf word) × (r < 256) ⌝ }
-{
-    (word / 65536 % 256) as usize
-}
-
 // The word is read: it is the edit of its line if the line is named and has none yet. Answers how many edits that adds.
 fn add_edit(cells: &mut [u32; 256], word: u32) -> u32
     requires { ⌜ length (now cells) ≡ 256 ⌝ }
     ensures { λ r. ⌜ (now (cells .exit) ≡ editAdded (now (cells .entry)) word) × (r ≡ newEdits (now (cells .entry)) word) ⌝ }
 {
-    let line = line_of(word);
+    let line = entries::line_of(word);
     if cells[line] != 0 {
         return 0;
     }

@@ -1,4 +1,3 @@
 -- Laws that belong to no one function.
-pub mod Bytes
 pub mod Counting
-pub mod Parts
+pub mod Tails

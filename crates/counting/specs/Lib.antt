@@ -1,3 +1,2 @@
 -- The definitions that the contracts of `counting` cite.
 pub mod Room
-pub mod Bytes

@@ -1,21 +1,12 @@
-// How many entries each office has: in a settled log, by which ties are decided, and in a tail, of which each office has at most its part.
+// How many entries each office has: in a settled log, by which ties are decided, from counts that stood before it; and in a tail.
 ghost use mathlib.Core.Path.{_≡_};
 ghost use mathlib.Core.Bool.{cond};
 ghost use Prim.Native.Nat.{_<_, _≤_};
 ghost use lib.Dec.{eqb};
-ghost use lib.ListN.{length, take};
+ghost use lib.ListN.{length};
 ghost use Rattle.protocol.specs.Entry.{officeOf};
 ghost use Rattle.protocol.specs.Counts.{noCounts, countOf, counted, countsAfter};
-ghost use Rattle.protocol.specs.Fair.{fair};
 ghost use Rattle.counting.specs.Room.{Room, MoreRoom};
-ghost use Rattle.counting.specs.Bytes.{Holding, lowBytes};
-
-// The office of a word.
-fn office_of(word: u32) -> usize
-    ensures { λ r. ⌜ (r ≡ officeOf word) × (r < 256) ⌝ }
-{
-    (word / 16777216) as usize
-}
 
 // 1 for an entry of the office.
 fn one_of(word: u32, office: u32) -> u32
@@ -75,52 +66,10 @@ pub fn count(counts: &mut [u64; 8], word: u32)
     requires { ⌜ (length (now counts) ≡ 8) × (countOf (now counts) (officeOf word) < 18446744073709551615) ⌝ }
     ensures { λ r. ⌜ now (counts .exit) ≡ counted (now (counts .entry)) word ⌝ }
 {
-    let office = office_of(word);
+    let office = entries::office_of(word);
     if office >= 8 {
         return;
     }
     let has = counts[office];
     counts[office] = has + 1;
-}
-
-// Whether each byte of the number is below 128.
-fn low_bytes(bytes: u64) -> bool
-    ensures { λ r. ⌜ r ≡ lowBytes 8 bytes ⌝ }
-{
-    let mut rest = bytes;
-    let mut low = true;
-    for k in 0..8usize {
-        low = low & (rest % 256 < 128);
-        rest = rest / 256;
-    }
-    low
-}
-
-// Whether none of n offices has more than its part of the tail of this length in 32 cells: at once where the tail is no longer than a part.
-// Each office's count is a byte of one number, raised so that it reaches 128 where it is past the part. The walk goes over all the cells,
-// since one of fixed length is faster; the unused ones count for office 0, whose byte starts so much lower. Public only for the crates above,
-// which prove what it requires.
-pub fn fair(cells: [u32; 32], len: usize, n: usize) -> bool
-    requires { ⌜ (1 ≤ n) × ((n ≤ 8) × Holding n len cells) ⌝ }
-    ensures { λ r. ⌜ r ≡ fair n (take len cells) ⌝ }
-{
-    let part = 32 / n;
-    if len <= part {
-        return true;
-    }
-    let units: [u64; 8] = [
-        1,
-        256,
-        65536,
-        16777216,
-        4294967296,
-        1099511627776,
-        281474976710656,
-        72057594037927936,
-    ];
-    let mut counts: u64 = (127 - part as u64) * 72340172838076673 - (32 - len as u64);
-    for i in 0..32 {
-        counts = counts + units[office_of(cells[i])];
-    }
-    low_bytes(counts)
 }

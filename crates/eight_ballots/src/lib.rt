@@ -94,7 +94,7 @@ fn fair_tail(b: Ballot, n: usize) -> bool
     ensures { λ r. ⌜ r ≡ fairTail n b ⌝ }
 {
     let cells = b.cells;
-    counting::fair(cells, b.len, n)
+    parts::fair(cells, b.len, n)
 }
 
 // The same of eight ballots.

@@ -1,10 +1,10 @@
 -- What the entries of a settled log have done: a fold from a start, entry by entry. Assumes nothing.
-use mathlib.Core.Bool.{Bool, not}
+use mathlib.Core.Bool.{Bool}
 use mathlib.Core.List.{List}
 use Prim.Native.Nat.{ℕ}
 use Rattle.lists.specs.Tests.{both, same}
 use Rattle.protocol.specs.Codes.{noCodes, coded, codesAfter}
-use Rattle.protocol.specs.Moves.{isMove, move, weightsAfter}
+use Rattle.protocol.specs.Moves.{move, weightsAfter}
 use Rattle.summary.specs.declared.Summary.{Summary}
 
 -- the start of a frame with these founding weights: no entry has done anything
@@ -21,7 +21,3 @@ summaryNext s e = record { present = move (s .present) e; codes = coded (s .code
 
 unfoldable pub sameSummary : Summary → Summary → Bool
 sameSummary a b = both (same (a .present) (b .present)) (same (a .codes) (b .codes))
-
--- an entry that moves no weight
-abbrev pub noMove : ℕ → Bool
-noMove e = not (isMove e)

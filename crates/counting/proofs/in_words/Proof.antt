@@ -3,7 +3,7 @@ use borrow.Author.Needs.{needs}
 use native.Mathlib.Omega.{arith}
 use Prim.Native.Nat.{_-_, _≤_}
 use lib.ListN.{length}
-use Rattle.counting.proofs.Parts.{Counting, tail-first, tail-room, tail-next, tail-done}
+use Rattle.counting.proofs.Tails.{Counting, tail-first, tail-room, tail-next, tail-done}
 use Rattle.counting.proofs.in_words.Statement.{statement}
 use Rattle.counting.proofs.in_words.Tie as tie
 

@@ -1,7 +1,7 @@
 -- The tail stands in the first cells, with zeros behind it.
 use borrow.Author.Tests.{leb-true}
 use Rattle.lists.proofs.Tests.{both-0, both-1}
-use Rattle.counting.specs.Bytes.{Holding}
+use Rattle.parts.specs.Bytes.{Holding}
 use Rattle.eight_ballots.specs.Fours.{allCells, fairTail, paddedEntries, unusedZero}
 use Rattle.eight_ballots.proofs.fair_tail.Statement.{statement}
 use Rattle.eight_ballots.proofs.fair_tail.Tie as tie

@@ -1,0 +1,2 @@
+-- The definitions that the contracts of `moved_weights` cite.
+pub mod NoMove
