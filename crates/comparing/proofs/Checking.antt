@@ -13,7 +13,7 @@ use borrow.Author.Tests.{lt-ltb, le-ltb}
 use Rattle.lists.specs.Tests.{pick}
 use Rattle.lists.proofs.Tests.{pick-true, pick-false}
 use Rattle.protocol.specs.Beginning.{comparable}
-use Rattle.comparing.specs.FromEnd.{compares, placesFromEnd}
+use Rattle.shared_places.specs.FromEnd.{compares, placesFromEnd}
 use Rattle.comparing.specs.Checking.{logsRefusal, checkedBy}
 use Rattle.comparing.specs.declared.Checked.{Checked}
 

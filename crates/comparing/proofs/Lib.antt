@@ -1,4 +1,2 @@
 -- Laws that belong to no one function.
-pub mod FromEnd
-pub mod Walk
 pub mod Checking

@@ -5,7 +5,7 @@ use lib.Dec.{ltb}
 use lib.ListN.{length, drop}
 use Rattle.lists.specs.Tests.{pick}
 use Rattle.protocol.specs.Beginning.{comparable}
-use Rattle.comparing.specs.FromEnd.{compares, placesFromEnd}
+use Rattle.shared_places.specs.FromEnd.{compares, placesFromEnd}
 use Rattle.comparing.specs.declared.Checked.{Checked}
 
 -- 16: "the message's log begins past the receiver's length"; 17: "it ends inside the receiver's dropped part"; 10: logs that are not comparable on

@@ -1,3 +1,2 @@
 -- The definitions that the contracts of `comparing` cite.
-pub mod FromEnd
 pub mod Checking

@@ -32,7 +32,7 @@ use Rattle.spelling.proofs.Valid.{Valid, valid-facts, valid-office}
 use Rattle.spelling.proofs.Laws.{reading-valid, reading-log, reading-room}
 use Rattle.reading.specs.Read.{readingOf, badReading, eightWeights, ballotsOf}
 use Rattle.reading.specs.declared.Reading.{Reading}
-use Rattle.comparing.specs.FromEnd.{compares}
+use Rattle.shared_places.specs.FromEnd.{compares}
 use Rattle.intake.specs.Intake.{packetIn, refusalOf, checkedOf}
 use Rattle.comparing.specs.Checking.{checkedBy}
 use Rattle.comparing.specs.declared.Checked.{Checked}

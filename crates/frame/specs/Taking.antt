@@ -7,7 +7,7 @@ use lib.Dec.{eqb}
 use lib.ListN.{take}
 use Rattle.lists.specs.Tests.{both, pick, same}
 use Rattle.protocol.specs.Folding as F
-use Rattle.comparing.specs.FromEnd.{compares, placesFromEnd}
+use Rattle.shared_places.specs.FromEnd.{compares, placesFromEnd}
 use Rattle.spelling.specs.Content.{Content, asPacket}
 use Rattle.spelling.specs.Reading.{reading}
 use Rattle.frame.specs.State.{foldedBy, holding}

@@ -15,9 +15,9 @@ use Rattle.numbers.proofs.Runs.{runAt-length}
 use Rattle.spelling.specs.Reading.{recordAt}
 use Rattle.protocol.specs.Beginning.{comparable}
 use Rattle.numbers.proofs.Runs.{run-rest}
-use Rattle.comparing.specs.FromEnd.{compares, comparedOf, placesFromEnd}
-use Rattle.comparing.specs.declared.Compared.{Compared}
-use Rattle.comparing.proofs.FromEnd.{differ-exactly}
+use Rattle.shared_places.specs.FromEnd.{compares, comparedOf, placesFromEnd}
+use Rattle.shared_places.specs.declared.Compared.{Compared}
+use Rattle.shared_places.proofs.FromEnd.{differ-exactly}
 use Rattle.comparing.proofs.Checking.{by-none, by-compared, past, inside, apart, meets}
 use Rattle.comparing.proofs.check.Statement.{statement}
 use Rattle.comparing.proofs.check.Tie as tie

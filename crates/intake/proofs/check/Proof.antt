@@ -4,7 +4,7 @@ use mathlib.Core.Path.{_≡_, refl, sym, _∙_}
 use borrow.Author.Needs.{needs}
 use borrow.Author.Tests.{not-true, not-false}
 use Rattle.lists.specs.Tests.{pick}
-use Rattle.comparing.specs.FromEnd.{compares}
+use Rattle.shared_places.specs.FromEnd.{compares}
 use Rattle.intake.proofs.Numbers.{Alike, answer-none, not-read, other-count, other-weights, own-message, by-logs}
 use Rattle.intake.proofs.check.Statement.{statement}
 use Rattle.intake.proofs.check.Tie as tie

@@ -9,7 +9,7 @@ use borrow.Author.Tests.{not-true, not-false}
 use Rattle.reading.proofs.Answers.{rest-of-message}
 use Rattle.frame.specs.Soundness.{Sound}
 use Rattle.lists.specs.Tests.{pick}
-use Rattle.comparing.specs.FromEnd.{compares}
+use Rattle.shared_places.specs.FromEnd.{compares}
 use Rattle.frame.specs.State.{withState}
 use Rattle.frame.specs.Taking.{takeNumber, takePlaces}
 use Rattle.frame.specs.declared.Record.{Record}

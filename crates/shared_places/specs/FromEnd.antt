@@ -7,7 +7,7 @@ use Prim.Native.Nat.{ℕ, zero, suc, _+_, _<_, min}
 use lib.Dec.{eqb}
 use lib.ListN.{length, getD}
 use Rattle.lists.specs.Tests.{pick}
-use Rattle.comparing.specs.declared.Compared.{Compared}
+use Rattle.shared_places.specs.declared.Compared.{Compared}
 
 -- how many places are shared
 abbrev pub shared : List ℕ → List ℕ → ℕ

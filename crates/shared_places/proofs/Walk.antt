@@ -17,8 +17,8 @@ use Rattle.lists.specs.Tests.{pick}
 use Rattle.numbers.specs.Numbers.{runAt}
 use Rattle.numbers.proofs.Runs.{drop-more, runAt-length}
 use Rattle.spelling.specs.Reading.{recordAt}
-use Rattle.comparing.specs.FromEnd.{sameAt, differBelow, placesBelow, comparedBelow, comparedOf}
-use Rattle.comparing.specs.declared.Compared.{Compared}
+use Rattle.shared_places.specs.FromEnd.{sameAt, differBelow, placesBelow, comparedBelow, comparedOf}
+use Rattle.shared_places.specs.declared.Compared.{Compared}
 
 -- ── the walk ──
 -- the last i of k places are the same

@@ -1,9 +1,9 @@
 -- The shorter of the two logs has the shared places.
 use native.Mathlib.Omega.{arith}
 use mathlib.Core.Path.{_∙_}
-use Rattle.comparing.proofs.Walk.{compared-at}
-use Rattle.comparing.proofs.compare.Statement.{statement}
-use Rattle.comparing.proofs.compare.Tie as tie
+use Rattle.shared_places.proofs.Walk.{compared-at}
+use Rattle.shared_places.proofs.compare.Statement.{statement}
+use Rattle.shared_places.proofs.compare.Tie as tie
 
 returns : tie.Need-returns
 returns c = let s = c .before .before .before .before in let a = s .args in c .from-end .ensures ∙ compared-at (a .log .now) (a .rest .now) (a .settled) (a .k) (a .settled) (s .pre .0) (omega arith)

@@ -7,9 +7,9 @@ use borrow.Author.Needs.{needs}
 use Rattle.numbers.specs.Numbers.{runAt}
 use Rattle.spelling.specs.Reading.{recordAt}
 use Rattle.records.proofs.Marks.{entry-step}
-use Rattle.comparing.proofs.Walk.{Walked, walk-first, walk-next, walk-met, walk-done, record-at}
-use Rattle.comparing.proofs.from_end.Statement.{statement}
-use Rattle.comparing.proofs.from_end.Tie as tie
+use Rattle.shared_places.proofs.Walk.{Walked, walk-first, walk-next, walk-met, walk-done, record-at}
+use Rattle.shared_places.proofs.from_end.Statement.{statement}
+use Rattle.shared_places.proofs.from_end.Tie as tie
 
 abbrev Inv-loop : tie.InvT-loop
 Inv-loop log rest k i₀ i = (i ≤ k) × Walked k log (runAt 6 recordAt k rest) i

@@ -15,7 +15,7 @@ use lib.ListN.{length}
 use borrow.Author.Tests.{eqb-true, eqb-false, eq-eqb, ne-eqb}
 use Rattle.lists.specs.Tests.{pick}
 use Rattle.protocol.specs.Beginning.{begins, comparable}
-use Rattle.comparing.specs.FromEnd.{shared, sameAt, differBelow, placesBelow, differ, placesFromEnd, FirstMet}
+use Rattle.shared_places.specs.FromEnd.{shared, sameAt, differBelow, placesBelow, differ, placesFromEnd, FirstMet}
 
 eqb-swap : (x y : ℕ) → eqb y x ≡ eqb x y
 eqb-swap x y = go (eqb x y) refl

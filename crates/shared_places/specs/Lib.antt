@@ -1,0 +1,2 @@
+-- The definitions that the contracts of `shared_places` cite.
+pub mod FromEnd
