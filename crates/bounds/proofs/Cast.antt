@@ -17,7 +17,7 @@ use Rattle.ballots.specs.Ballots.{tailOf, ballotFine, isNoBallot, offEnd}
 use Rattle.ballots.specs.declared.Ballot.{Ballot}
 use Rattle.ballots.proofs.Laws as B
 use Rattle.tallies.specs.Tallies.{noVote, cast, voteIn, votesIn, SilentFrom}
-use Rattle.tallies.proofs.Cells.{vote-none, cast-vote}
+use Rattle.votes.proofs.Cells.{vote-none, cast-vote}
 
 pub cast-votes : (n settled : ℕ) (bs : List Ballot) → allB (ballotFine n settled) bs ≡ true → votesIn (map cast bs) ≡ votesOf (map tailOf bs)
 unfolding allB

@@ -1,6 +1,5 @@
 -- The walks over the first n of eight bounds and votes.
 --     fit-next, fit-stop, fit-done         whether no lowest exceeds its highest
---     votes-next, votes-done               the votes of eight ballots
 --     worst-next, worst-done               the worst choice for an entry, written into eight cells
 --     none-worst, worst-won, worst-lost    whether the vote is for an entry that is the winner by it
 --     sure-next, sure-stop, sure-done      the first entry that is
@@ -24,25 +23,13 @@ use Rattle.protocol.specs.Vote.{Votes, later, isFor, and-also, supported, winne
 use Rattle.protocol.specs.Counts.{quieterBy}
 use Rattle.protocol.proofs.Quieter.{quieter-asymmetric}
 use Rattle.protocol.proofs.Vote as vote
-use Rattle.ballots.specs.Ballots.{offEnd}
-use Rattle.ballots.specs.declared.Ballot.{Ballot}
-use Rattle.tallies.specs.Tallies.{winnerIs, noVote, cast, voteIn, votesIn, SilentFrom}
+use Rattle.tallies.specs.Tallies.{winnerIs, noVote, voteIn, votesIn, SilentFrom}
 use Rattle.tallies.specs.declared.Winner.{Winner}
 use Rattle.tallies.specs.declared.Winner.the-variants.{Entry, Nobody}
 use Rattle.tallies.proofs.Walks.{at-vote, winner-some, winner-none}
 use Rattle.bounds.specs.Bounds.{fits, worst, winsWorst, voteThat}
 use Rattle.lists.specs.Padded.{inEight}
 use Rattle.bounds.proofs.Eight.{silent-votes, winner-eight}
-
--- ── the votes of eight ballots ──
-module _ (bs : List Ballot) (eight : length bs ≡ 8) (vs : List ℕ) (i : ℕ) (inv : vs ≡ filled (map cast bs) (replicate 8 0) i) where
-  pub votes-next : i < 8 → (x : ℕ) → x ≡ cast (getD bs i offEnd) → set vs i x ≡ filled (map cast bs) (replicate 8 0) (i + 1)
-  votes-next h x q =
-      ap₂ (λ (l : List ℕ) (y : ℕ). set l i y) inv (q ∙ sym (getD-map cast offEnd bs i)) ∙
-      front-step noVote (map cast bs) (replicate 8 0) i (omega (arith, length-map bs cast)) (omega (arith, length-replicate {A = ℕ} 8 0))
-
-  pub votes-done : 8 ≤ i → vs ≡ map cast bs
-  votes-done h = inv ∙ fill-end 0 (map cast bs) (replicate 8 0) (length-map bs cast ∙ eight ∙ sym (length-replicate {A = ℕ} 8 0)) i (omega (arith, length-replicate {A = ℕ} 8 0))
 
 -- what is left of zeros
 pub zeros-left : (i k : ℕ) → drop {A = ℕ} i (replicate k 0) ≡ replicate (k - i) 0

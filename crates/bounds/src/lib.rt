@@ -1,14 +1,12 @@
 // Weights known within bounds: the entry that wins an election step whichever weights within the bounds are chosen.
 ghost use mathlib.Core.Path.{_≡_};
 ghost use mathlib.Core.Bool.{cond};
-ghost use mathlib.Core.List.{map};
 ghost use Prim.Native.Nat.{_≤_};
 ghost use lib.ListN.{take};
 ghost use Rattle.protocol.specs.Counts.{quieterBy};
-ghost use Rattle.tallies.specs.Tallies.{winnerIs, noVote, cast, voteIn, votesIn, SilentFrom};
+ghost use Rattle.tallies.specs.Tallies.{winnerIs, noVote, voteIn, votesIn, SilentFrom};
 ghost use Rattle.bounds.specs.Bounds.{fits, worst, winsWorst, voteThat, sureWinner};
 ghost use Rattle.lists.specs.Padded.{inEight};
-use ballots::Ballot;
 use tallies::Winner;
 
 // Whether no lowest weight exceeds its highest, of n offices. Public only for the crate above, which proves what it requires.
@@ -22,18 +20,6 @@ pub fn fit(n: usize, lowest: [u16; 8], highest: [u16; 8]) -> bool
         }
     }
     true
-}
-
-// The votes that eight ballots cast.
-pub fn votes(ballots: [Ballot; 8]) -> [u32; 8]
-    ensures { λ r. ⌜ r ≡ map cast ballots ⌝ }
-{
-    let mut votes: [u32; 8] = [0; 8];
-    for i in 0..8 {
-        let b = ballots[i];
-        votes[i] = tallies::vote(b);
-    }
-    votes
 }
 
 // An office's weight in the worst choice for an entry, by whether it supports it.

@@ -31,7 +31,7 @@ use Rattle.tallies.specs.Tallies.{noVote, cast, voteIn, votesIn, SilentFrom, wi
 use Rattle.tallies.specs.declared.Winner.{Winner}
 use Rattle.tallies.specs.declared.Winner.the-variants.{Entry, Nobody}
 use Rattle.tallies.proofs.Walks.{winner-some, winner-none}
-use Rattle.tallies.proofs.Cells.{vote-none, cast-vote, lost-for, lost-other, lost-none}
+use Rattle.votes.proofs.Cells.{vote-none, cast-vote, lost-for, lost-other, lost-none}
 use Rattle.elections.specs.Elections.{heldIn, Steppable, winnerIn}
 use Rattle.elections.specs.declared.State.{State}
 

@@ -32,7 +32,7 @@ pub fn first_step(office: Record, log: &[u32], lowest: [u16; 8], highest: [u16; 
     let kept = office.kept.counts;
     let ballots = office.ballots;
     let counts = counting::counts_after(kept, &log[..held]);
-    let votes = bounds::votes(ballots);
+    let votes = votes::of_ballots(ballots);
     let winner = bounds::sure_winner(votes, counts, n, lowest, highest);
     Forecast { number: 0, winner }
 }

@@ -31,7 +31,7 @@ impl Record {
         let mut votes = [none; 8];
         for i in 0..n {
             let b = next.ballots[i];
-            votes[i] = tallies::vote(b);
+            votes[i] = votes::vote(b);
         }
         let w = tallies::find_winner(votes, present, counts, n);
         match w {
@@ -44,8 +44,8 @@ impl Record {
                 for i in 0..n {
                     let b = next.ballots[i];
                     if b.len > 0 {
-                        if tallies::vote(b) == e {
-                            next.ballots[i] = tallies::without_first(b);
+                        if votes::vote(b) == e {
+                            next.ballots[i] = votes::without_first(b);
                         } else {
                             next.ballots[i] = Ballot::none();
                         }

@@ -31,7 +31,7 @@ pub fn next_place(office: Record, log: &[u32]) -> Standing
     }
     let ballots = office.ballots;
     let present = office.summary.present;
-    let votes = bounds::votes(ballots);
+    let votes = votes::of_ballots(ballots);
     let rows = rows::of_votes(votes, present);
     let unheard = tallies::weight_for(votes, present, tallies::NO_VOTE);
     let silent = rows::silent(votes, office.n);

@@ -1,4 +1,3 @@
 -- Laws that belong to no one function.
-pub mod Cells
 pub mod Walks
 pub mod Quieter

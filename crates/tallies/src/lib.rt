@@ -1,15 +1,11 @@
-// One election step: the vote that a ballot casts, the entry that wins by eight votes, their weights and the offices' counts of entries, and
-// a ballot without the entry that was settled.
+// One election step: the entry that wins by eight votes, their weights and the offices' counts of entries.
 ghost use mathlib.Core.Path.{_≡_};
-ghost use mathlib.Core.Bool.{true, cond};
+ghost use mathlib.Core.Bool.{cond};
 ghost use Prim.Native.Nat.{_≤_};
-ghost use lib.ListN.{drop};
 ghost use Rattle.protocol.specs.Entry.{officeOf};
 ghost use Rattle.protocol.specs.Counts.{countOf, quieterBy};
 ghost use Rattle.protocol.specs.Vote.{tally, unheard, supported, above, beatsAll, winner};
-ghost use Rattle.ballots.specs.Ballots.{tailOf, ballotOf, ballotShape};
-ghost use Rattle.tallies.specs.Tallies.{winnerIs, cast, voteIn, votesIn, SilentFrom, weightFor, beatsVote, voteWins};
-use ballots::Ballot;
+ghost use Rattle.tallies.specs.Tallies.{winnerIs, voteIn, votesIn, SilentFrom, weightFor, beatsVote, voteWins};
 
 // Who wins an election step.
 pub enum Winner {
@@ -19,17 +15,6 @@ pub enum Winner {
 
 // The vote of an office with no ballot: no entry has this value.
 pub const NO_VOTE: u32 = 4294967295;
-
-// The vote that a ballot casts.
-pub fn vote(b: Ballot) -> u32
-    ensures { λ r. ⌜ r ≡ cast b ⌝ }
-{
-    let cells = b.cells;
-    if b.len == 0 {
-        return NO_VOTE;
-    }
-    cells[0]
-}
 
 // The weight where it counts, else 0.
 fn share(counts: bool, weight: u16) -> u32
@@ -170,22 +155,4 @@ pub fn find_winner(votes: [u32; 8], weights: [u16; 8], counts: [u64; 8], n: usiz
         }
     }
     Winner::Nobody
-}
-
-// The ballot without its first entry. Its unused cells are zero, so all its cells move up by one, in a walk of fixed length. Public only
-// for the crate above, which proves what it requires.
-pub fn without_first(b: Ballot) -> Ballot
-    requires { ⌜ (ballotShape b ≡ true) × (1 ≤ b .len) ⌝ }
-    ensures { λ r. ⌜ r ≡ ballotOf (drop 1 (tailOf b)) ⌝ }
-{
-    let old = b.cells;
-    let mut cells: [u32; 32] = [0; 32];
-    for j in 0..31 {
-        let next = old[j + 1];
-        cells[j] = next;
-    }
-    Ballot {
-        len: b.len - 1,
-        cells: cells,
-    }
 }

@@ -51,7 +51,7 @@ sure-winner-requires : tie.Need-sure-winner-requires
 sure-winner-requires c κs =
     let e = from-fit (from-counts (c .before .before)) in
     let a = start e .args in
-    votes-silent (a .office) (a .log .now) (a .lowest) (a .highest) (sounds e) (c .votes .result) (c .votes .ensures)
+    votes-silent (a .office) (a .log .now) (a .lowest) (a .highest) (sounds e) (c .of-ballots .result) (c .of-ballots .ensures)
 
 returns-3 : tie.Need-returns-3
 returns-3 c =
@@ -59,7 +59,7 @@ returns-3 c =
     let f = from-counts (counted .before) in
     let e = from-fit f in
     let a = start e .args in
-    forecast-done (a .office) (a .log .now) (a .lowest) (a .highest) (sounds e) (passed e) (fitted f) _ (counted .counts-after .ensures) _ (c .before .votes .ensures) _ (c .sure-winner .ensures)
+    forecast-done (a .office) (a .log .now) (a .lowest) (a .highest) (sounds e) (passed e) (fitted f) _ (counted .counts-after .ensures) _ (c .before .of-ballots .ensures) _ (c .sure-winner .ensures)
 
 pub first-step-spec : {M : Type 1} → statement M
 first-step-spec =

@@ -35,7 +35,7 @@ returns-2 c =
     let rows = weighed .before in
     let e = tested weighed in
     let a = start e .args in
-    standing-done (a .office) (a .log .now) (sounds e) (passed e) _ (rows .before .votes .ensures) _ (rows .of-votes .ensures)
+    standing-done (a .office) (a .log .now) (sounds e) (passed e) _ (rows .before .of-ballots .ensures) _ (rows .of-votes .ensures)
     _ (weighed .weight-for .ensures .0) _ (silent .silent .ensures)
 
 pub next-place-spec : {M : Type 1} → statement M

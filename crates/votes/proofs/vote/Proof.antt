@@ -3,9 +3,9 @@ use native.Mathlib.Omega.{arith}
 use mathlib.Core.Path.{_≡_}
 use lib.ListN.{length}
 use borrow.Author.Needs.{needs}
-use Rattle.tallies.proofs.Cells.{vote-none, vote-first}
-use Rattle.tallies.proofs.vote.Statement.{statement}
-use Rattle.tallies.proofs.vote.Tie as tie
+use Rattle.votes.proofs.Cells.{vote-none, vote-first}
+use Rattle.votes.proofs.vote.Statement.{statement}
+use Rattle.votes.proofs.vote.Tie as tie
 
 returns : tie.Need-returns
 returns c = vote-none (c .before .before .before .args .b) (c .if1 .taken)

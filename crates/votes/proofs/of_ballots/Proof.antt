@@ -8,9 +8,9 @@ use borrow.Author.Needs.{needs}
 use Rattle.lists.proofs.Tests.{length-mapped}
 use Rattle.lists.proofs.Fill.{filled}
 use Rattle.tallies.specs.Tallies.{cast}
-use Rattle.bounds.proofs.Walks.{votes-next, votes-done}
-use Rattle.bounds.proofs.votes.Statement.{statement}
-use Rattle.bounds.proofs.votes.Tie as tie
+use Rattle.votes.proofs.Eight.{votes-next, votes-done}
+use Rattle.votes.proofs.of_ballots.Statement.{statement}
+use Rattle.votes.proofs.of_ballots.Tie as tie
 
 abbrev Inv-loop : tie.InvT-loop
 Inv-loop ballots votes₀ i₀ votes i = (i ≤ 8) × (votes ≡ filled (map cast ballots) (replicate 8 0) i)
@@ -33,8 +33,8 @@ loop-again c =
 returns : tie.Need-returns Inv-loop μ-loop
 returns c = let l = c .before .loop in let s = c .before .before in votes-done (s .args .t1) (eight s) (l .votes) (l .i) (l .inv .1) (omega arith)
 
-pub votes-spec : {M : Type 1} → statement M
-votes-spec =
+pub of-ballots-spec : {M : Type 1} → statement M
+of-ballots-spec =
     tie.close
     (tie.spec Inv-loop μ-loop loop-holds (λ c. search needs) (λ c. search needs) (λ c κs. search needs) (λ c. search needs) (λ c. search needs) (λ c. search needs) (λ c. search needs)
     loop-again returns)

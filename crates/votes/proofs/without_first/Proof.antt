@@ -5,9 +5,9 @@ use Prim.Native.Nat.{_-_, _≤_}
 use lib.ListN.{length, drop, replicate}
 use borrow.Author.Needs.{needs}
 use Rattle.lists.proofs.Fill.{filled}
-use Rattle.tallies.proofs.Cells.{moved-step, moved-end, without-first-is}
-use Rattle.tallies.proofs.without_first.Statement.{statement}
-use Rattle.tallies.proofs.without_first.Tie as tie
+use Rattle.votes.proofs.Cells.{moved-step, moved-end, without-first-is}
+use Rattle.votes.proofs.without_first.Statement.{statement}
+use Rattle.votes.proofs.without_first.Tie as tie
 
 abbrev Inv-loop : tie.InvT-loop
 Inv-loop len old cells₀ j₀ cells j = (j ≤ 31) × (cells ≡ filled (drop 1 old) (replicate 32 0) j)
