@@ -74,7 +74,7 @@ pub fn sound(
     if held > Ballot::PATH {
         return false;
     }
-    if !kept::fine(kept, n, weights) {
+    if !kept_limits::fine(kept, n, weights) {
         return false;
     }
     if !entries::all_entries(&log[..held], n) {

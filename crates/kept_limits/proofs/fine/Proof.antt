@@ -13,9 +13,9 @@ use Rattle.lists.specs.Tests.{allB}
 use Rattle.lists.proofs.Tests.{all-of}
 use Rattle.protocol.specs.Limits.{isWeight, total}
 use Rattle.summary.specs.Summary.{sameSummary}
 use Rattle.kept.proofs.Facts.{kept-not, fine-nothing, fine-some}
-use Rattle.kept.proofs.fine.Statement.{statement}
-use Rattle.kept.proofs.fine.Tie as tie
+use Rattle.kept_limits.proofs.fine.Statement.{statement}
+use Rattle.kept_limits.proofs.fine.Tie as tie
 
 weighed : (s : tie.Start) → allB isWeight (s .args .kept .summary .present) ≡ true
 unfolding isWeight

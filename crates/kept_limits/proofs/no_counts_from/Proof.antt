@@ -8,8 +8,8 @@ use lib.Dec.{eqb}
 use borrow.Author.Tests.{eq-eqb, ne-eqb}
 use Rattle.lists.specs.Tests.{allB}
 use Rattle.lists.proofs.Walk.{AllRest, all-next, all-stop, all-done}
-use Rattle.kept.proofs.no_counts_from.Statement.{statement}
-use Rattle.kept.proofs.no_counts_from.Tie as tie
+use Rattle.kept_limits.proofs.no_counts_from.Statement.{statement}
+use Rattle.kept_limits.proofs.no_counts_from.Tie as tie
 
 abbrev Inv-loop : tie.InvT-loop
 Inv-loop n counts i₀ i = AllRest (allB (eqb 0) (drop n counts)) (eqb 0) counts i

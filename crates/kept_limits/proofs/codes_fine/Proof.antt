@@ -6,9 +6,9 @@ use Prim.Native.Nat.{_-_, _≤_}
 use lib.ListN.{length}
 use Rattle.lists.specs.Tests.{both, allB}
 use Rattle.lists.proofs.Walk.{AllWith, with-next, with-done}
 use Rattle.kept.specs.Kept.{isKeptCode}
-use Rattle.kept.proofs.codes_fine.Statement.{statement}
-use Rattle.kept.proofs.codes_fine.Tie as tie
+use Rattle.kept_limits.proofs.codes_fine.Statement.{statement}
+use Rattle.kept_limits.proofs.codes_fine.Tie as tie
 
 abbrev Inv-loop : tie.InvT-loop
 Inv-loop codes good₀ i₀ good i = (i ≤ 64) × AllWith (allB isKeptCode codes) isKeptCode codes good i

@@ -4,9 +4,9 @@ use native.Mathlib.Omega.{arith}
 use mathlib.Core.Path.{_≡_}
 use Prim.Native.Nat.{_-_, _≤_}
 use lib.ListN.{length}
-use Rattle.kept.proofs.Sums.{Left, left-next, left-short, left-end}
-use Rattle.kept.proofs.add_up.Statement.{statement}
-use Rattle.kept.proofs.add_up.Tie as tie
+use Rattle.kept_limits.proofs.Left.{Left, left-next, left-short, left-end}
+use Rattle.kept_limits.proofs.add_up.Statement.{statement}
+use Rattle.kept_limits.proofs.add_up.Tie as tie
 
 abbrev Inv-loop : tie.InvT-loop
 Inv-loop dropped counts left₀ i₀ left i = (i ≤ 8) × Left dropped counts left i
