@@ -5,20 +5,20 @@
 --     sure-next, sure-stop, sure-done      the first entry that is
 -- Assumes nothing.
 use mathlib.Core.Path.{_≡_, refl, sym, ap, ap₂, _∙_}
-use mathlib.Core.List.{List, [], _∷_, _++_, map}
+use mathlib.Core.List.{List, [], _∷_, _++_}
 use mathlib.Core.Option.{Option, none, some, Option·some-injective, Option·none-ne-some}
 use mathlib.Core.Bool.{Bool, true, false, cond, true≢false}
 use Prim.Native.Nat.{ℕ, zero, suc, _+_, _-_, _<_, _≤_}
 use native.Mathlib.Nat.{not-suc-le-zero}
 use native.Mathlib.Omega.{arith}
 use lib.Dec.{eqb, leb}
-use lib.ListN.{length, getD, take, drop, set, replicate, length-map, length-replicate, drop-of-length-le}
+use lib.ListN.{length, getD, take, drop, set, replicate, length-replicate, drop-of-length-le}
 use lib.Seq.{length-take-le, getD-take, take-all}
 use borrow.Author.Tests.{eqb-true, eq-eqb, ne-eqb, le-leb, lt-leb}
 use Rattle.lists.specs.Tests.{both}
-use Rattle.lists.proofs.Tests.{alike, getD-map}
+use Rattle.lists.proofs.Tests.{alike}
 use Rattle.lists.proofs.Walk.{rest-step}
-use Rattle.lists.proofs.Fill.{filled, front-step, fill-end}
+use Rattle.lists.proofs.Fill.{filled, front-step}
 use Rattle.protocol.specs.Vote.{Votes, later, isFor, and-also, supported, winner, firstThat}
 use Rattle.protocol.specs.Counts.{quieterBy}
 use Rattle.protocol.proofs.Quieter.{quieter-asymmetric}

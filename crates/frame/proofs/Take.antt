@@ -33,10 +33,10 @@ use Rattle.spelling.proofs.Laws.{reading-valid, reading-log, reading-room}
 use Rattle.reading.specs.Read.{readingOf, badReading, eightWeights, ballotsOf}
 use Rattle.reading.specs.declared.Reading.{Reading}
 use Rattle.shared_places.specs.FromEnd.{compares}
-use Rattle.intake.specs.Intake.{packetIn, refusalOf, checkedOf}
+use Rattle.acceptance.specs.Acceptance.{packetIn, refusalOf, checkedOf}
 use Rattle.comparing.specs.Checking.{checkedBy}
 use Rattle.comparing.specs.declared.Checked.{Checked}
-use Rattle.intake.proofs.Numbers.{refusal-folded}
+use Rattle.acceptance.proofs.Numbers.{refusal-folded}
 use Rattle.reading.proofs.Answers.{rest-of-message}
 use Rattle.frame.specs.State.{heldLength, foldedBy, holding}
 use Rattle.frame.specs.Soundness.{soundB, Sound}

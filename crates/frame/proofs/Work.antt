@@ -24,7 +24,8 @@ use Rattle.spelling.proofs.Valid.{Valid, settled-length}
 use Rattle.spelling.proofs.Laws.{reading-room}
 use Rattle.reading.specs.Read.{readingOf}
 use Rattle.reading.specs.declared.Reading.{Reading}
-use Rattle.intake.specs.Intake.{packetIn, takenIn, intakenOf, Ready}
+use Rattle.intake.specs.Intake.{takenIn, intakenOf, Ready}
+use Rattle.acceptance.specs.Acceptance.{packetIn}
 use Rattle.intake.specs.declared.Intaken.{Intaken}
 use Rattle.intake.proofs.Dropping.{summary-taken, dropped-taken}
 use Rattle.elections.specs.declared.State.{State}

@@ -30,7 +30,7 @@ impl Record {
         let weights = self.weights;
         let kept = self.kept;
         let held = self.held();
-        let checked = intake::check(self.n, own, weights, kept.dropped, &log[..], held, rest, m);
+        let checked = acceptance::check(self.n, own, weights, kept.dropped, &log[..], held, rest, m);
         let number = checked.number;
         let places = checked.places;
         if number != 0 {

@@ -29,7 +29,8 @@ use Rattle.summary.proofs.Laws.{summary-append}
 use Rattle.elections.specs.declared.State.{State}
 use Rattle.kept.specs.Kept.{keptAfter, Roomy}
 use Rattle.kept.specs.declared.Kept.{Kept}
-use Rattle.intake.specs.Intake.{packetIn, foldedIn, takenIn, mergedOf, without, intakenOf, alignedTake, Aligned, Ready}
+use Rattle.intake.specs.Intake.{foldedIn, takenIn, mergedOf, without, intakenOf, alignedTake, Aligned, Ready}
+use Rattle.acceptance.specs.Acceptance.{packetIn}
 use Rattle.intake.specs.declared.Intaken.{Intaken}
 
 -- a log's words with a log in front, under a log that is no shorter

@@ -2,4 +2,3 @@
 pub mod Caught
 pub mod Dropping
 pub mod Made
-pub mod Numbers

@@ -1,52 +1,30 @@
 -- An office's log and ballots beside a message that was read, and what a take makes of them. Assumes nothing.
 use Prim.Native.Nat.{ℕ, _+_, _-_, _*_, _<_, _≤_}
 use mathlib.Core.Path.{_≡_}
-use mathlib.Core.Bool.{true, not}
+use mathlib.Core.Bool.{true}
 use mathlib.Core.List.{List, [], map}
-use lib.Dec.{ltb, eqb}
+use lib.Dec.{ltb}
 use lib.ListN.{length, take, drop}
 use lib.Seq.{sets}
-use Rattle.lists.specs.Tests.{both, pick, same}
+use Rattle.lists.specs.Tests.{pick}
 use Rattle.protocol.specs.Beginning.{comparable}
 use Rattle.protocol.specs.Office.{Office}
 use Rattle.protocol.specs.Take.{withTake}
-use Rattle.protocol.specs.Folding.{FoldedOffice, Packet, caughtUp, fromThere}
+use Rattle.protocol.specs.Folding.{FoldedOffice, caughtUp, fromThere}
 use Rattle.ballots.specs.declared.Ballot.{Ballot}
 use Rattle.ballots.specs.Ballots.{tailOf, ballotOf, officeIn}
-use Rattle.numbers.specs.Numbers.{runAt}
-use Rattle.spelling.specs.Reading.{recordAt}
 use Rattle.reading.specs.declared.Reading.{Reading}
+use Rattle.acceptance.specs.Acceptance.{packetIn}
 use Rattle.summary.specs.Summary.{summaryAfter}
-use Rattle.comparing.specs.Checking.{logsRefusal, checkedBy}
-use Rattle.comparing.specs.declared.Checked.{Checked}
 use Rattle.elections.specs.declared.State.{State}
 use Rattle.kept.specs.Kept.{keptAfter, Roomy}
 use Rattle.kept.specs.declared.Kept.{Kept}
 use Rattle.intake.specs.declared.Intaken.{Intaken}
 
--- the message that was read: its log records stand in the rest after the head
-abbrev pub packetIn : List ℕ → Reading → Packet
-packetIn rest m = record { sender = m .sender; dropped = m .dropped; state = record { log = runAt 6 recordAt (m .held) rest; tails = map tailOf (m .ballots) } }
-
 -- the office that takes it: its noted lengths are not looked at
 abbrev pub foldedIn : List ℕ → State → Kept → FoldedOffice
 foldedIn words s kept = record { dropped = kept .dropped; held = officeIn words (s .held) (s .ballots); noted = [] }
 
--- ── the number ──
--- the number of a take on a sound record with these fields. 7: "message not of the layout, .."; 8: "message's n or weights differ from the
--- record's"; 9: the own message; 16, 17 and 10 by the logs
-unfoldable pub refusalOf : ℕ → ℕ → List ℕ → ℕ → List ℕ → ℕ → List ℕ → Reading → ℕ
-refusalOf n own weights dropped words held rest m =
-    pick (not (m .ok)) 7
-    (pick (not (both (eqb (m .n) n) (same (m .weights) weights))) 8
-    (pick (eqb (m .sender) own) 9
-    (logsRefusal dropped (take held words) (m .dropped) (packetIn rest m .state .log))))
-
-unfoldable pub checkedOf : ℕ → ℕ → List ℕ → ℕ → List ℕ → ℕ → List ℕ → Reading → Checked
-checkedOf n own weights dropped words held rest m =
-    checkedBy (refusalOf n own weights dropped words held rest m) dropped (take held words) (m .dropped) (packetIn rest m .state .log)
-
--- ── the work on an accepted message ──
 -- the office's state after it took the message: "take first drops what the message's sender had dropped"
 abbrev pub takenIn : List ℕ → State → Kept → ℕ → List ℕ → Reading → Office
 takenIn words s kept own rest m = withTake own (fromThere (packetIn rest m) (foldedIn words s kept)) (caughtUp (packetIn rest m) (foldedIn words s kept))

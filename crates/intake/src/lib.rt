@@ -1,5 +1,5 @@
-// Take's number, and its work on what a record holds, from a message that was read: the two logs compared on the part that both still have, what
-// the sender had dropped dropped, the log caught up, the ballots brought past it and offered the message's.
+// Take's work on what a record holds, from a message that was accepted: what the sender had dropped dropped, the log caught up, the ballots brought
+// past it and offered the message's.
 // Public only for the crate above, which proves what the functions require.
 ghost use mathlib.Core.Path.{_≡_};
 ghost use Prim.Native.Nat.{_*_, _≤_};
@@ -7,9 +7,8 @@ ghost use lib.ListN.{length};
 ghost use Rattle.numbers.specs.Numbers.{runAt};
 ghost use Rattle.spelling.specs.Reading.{recordAt};
 ghost use Rattle.ballots.specs.Ballots.{wordsWith};
-ghost use Rattle.intake.specs.Intake.{takenIn, intakenOf, alignedTake, mergedOf, checkedOf, caughtLength, caughtWords, Aligned, Ready};
+ghost use Rattle.intake.specs.Intake.{takenIn, intakenOf, alignedTake, mergedOf, caughtLength, caughtWords, Aligned, Ready};
 use ballots::Ballot;
-use comparing::Checked;
 use elections::State;
 use kept::Kept;
 use reading::Reading;
@@ -18,36 +17,6 @@ use reading::Reading;
 pub struct Intaken {
     pub state: State,
     pub kept: Kept,
-}
-
-// The number of a take on a sound record with these fields, in the order of the definition; m is what the message was read as.
-pub fn check(
-    n: usize,
-    own: usize,
-    weights: [u16; 8],
-    dropped: u64,
-    log: &[u32],
-    held: usize,
-    rest: &[u8],
-    m: Reading,
-) -> Checked
-    requires { ⌜ (held ≤ length (now log)) × (6 * m .held ≤ length (now rest)) ⌝ }
-    ensures { λ r. ⌜ r ≡ checkedOf n own weights dropped (now (log .entry)) held (now (rest .entry)) m ⌝ }
-{
-    if !m.ok {
-        return comparing::refused(7);
-    }
-    if m.n != n {
-        return comparing::refused(8);
-    }
-    let theirs = m.weights;
-    if !lists::same_eight(theirs, weights) {
-        return comparing::refused(8);
-    }
-    if m.sender == own {
-        return comparing::refused(9);
-    }
-    comparing::check(dropped, log, held, m.dropped, rest, m.held)
 }
 
 // Where the message's log is the longer, writes the missing entries from the held length onward; answers the new held length.

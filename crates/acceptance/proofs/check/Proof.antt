@@ -5,9 +5,9 @@ use borrow.Author.Needs.{needs}
 use borrow.Author.Tests.{not-true, not-false}
 use Rattle.lists.specs.Tests.{pick}
 use Rattle.shared_places.specs.FromEnd.{compares}
-use Rattle.intake.proofs.Numbers.{Alike, answer-none, not-read, other-count, other-weights, own-message, by-logs}
-use Rattle.intake.proofs.check.Statement.{statement}
-use Rattle.intake.proofs.check.Tie as tie
+use Rattle.acceptance.proofs.Numbers.{Alike, answer-none, not-read, other-count, other-weights, own-message, by-logs}
+use Rattle.acceptance.proofs.check.Statement.{statement}
+use Rattle.acceptance.proofs.check.Tie as tie
 
 -- the places of the code: behind each test
 abbrev read : tie.Else2 → tie.Else1

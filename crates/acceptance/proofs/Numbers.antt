@@ -21,7 +21,7 @@ use Rattle.shared_places.specs.FromEnd.{compares}
 use Rattle.comparing.specs.Checking.{logsRefusal, checkedBy}
 use Rattle.comparing.specs.declared.Checked.{Checked}
 use Rattle.comparing.proofs.Checking.{by-none}
-use Rattle.intake.specs.Intake.{packetIn, refusalOf, checkedOf}
+use Rattle.acceptance.specs.Acceptance.{packetIn, refusalOf, checkedOf}
 
 -- a message that was read, of these offices and weights
 pub record Alike (n : ℕ) (weights : List ℕ) (m : Reading) : Type 0 where

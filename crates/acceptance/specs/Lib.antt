@@ -1,0 +1,2 @@
+-- The definitions that the contracts of `acceptance` cite.
+pub mod Acceptance
