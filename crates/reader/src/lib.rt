@@ -1,15 +1,16 @@
 // "A reader walks the message record by record": a small struct that holds the message and a position, and thin functions that read the
 // record at it. Callers with a plain slice use the functions `read_..`, which make the reader at a position, read one
 // record through it, and answer that with the position after it.
-use records::BallotStep;
+use ballot_records::BallotStep;
 use records::EndStep;
 use records::LogStep;
-use records::ballot_at;
+use ballot_records::ballot_at;
 use records::end_at;
 use records::entry_at;
 use records::log_at;
 ghost use mathlib.Core.Path.{_≡_};
-ghost use Rattle.records.specs.Steps.{logAt, entryAt, ballotAt, endAt};
+ghost use Rattle.records.specs.Steps.{logAt, entryAt, endAt};
+ghost use Rattle.ballot_records.specs.BallotSteps.{ballotAt};
 
 pub struct Reader<'a> {
     pub src: &'a [u8],

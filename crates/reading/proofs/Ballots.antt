@@ -15,8 +15,9 @@ use Rattle.ballots.specs.Ballots.{ballotOf, noBallot}
 use Rattle.ballots.specs.declared.Ballot.{Ballot}
 use Rattle.protocol.specs.Entry.{isEntry}
 use Rattle.lists.specs.Tests.{allB, both, pick}
-use Rattle.records.specs.Steps.{badBallot, badLog, ballotAt, endAt, logAt}
-use Rattle.records.specs.declared.BallotStep.{BallotStep}
+use Rattle.records.specs.Steps.{badLog, endAt, logAt}
+use Rattle.ballot_records.specs.BallotSteps.{badBallot, ballotAt}
+use Rattle.ballot_records.specs.declared.BallotStep.{BallotStep}
 use Rattle.records.specs.declared.EndStep.{EndStep}
 use Rattle.records.specs.declared.LogStep.{LogStep}
 use Rattle.spelling.specs.Content.{eightTails}

@@ -1,3 +1,2 @@
 -- Laws of reading one record.
-pub mod Ballots
 pub mod Marks

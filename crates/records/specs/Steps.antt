@@ -4,10 +4,8 @@ use mathlib.Core.Bool.{true, false}
 use mathlib.Core.List.{List}
 use lib.Dec.{leb}
 use lib.ListN.{drop, length}
-use Rattle.ballots.specs.Ballots.{ballotOf, noBallot}
 use Rattle.lists.specs.Tests.{pick}
-use Rattle.spelling.specs.Reading.{recordHere, recordAt, ballotOk, tailAt, sizeAt, endOk}
-use Rattle.records.specs.declared.BallotStep.{BallotStep}
+use Rattle.spelling.specs.Reading.{recordHere, recordAt, endOk}
 use Rattle.records.specs.declared.EndStep.{EndStep}
 use Rattle.records.specs.declared.LogStep.{LogStep}
 
@@ -22,17 +20,6 @@ logAt s at = pick (recordHere (drop at s)) (record { ok = true; value = recordAt
 -- the log record at a position, by the room for it; the mark is not tested
 unfoldable pub entryAt : List ℕ → ℕ → LogStep
 entryAt s at = pick (leb 6 (length (drop at s))) (record { ok = true; value = recordAt (drop at s); next = at + 6 }) badLog
-
--- a ballot stands there that is not of the layout
-unfoldable pub badBallot : BallotStep
-badBallot = record { ok = false; next = 0; ballot = noBallot }
-
--- the ballot of office o at a position; none where another record stands there
-unfoldable pub ballotAt : List ℕ → ℕ → ℕ → BallotStep
-ballotAt s at o =
-    pick (ballotOk (drop at s) o)
-    (record { ok = true; next = at + sizeAt (drop at s) o; ballot = ballotOf (tailAt (drop at s) o) })
-    badBallot
 
 -- the end at a position, "then nothing"
 unfoldable pub endAt : List ℕ → ℕ → EndStep

@@ -1,7 +1,7 @@
 -- A reader is made at the position, and `ballot` is called on it.
-use Rattle.records.specs.Steps.{ballotAt}
-use Rattle.records.proofs.BallotStep as S
-use Rattle.records.proofs.BallotStep.Laws as S′
+use Rattle.ballot_records.specs.BallotSteps.{ballotAt}
+use Rattle.ballot_records.proofs.BallotStep as S
+use Rattle.ballot_records.proofs.BallotStep.Laws as S′
 use Rattle.reader.proofs.ballot.Met as callee
 use Rattle.reader.proofs.Made.{over-slice}
 use Rattle.reader.proofs.Runs.{makes₁}

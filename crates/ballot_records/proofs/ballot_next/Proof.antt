@@ -1,9 +1,9 @@
 -- Each failing test shows that no mark stands at the position, or no room for it; past them the office decides.
 use native.Mathlib.Omega.{arith}
 use borrow.Author.Needs.{needs}
 use Rattle.records.proofs.Marks.{next-no, next-yes}
-use Rattle.records.proofs.ballot_next.Statement.{statement}
-use Rattle.records.proofs.ballot_next.Tie as tie
+use Rattle.ballot_records.proofs.ballot_next.Statement.{statement}
+use Rattle.ballot_records.proofs.ballot_next.Tie as tie
 
 -- the places of the code: the start, past the test of the room, and past the mark
 abbrev start : tie.Else2 → tie.Start

@@ -1,8 +1,8 @@
 -- The definition, field by field.
 use borrow.Author.Needs.{needs}
-use Rattle.records.specs.Steps.{badBallot}
-use Rattle.records.proofs.bad_ballot.Statement.{statement}
-use Rattle.records.proofs.bad_ballot.Tie as tie
+use Rattle.ballot_records.specs.BallotSteps.{badBallot}
+use Rattle.ballot_records.proofs.bad_ballot.Statement.{statement}
+use Rattle.ballot_records.proofs.bad_ballot.Tie as tie
 
 returns : tie.Need-returns
 unfolding badBallot

@@ -6,9 +6,9 @@ use native.Mathlib.Omega.{arith}
 use lib.ListN.{drop, length}
 use borrow.Author.Needs.{needs}
 use Rattle.spelling.specs.Reading.{ballotNext}
-use Rattle.records.proofs.Ballots.{step-cut, step-long, step-none, step-read, step-room, step-short}
-use Rattle.records.proofs.ballot_at.Statement.{statement}
-use Rattle.records.proofs.ballot_at.Tie as tie
+use Rattle.ballot_records.proofs.Ballots.{step-cut, step-long, step-none, step-read, step-room, step-short}
+use Rattle.ballot_records.proofs.ballot_at.Statement.{statement}
+use Rattle.ballot_records.proofs.ballot_at.Tie as tie
 
 -- the places of the code: where a ballot of the office comes next, and where its length was read
 abbrev start : tie.Then1 → tie.Start

@@ -16,7 +16,7 @@ use Rattle.spelling.specs.Reading.{ballotNext, ballotOk}
 use Rattle.lists.proofs.Tests.{both-0}
 use Rattle.spelling.proofs.Ballots.{ok-no, ok-yes, size-no, size-yes, tail-no, tail-yes}
 use Rattle.numbers.proofs.Runs.{runAt-length}
-use Rattle.records.specs.Steps.{badBallot, ballotAt}
+use Rattle.ballot_records.specs.BallotSteps.{badBallot, ballotAt}
 
 module _ (s : List ℕ) (at o : ℕ) where
   pub step-none : ballotNext (drop at s) o ≡ false → record { ok = true; next = at; ballot = ballotOf [] } ≡ ballotAt s at o

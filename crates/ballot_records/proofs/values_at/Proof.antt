@@ -6,8 +6,8 @@ use borrow.Author.Needs.{needs}
 use Rattle.numbers.specs.Numbers.{be32}
 use Rattle.numbers.proofs.Runs.{runAt-length}
 use Rattle.numbers.proofs.Steps.{Filling, filling-again, filling-begins, filling-ends}
-use Rattle.records.proofs.values_at.Statement.{statement}
-use Rattle.records.proofs.values_at.Tie as tie
+use Rattle.ballot_records.proofs.values_at.Statement.{statement}
+use Rattle.ballot_records.proofs.values_at.Tie as tie
 
 abbrev Inv-loop : tie.InvT-loop
 Inv-loop s from k cells₀ at₀ i₀ cells at i = Filling 4 be32 (replicate 32 0) s from k cells at i

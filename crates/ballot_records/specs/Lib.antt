@@ -1,0 +1,2 @@
+-- The definitions that the contracts of `ballot_records` cite.
+pub mod BallotSteps
