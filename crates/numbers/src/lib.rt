@@ -1,10 +1,9 @@
-// Numbers in bytes, most significant byte first, read and written at a position. The functions are public only for the crates above, which
-// prove the room that each requires.
+// Numbers in bytes, most significant byte first, read at a position. The functions are public only for the crates above, which prove the room that
+// each requires.
 ghost use mathlib.Core.Path.{_≡_};
 ghost use Prim.Native.Nat.{_+_, _<_, _≤_};
 ghost use lib.ListN.{length, drop};
-ghost use lib.Seq.{sets};
-ghost use Rattle.numbers.specs.Numbers.{bytes16, bytes32, bytes64, be16, be32, be64};
+ghost use Rattle.numbers.specs.Numbers.{be16, be32, be64};
 
 // A byte as a number to compute with.
 pub fn wide(x: u8) -> u32
@@ -35,33 +34,4 @@ pub fn be64_at(s: &[u8], at: usize) -> u64
     ensures { λ r. ⌜ r ≡ be64 (drop at (now (s .entry))) ⌝ }
 {
     be32_at(s, at) as u64 * 4294967296 + be32_at(s, at + 4) as u64
-}
-
-// A number into the two bytes at a position.
-pub fn put16(out: &mut [u8], at: usize, v: u16)
-    requires { ⌜ at + 2 ≤ length (now out) ⌝ }
-    ensures { λ _. ⌜ now (out .exit) ≡ sets (now (out .entry)) at (bytes16 v) ⌝ }
-{
-    out[at] = (v / 256 % 256) as u8;
-    out[at + 1] = (v % 256) as u8;
-}
-
-// A number into the four bytes at a position.
-pub fn put32(out: &mut [u8], at: usize, v: u32)
-    requires { ⌜ at + 4 ≤ length (now out) ⌝ }
-    ensures { λ _. ⌜ now (out .exit) ≡ sets (now (out .entry)) at (bytes32 v) ⌝ }
-{
-    out[at] = (v / 16777216 % 256) as u8;
-    out[at + 1] = (v / 65536 % 256) as u8;
-    out[at + 2] = (v / 256 % 256) as u8;
-    out[at + 3] = (v % 256) as u8;
-}
-
-// A number into the eight bytes at a position.
-pub fn put64(out: &mut [u8], at: usize, v: u64)
-    requires { ⌜ at + 8 ≤ length (now out) ⌝ }
-    ensures { λ _. ⌜ now (out .exit) ≡ sets (now (out .entry)) at (bytes64 v) ⌝ }
-{
-    put32(out, at, (v / 4294967296) as u32);
-    put32(out, at + 4, (v % 4294967296) as u32);
 }

@@ -1,6 +1,6 @@
 // The vectors of an office's versions, written to a buffer. The functions are public only for the crates above, which prove what each requires.
 use ballots::Ballot;
-use numbers::put64;
+use put_numbers::put64;
 ghost use mathlib.Core.Path.{_≡_};
 ghost use Prim.Native.Nat.{_+_, _*_, _≤_};
 ghost use lib.ListN.{length, take};

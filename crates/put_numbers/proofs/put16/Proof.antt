@@ -1,11 +1,11 @@
 -- The two stores are the two bytes of the definition.
 use Rattle.numbers.specs.Numbers.{bytes16}
 use native.Mathlib.Numerals.{add-one}
 use lib.ListN.{length-set}
 use native.Mathlib.Omega.{arith}
 use borrow.Author.Needs.{needs}
-use Rattle.numbers.proofs.put16.Statement.{statement}
-use Rattle.numbers.proofs.put16.Tie as tie
+use Rattle.put_numbers.proofs.put16.Statement.{statement}
+use Rattle.put_numbers.proofs.put16.Tie as tie
 
 returns : tie.Need-returns
 unfolding bytes16

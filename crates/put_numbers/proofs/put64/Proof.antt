@@ -1,13 +1,13 @@
 -- The two halves of the definition, stored one behind the other.
 use Rattle.numbers.specs.Numbers.{bytes32, bytes64}
 use Prim.Native.Nat.{ℕ, _+_, _/_, _%_}
 use mathlib.Core.List.{List}
 use mathlib.Core.Path.{_≡_, sym}
 use lib.Seq.{sets}
 use Rattle.lists.proofs.Stores.{sets-append}
 use borrow.Author.Needs.{needs}
-use Rattle.numbers.proofs.put64.Statement.{statement}
-use Rattle.numbers.proofs.put64.Tie as tie
+use Rattle.put_numbers.proofs.put64.Statement.{statement}
+use Rattle.put_numbers.proofs.put64.Tie as tie
 
 halves : (l l1 l2 : List ℕ) (at v : ℕ) → l1 ≡ sets l at (bytes32 (v / 4294967296)) → l2 ≡ sets l1 (at + 4) (bytes32 (v % 4294967296)) → l2 ≡ sets l at (bytes64 v)
 unfolding bytes64 bytes32

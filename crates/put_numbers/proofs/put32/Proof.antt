@@ -1,11 +1,11 @@
 -- The four stores are the four bytes of the definition, one after the other.
 use Rattle.numbers.specs.Numbers.{bytes32}
 use native.Mathlib.Numerals.{add-one, add-two, add-three}
 use lib.ListN.{length-set}
 use native.Mathlib.Omega.{arith}
 use borrow.Author.Needs.{needs}
-use Rattle.numbers.proofs.put32.Statement.{statement}
-use Rattle.numbers.proofs.put32.Tie as tie
+use Rattle.put_numbers.proofs.put32.Statement.{statement}
+use Rattle.put_numbers.proofs.put32.Tie as tie
 
 returns : tie.Need-returns
 unfolding bytes32
