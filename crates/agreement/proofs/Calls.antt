@@ -35,9 +35,9 @@ use Rattle.kept.specs.declared.Kept.{Kept}
 use Rattle.summary.specs.Summary.{startWith, summaryAfter}
 use Rattle.summary.specs.declared.Summary.{Summary}
 use Rattle.summary.proofs.Laws.{summary-append}
-use Rattle.frame.specs.Issuing.{issueOf}
+use Rattle.issuing.specs.Issuing.{issueOf}
 use Rattle.sending.specs.Sending.{sendOf}
-use Rattle.frame.specs.Taking.{takeOf}
+use Rattle.taking.specs.Taking.{takeOf}
 use Rattle.frame.specs.Electing.{winnerOf}
 use Rattle.folding.specs.Folding.{foldOf}
 use Rattle.frame.specs.State.{heldBy, foldedBy}

@@ -21,7 +21,7 @@ use Rattle.one_order.proofs.FoldedSound as S
 use Rattle.one_order.proofs.FoldedOrder as O
 use Rattle.one_order.proofs.FoldedMachine.{wholly, one-order-folder}
 use Rattle.kept.specs.Kept.{keptNothing, keptAfter}
-use Rattle.frame.specs.Issuing.{issueOf}
+use Rattle.issuing.specs.Issuing.{issueOf}
 use Rattle.frame.specs.State.{foldedBy}
 use Rattle.agreement.specs.World.{Replica, Posted, World, Call, issue, send, take, elect, fold, replicaAt, messageAt, onSome, number, after}
 use Rattle.agreement.specs.Demand.{Founded, says, logAt, viewAt, order, IssuedIn, OneOrder}

@@ -8,10 +8,10 @@ use Rattle.protocol.specs.Issue.{withIssue}
 use Rattle.protocol.specs.Folding.{FoldedOffice, withFoldedIssue, refuseFoldedIssue}
 use Rattle.frame.specs.State.{foldedBy, holding}
 use Rattle.frame.specs.Soundness.{soundB}
-use Rattle.frame.specs.Issuing.{issueNumber, issueOf}
+use Rattle.issuing.specs.Issuing.{issueNumber, issueOf}
 use Rattle.frame.proofs.Sound.{sound-true}
 use Rattle.frame.proofs.State.{words-kept}
-use Rattle.frame.proofs.Issue.{issuedOffice, issue-made, issue-sound, issue-state, issue-keeps}
+use Rattle.issuing.proofs.Issues.{issuedOffice, issue-made, issue-sound, issue-state, issue-keeps}
 use Rattle.agreement.specs.World.{Replica, issued}
 use Rattle.agreement.proofs.View.{SoundReplica}
 use Rattle.agreement.proofs.Held.{Leaves, Moves, moves}

@@ -17,9 +17,9 @@ use Rattle.protocol.proofs.FoldedWorld.{names, number as numberF}
 use Rattle.one_order.proofs.FoldedSound as S
 use Rattle.one_order.proofs.FoldedOrder as O
 use Rattle.spelling.specs.Reading.{senderAt}
-use Rattle.frame.specs.Issuing.{issueOf}
+use Rattle.issuing.specs.Issuing.{issueOf}
 use Rattle.sending.specs.Sending.{sendOf}
-use Rattle.frame.specs.Taking.{takeOf}
+use Rattle.taking.specs.Taking.{takeOf}
 use Rattle.frame.specs.Electing.{electOf}
 use Rattle.folding.specs.Folding.{foldOf}
 use Rattle.agreement.specs.World.{Replica, Posted, World, Call, issue, send, take, elect, fold, replicaAt, messageAt, onSome, number}

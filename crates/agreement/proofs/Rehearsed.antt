@@ -32,11 +32,11 @@ use Rattle.writer.specs.Written.{contentOf, tailsOf}
 use Rattle.frame.specs.Electing.{electOf, electWords}
 use Rattle.folding.specs.Folding.{foldOf, foldWords}
 use Rattle.frame.specs.Founding.{foundNumber, foundOf}
-use Rattle.frame.specs.Issuing.{issueNumber, issueOf}
+use Rattle.issuing.specs.Issuing.{issueNumber, issueOf}
 use Rattle.sending.specs.Sending.{sendBytes, sendNumber, sendOf}
 use Rattle.frame.specs.Soundness.{soundB}
 use Rattle.frame.specs.State.{heldBy}
-use Rattle.frame.specs.Taking.{sameOffices, takeNumber, takeOf, takeWords, takenOffice}
+use Rattle.taking.specs.Taking.{sameOffices, takeNumber, takeOf, takeWords, takenOffice}
 use Rattle.agreement.specs.World.{Replica, Call, issue, send, take, elect, fold, number, step, after}
 use Rattle.agreement.specs.Demand.{order}
 use Rattle.agreement.proofs.ThreeOffices.{usualWeights, threeOffices}

@@ -20,10 +20,10 @@ use Rattle.spelling.proofs.Laws.{reading-valid}
 use Rattle.spelling.proofs.Valid.{valid-facts, valid-office}
 use Rattle.frame.specs.State.{foldedBy, holding}
 use Rattle.frame.specs.Soundness.{Sound}
-use Rattle.frame.specs.Taking.{sameOffices, takenOffice, takeOf, takeWords}
+use Rattle.taking.specs.Taking.{sameOffices, takenOffice, takeOf, takeWords}
 use Rattle.frame.proofs.State.{whole-length, folded-by, sound-of}
-use Rattle.frame.proofs.Take.{like, take-done-is}
-use Rattle.frame.proofs.Accept.{take-keeps}
+use Rattle.taking.proofs.Takes.{like, take-done-is}
+use Rattle.taking.proofs.Accept.{take-keeps}
 use Rattle.agreement.specs.World.{Replica, taken}
 use Rattle.agreement.proofs.View.{means, SoundReplica, Readable, means-content}
 use Rattle.agreement.proofs.Held.{Leaves, Moves, replica-fine, own-below, moves}

@@ -11,9 +11,9 @@ use lib.ListN.{set, getElem?}
 use Rattle.lists.specs.Tests.{pick}
 use Rattle.frame.specs.declared.Record.{Record}
 use Rattle.frame.specs.State.{goes, foldedBy}
-use Rattle.frame.specs.Issuing.{issueOf}
+use Rattle.issuing.specs.Issuing.{issueOf}
 use Rattle.sending.specs.Sending.{sendOf, sendBytes}
-use Rattle.frame.specs.Taking.{takeOf, takeWords}
+use Rattle.taking.specs.Taking.{takeOf, takeWords}
 use Rattle.frame.specs.Electing.{electOf, electWords}
 use Rattle.folding.specs.Folding.{foldOf, foldWords}
 

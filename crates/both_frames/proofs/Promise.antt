@@ -26,14 +26,14 @@ use Rattle.protocol.proofs.Moves.{proper-true}
 use Rattle.kept.specs.declared.Kept.{Kept}
 use Rattle.frame.specs.State.{heldBy, foldedBy}
 use Rattle.frame.specs.Soundness.{soundB}
-use Rattle.frame.specs.Issuing.{issueOf}
+use Rattle.issuing.specs.Issuing.{issueOf}
 use Rattle.both_frames.specs.Frames.{editIs, keptEdit, refusedFrame, frameOf, shownIn, settledFrameOf, tentativeFrameOf}
 use Rattle.frame.specs.declared.Record.{Record}
 use Rattle.both_frames.specs.declared.Edit.the-variants.{Code}
 use Rattle.frame.proofs.Sound.{sound-true}
 use Rattle.both_frames.proofs.Shown.{frame-shown, shown-done}
 use Rattle.frame.proofs.State.{folded-fine, kept-stays}
-use Rattle.frame.proofs.Issue.{issuedOffice, issue-made, issue-sound, issue-state, issue-kept, issue-keeps}
+use Rattle.issuing.proofs.Issues.{issuedOffice, issue-made, issue-sound, issue-state, issue-kept, issue-keeps}
 
 own-path : (k e : ℕ) (o : Office) → k < length (o .tails) → path (withIssue k e o) k ≡ path o k ++ (e ∷ [])
 unfolding withIssue

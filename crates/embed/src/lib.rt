@@ -4,12 +4,12 @@
 ghost use mathlib.Core.Path.{_≡_};
 ghost use Rattle.frame.specs.Soundness.{soundB};
 ghost use Rattle.frame.specs.Founding.{foundOf};
-ghost use Rattle.frame.specs.Issuing.{issueOf};
+ghost use Rattle.issuing.specs.Issuing.{issueOf};
 ghost use Rattle.both_frames.specs.Frames.{settledFrameOf, tentativeFrameOf, allLinesOf};
 ghost use Rattle.frame.specs.Electing.{electOf, electWords};
 ghost use Rattle.folding.specs.Folding.{foldOf, foldWords};
 ghost use Rattle.sending.specs.Sending.{sendOf, sendBytes};
-ghost use Rattle.frame.specs.Taking.{takeOf, takeWords};
+ghost use Rattle.taking.specs.Taking.{takeOf, takeWords};
 ghost use Rattle.sheet.specs.Sheet.{sheetOf};
 ghost use Rattle.earlier.specs.Earlier.{earlierOf};
 ghost use Rattle.archive.specs.Writing.{writeOf, writeBytes};
@@ -29,12 +29,12 @@ use folding::Folded;
 use frame::Record;
 use frame::electing::Elected;
 use frame::founding::Founded;
-use frame::issuing::Issued;
-use frame::taking::Taken;
+use issuing::Issued;
 use outcome::Outcome;
 use sending::Sent;
 use sheet::Sheet;
 use standing::Standing;
+use taking::Taken;
 use tallies::Winner;
 
 // Eight weights. An array by itself cannot cross to C; a struct that holds one can.
@@ -108,7 +108,7 @@ pub extern "C" fn joukerpan_sound(office: Record, log: &[u32]) -> bool
 pub extern "C" fn joukerpan_issue(office: Record, log: &[u32], line: u32, code: u32) -> Issued
     ensures { λ r. ⌜ r ≡ issueOf office (now (log .entry)) line code ⌝ }
 {
-    office.issue(log, line, code)
+    issuing::issue(office, log, line, code)
 }
 
 // How many words at the front of the log are settled entries that are not dropped.
@@ -185,7 +185,7 @@ pub extern "C" fn joukerpan_take(office: Record, log: &mut [u32], message: &[u8]
     ensures answer { λ r. ⌜ r ≡ takeOf office (now (log .entry)) (now (message .entry)) ⌝ }
     ensures words { λ _. ⌜ now (log .exit) ≡ takeWords office (now (log .entry)) (now (message .entry)) ⌝ }
 {
-    office.take(log, message)
+    taking::take(office, log, message)
 }
 
 // What became of the own entries that were pending before a take, elect or fold; those that are not settled are written to the front of `rest`.

@@ -1,5 +1,6 @@
 -- What founding answers, and what it leaves.
 --     found-short, found-unfit, found-made    each way out of the call
+--     weights-fine    the founding weights of a record are within the limits
 --     found-sound     a done founding makes a sound record, with the fresh state
 --     found-zero      a refused one makes the all-zero record
 -- Assumes nothing.
@@ -12,10 +13,11 @@ use lib.Dec.{leb}
 use lib.ListN.{length, replicate}
 use borrow.Author.Tests.{leb-true, le-leb, lt-leb}
 use Rattle.lists.specs.Tests.{pick}
+use Rattle.lists.proofs.Tests.{both-1}
 use Rattle.protocol.specs.Folding.{unfolded}
 use Rattle.protocol.proofs.FoldedLimits.{unfolded-fine}
 use Rattle.protocol.proofs.Limits as Limits
-use Rattle.protocol.specs.Limits.{headFine, Head}
+use Rattle.protocol.specs.Limits.{headFine, weightsFine, Head}
 use Rattle.ballots.specs.Ballots.{noBallot}
 use Rattle.summary.specs.Summary.{startWith}
 use Rattle.summary.proofs.Laws.{summary-nil}
@@ -28,7 +30,6 @@ use Rattle.frame.specs.Founding.{foundNumber, foundOf}
 use Rattle.frame.specs.declared.Record.{Record}
 use Rattle.frame.specs.declared.founding.Founded.{Founded}
 use Rattle.frame.proofs.State.{held-behind, sound-behind}
-use Rattle.frame.proofs.Ineffective.{weights-fine}
 
 -- ── each way out of the call ──
 module _ (n own : ℕ) (ws words : List ℕ) where
@@ -45,6 +46,10 @@ module _ (n own : ℕ) (ws words : List ℕ) where
   found-made r e h f = rw (le-leb 1024 (length words) h, f) (λ i. record { number = 0; «record» = e i })
 
 -- ── what it leaves ──
+pub weights-fine : (n own : ℕ) (founding : List ℕ) → Head n own founding → weightsFine n founding ≡ true
+unfolding headFine
+weights-fine n own founding H = both-1 _ _ (Limits.head-true n own founding H)
+
 -- what a done founding found, and the record that it made
 pub record FoundDone (n own : ℕ) (ws words : List ℕ) : Type 0 where
   pub room : 1024 ≤ length words

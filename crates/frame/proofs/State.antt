@@ -85,9 +85,6 @@ module _ (r : Record) (words : List ℕ) (S : Sound r words) where
   pub own-fine : (b : Ballot) → b ≡ ownBallot r → B.Fine (r .n) (heldLength r) b
   own-fine b q = subst (B.Fine (r .n) (heldLength r)) (sym q) (ballot (r .own) (omega (arith, S .head .member, S .head .most)))
 
-  pub tail-length : (k : ℕ) → k < 8 → length (tail (heldBy r words) k) ≡ getD (r .ballots) k offEnd .len
-  tail-length k h = ap length (tail-at r words k) ∙ B.tail-length (r .n) (heldLength r) (getD (r .ballots) k offEnd) (ballot k h)
-
   pub folded-fine : FoldedFine (r .n) (r .own) (foldedBy r words)
   folded-fine = fields.folded-fine (r .n) (r .own) (r .weights) (r .kept) (r .noted) (r .summary) (r .settled) (r .ballots) words S
 

@@ -3,7 +3,5 @@ pub mod State
 pub mod Stepping
 pub mod Soundness
 pub mod Founding
-pub mod Issuing
 pub mod Message
 pub mod Electing
-pub mod Taking

@@ -2,7 +2,7 @@
 -- definitions. Assumes nothing.
 use Prim.Native.Nat.{ℕ, _+_, _-_}
 use mathlib.Core.List.{List, [], map}
-use lib.ListN.{length, getD, set, take, replicate}
+use lib.ListN.{length, getD, take, replicate}
 use Rattle.protocol.specs.Office.{Office}
 use Rattle.protocol.specs.Folding as F
 use Rattle.ballots.specs.Ballots as B
@@ -50,10 +50,7 @@ withNoted r noted = withHeld r (r .kept) noted (r .summary) (r .settled) (r .bal
 abbrev pub withBallots : Record → List Ballot → Record
 withBallots r ballots = withHeld r (r .kept) (r .noted) (r .summary) (r .settled) ballots
 
--- with another own ballot, and the own ballot
-abbrev pub withOwn : Record → Ballot → Record
-withOwn r b = withBallots r (set (r .ballots) (r .own) b)
-
+-- the own ballot
 abbrev pub ownBallot : Record → Ballot
 ownBallot r = getD (r .ballots) (r .own) B.offEnd
 

@@ -1,19 +1,16 @@
-// An office's record, whether it is sound, and the calls found, issue, take and elect of the shared coding frame on it; fold, send, settled and the
+// An office's record, whether it is sound, and the calls found and elect of the shared coding frame on it; issue, take, fold, send, settled and the
 // frames stand above. A call takes the record by value and its log as a lent slice; its answer has the paper's number, 0 when it is done, behind the
 // next record where there is one.
 ghost use mathlib.Core.Path.{_≡_};
 ghost use Rattle.frame.specs.Soundness.{soundB};
-ghost use Prim.Native.Nat.{_+_, _<_, _≤_};
-ghost use Rattle.frame.specs.State.{heldLength, stateIn, withKept, withNoted, withState, ownBallot, withOwn};
+ghost use Prim.Native.Nat.{_≤_};
+ghost use Rattle.frame.specs.State.{heldLength};
 use ballots::Ballot;
-use elections::State;
 use kept::Kept;
 use summary::Summary;
 
 pub mod electing;
 pub mod founding;
-pub mod issuing;
-pub mod taking;
 
 // n offices with their founding weights, the own office, what is kept of the dropped entries, the longest settled length in accepted messages of
 // each other office, what the settled log has done (the present weights, the settled codes), the settled length, dropped entries included, and each
@@ -71,60 +68,5 @@ impl Record {
         ensures { λ r. ⌜ r ≡ heldLength self ⌝ }
     {
         (self.settled - self.kept.dropped) as usize
-    }
-
-    // The record with other kept values and other noted lengths: what a take changes besides.
-    fn with_kept_and_noted(self, kept: Kept, noted: [u64; 8]) -> Record
-        ensures { λ r. ⌜ r ≡ withNoted (withKept self kept) noted ⌝ }
-    {
-        let mut next = self;
-        next.kept = kept;
-        next.noted = noted;
-        next
-    }
-
-    // What takes and elections change of the record, and the record with that changed.
-    fn state(self) -> State
-        requires { ⌜ self .kept .dropped ≤ self .settled ⌝ }
-        ensures { λ r. ⌜ r ≡ stateIn self ⌝ }
-    {
-        let summary = self.summary;
-        let ballots = self.ballots;
-        State {
-            summary,
-            held: (self.settled - self.kept.dropped) as usize,
-            ballots,
-        }
-    }
-
-    fn with_state(self, state: State) -> Record
-        requires { ⌜ self .kept .dropped + state .held < 18446744073709551616 ⌝ }
-        ensures { λ r. ⌜ r ≡ withState self state ⌝ }
-    {
-        let summary = state.summary;
-        let ballots = state.ballots;
-        let mut next = self;
-        next.summary = summary;
-        next.settled = self.kept.dropped + state.held as u64;
-        next.ballots = ballots;
-        next
-    }
-
-    // The own ballot, and the record with another one.
-    fn own_ballot(self) -> Ballot
-        requires { ⌜ self .own < 8 ⌝ }
-        ensures { λ r. ⌜ r ≡ ownBallot self ⌝ }
-    {
-        self.ballots[self.own]
-    }
-
-    fn with_own(self, b: Ballot) -> Record
-        requires { ⌜ self .own < 8 ⌝ }
-        ensures { λ r. ⌜ r ≡ withOwn self b ⌝ }
-    {
-        let own = self.own;
-        let mut next = self;
-        next.ballots[own] = b;
-        next
     }
 }

@@ -14,7 +14,7 @@ use Rattle.pending.specs.Parts.{Stands}
 use Rattle.lists.specs.Tests.{both, pick}
 use Rattle.spelling.specs.Reading.{reading, layoutOk, headOk}
 use Rattle.frame.specs.Soundness.{soundB}
-use Rattle.frame.specs.Taking.{takeNumber, takeOf, takeWords}
+use Rattle.taking.specs.Taking.{takeNumber, takeOf, takeWords}
 use Rattle.frame.proofs.Sound.{sound-true}
 use Rattle.outcome.specs.Outcome.{lostEntries, reportOf}
 use Rattle.outcome.specs.Claims.{Called, took, elected, folded, wholeOf, formerAfter, AfterCall}

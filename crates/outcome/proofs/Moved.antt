@@ -1,5 +1,5 @@
--- What a take, elect or fold leaves of an office, by what `frame` promises: a front part of the log is gone, and behind it the log grows and a path that
--- still extends it stays.
+-- What a take, elect or fold leaves of an office, by what the calls promise: a front part of the log is gone, and behind it the log grows and a path
+-- that still extends it stays.
 --     moved           of each of the calls, done or refused
 --     fold-same       fold changes nothing else
 -- Assumes nothing.
@@ -21,14 +21,14 @@ use Rattle.spelling.specs.Content.{asPacket}
 use Rattle.ballots.specs.Ballots.{wordsWith}
 use Rattle.frame.specs.State.{heldLength, heldBy, foldedBy, holding}
 use Rattle.frame.specs.Soundness.{soundB, Sound}
-use Rattle.frame.specs.Taking.{takeNumber, takeOf, takeWords}
+use Rattle.taking.specs.Taking.{takeNumber, takeOf, takeWords}
 use Rattle.frame.specs.Electing.{ruleOf, electedOf, electOf, electWords}
 use Rattle.folding.specs.Folding.{shortenedOf, foldOf, foldWords}
 use Rattle.frame.specs.declared.Record.{Record}
 use Rattle.frame.proofs.Sound.{sound}
 use Rattle.frame.proofs.State.{whole-length, folded-fine, folded-by, sound-of}
-use Rattle.frame.proofs.Take.{Accepted, accepted, packet-fine, taken-office, take-done-is}
-use Rattle.frame.proofs.Accept.{take-keeps}
+use Rattle.taking.proofs.Takes.{Accepted, accepted, packet-fine, taken-office, take-done-is}
+use Rattle.taking.proofs.Accept.{take-keeps}
 use Rattle.frame.proofs.Elect.{elect-zero, elect-done, elect-sound, elect-state}
 use Rattle.folding.proofs.Folds.{goneOf, gone-within, fold-zero, fold-done, fold-sound, fold-state}
 use Rattle.outcome.specs.Claims.{Called, took, elected, folded}

@@ -17,7 +17,7 @@ use Rattle.protocol.specs.Beginning.{_⊑_}
 use Rattle.protocol.specs.Office.{Office}
 use Rattle.pending.specs.Parts.{settledPart, pendingPart, entriesOf, Loses, Stands}
 use Rattle.frame.specs.State.{heldBy, foldedBy, goes}
-use Rattle.frame.specs.Taking.{takeOf, takeWords}
+use Rattle.taking.specs.Taking.{takeOf, takeWords}
 use Rattle.frame.specs.Electing.{electOf, electWords}
 use Rattle.folding.specs.Folding.{foldOf, foldWords}
 use Rattle.frame.specs.declared.Record.{Record}

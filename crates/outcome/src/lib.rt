@@ -1,5 +1,5 @@
 // What became of an edit: of the own office's entries that were pending before a take, elect or fold, how many settled, which are pending still and
-// which are lost. A call above `frame`, which uses only what frame's calls promise.
+// which are lost. A call above `frame`, `taking` and `folding`, which uses only what their calls promise.
 ghost use mathlib.Core.Path.{_≡_};
 ghost use Prim.Native.Nat.{_≤_};
 ghost use Rattle.outcome.specs.Outcome.{follows, reportOf, reportWords};

@@ -17,7 +17,7 @@ use Rattle.protocol.proofs.Limits.{tail-at}
 use Rattle.protocol.proofs.Issue as Issue
 use Rattle.frame.specs.State.{heldBy, foldedBy}
 use Rattle.frame.specs.Soundness.{soundB}
-use Rattle.frame.specs.Issuing.{issueNumber}
+use Rattle.issuing.specs.Issuing.{issueNumber}
 use Rattle.frame.specs.declared.Record.{Record}
 use Rattle.frame.proofs.Sound.{sound}
 use Rattle.frame.proofs.State.{log-length, whole-length, folded-fine}

@@ -3,8 +3,9 @@
 --     never-4           (r : Record) (words : List ℕ) (line code : ℕ) → issueNumber r words line code ≡ 4 → ⊥
 --     full-has-part     (r : Record) (words : List ℕ) → soundB r words ≡ true → FullHasPart r words
 --     stopped-by-5      (r : Record) (words : List ℕ) → soundB r words ≡ true → StoppedBy5 r words
--- That a done issue, take, elect or fold leaves a sound record, and so tails within their parts, is `issue-sound`, `take-sound`, `elect-sound`
--- (frame/proofs) and `fold-sound` (folding/proofs); that a message that a sound record sends is read is `send-read` (sending/proofs). Assumes nothing.
+-- That a done issue, take, elect or fold leaves a sound record, and so tails within their parts, is `issue-sound` (issuing/proofs), `take-sound`
+-- (taking/proofs), `elect-sound` (frame/proofs) and `fold-sound` (folding/proofs); that a message that a sound record sends is read is `send-read`
+-- (sending/proofs). Assumes nothing.
 use mathlib.Core.Path.{_≡_}
 use mathlib.Core.Bool.{true}
 use mathlib.Core.List.{List}
@@ -17,7 +18,7 @@ use Rattle.protocol.specs.Counts.{countIn}
 use Rattle.protocol.specs.Limits.{lengthLimit}
 use Rattle.protocol.specs.Office.{tail}
 use Rattle.frame.specs.State.{heldLength, heldBy}
-use Rattle.frame.specs.Issuing.{issueNumber}
+use Rattle.issuing.specs.Issuing.{issueNumber}
 use Rattle.frame.specs.declared.Record.{Record}
 
 -- "In any tail at most 32 / n entries, rounded down, may come from one office": in the tail of office k those of office j

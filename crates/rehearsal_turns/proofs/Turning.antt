@@ -10,14 +10,14 @@ use lib.ListN.{length, getD, take, drop, length-drop}
 use Rattle.rehearsal_commands.specs.Command.{letterI, letterS, letterT, letterE, letterV}
 use Rattle.rehearsal_answers.specs.declared.Answer.{Answer}
 use Rattle.frame.specs.declared.Record.{Record}
-use Rattle.frame.specs.declared.issuing.Issued.{Issued}
+use Rattle.issuing.specs.declared.Issued.{Issued}
 use Rattle.sending.specs.declared.Sent.{Sent}
 use Rattle.frame.specs.declared.electing.Elected.{Elected}
 use Rattle.both_frames.specs.declared.Framed.{Framed}
-use Rattle.frame.specs.Issuing.{issueOf}
+use Rattle.issuing.specs.Issuing.{issueOf}
 use Rattle.sending.specs.Sending.{sendOf, sendBytes}
-use Rattle.frame.specs.declared.taking.Taken.{Taken}
-use Rattle.frame.specs.Taking.{takeOf, takeWords}
+use Rattle.taking.specs.declared.Taken.{Taken}
+use Rattle.taking.specs.Taking.{takeOf, takeWords}
 use Rattle.frame.specs.Electing.{electOf}
 use Rattle.both_frames.specs.Frames.{settledFrameOf, tentativeFrameOf}
 use Rattle.rehearsal_turns.specs.declared.Turn.{Turn}

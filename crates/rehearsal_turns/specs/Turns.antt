@@ -8,9 +8,9 @@ use Rattle.rehearsal_commands.specs.declared.Command.{Command}
 use Rattle.rehearsal_commands.specs.declared.Command.the-variants.{Found, Issue, Send, Take, Elect, View}
 use Rattle.rehearsal_commands.specs.Command.{letterI, letterS, letterT, letterE, letterV}
 use Rattle.frame.specs.declared.Record.{Record}
-use Rattle.frame.specs.Issuing.{issueOf}
+use Rattle.issuing.specs.Issuing.{issueOf}
 use Rattle.sending.specs.Sending.{sendOf, sendBytes}
-use Rattle.frame.specs.Taking.{takeOf, takeWords}
+use Rattle.taking.specs.Taking.{takeOf, takeWords}
 use Rattle.frame.specs.Electing.{electOf, electWords}
 use Rattle.both_frames.specs.Frames.{settledFrameOf, tentativeFrameOf}
 use Rattle.rehearsal_turns.specs.declared.Turn.{Turn}

@@ -111,7 +111,7 @@ fn stay(record: Record, lengths: [usize; 4]) -> Turn
 fn issue_turn(record: Record, lengths: [usize; 4], log: &[u32], line: u32, code: u32) -> Turn
     ensures { λ r. ⌜ r ≡ issueTurn «record» lengths (now (log .entry)) line code ⌝ }
 {
-    let issued = record.issue(log, line, code);
+    let issued = issuing::issue(record, log, line, code);
     let next = issued.record;
     let answer = says_one(b'i', issued.number);
     Turn {
@@ -161,7 +161,7 @@ fn take_turn(record: Record, lengths: [usize; 4], log: &mut [u32], slots: &[u8],
     let from = m * SLOT;
     let size = within(lengths[m], SLOT);
     let to = from + size;
-    let taken = record.take(log, &slots[from..to]);
+    let taken = taking::take(record, log, &slots[from..to]);
     let next = taken.record;
     let answer = says_one(b't', taken.number);
     Turn {

@@ -38,10 +38,10 @@ use Rattle.writer.specs.Written.{contentOf, tailsOf}
 use Rattle.frame.specs.Electing.{electOf, electWords}
 use Rattle.folding.specs.Folding.{foldOf, foldWords}
 use Rattle.frame.specs.Founding.{foundNumber, foundOf}
-use Rattle.frame.specs.Issuing.{issueNumber, issueOf}
+use Rattle.issuing.specs.Issuing.{issueNumber, issueOf}
 use Rattle.sending.specs.Sending.{sendBytes, sendNumber, sendOf}
 use Rattle.frame.specs.Soundness.{soundB}
-use Rattle.frame.specs.Taking.{sameOffices, takeNumber, takeOf, takeWords, takenOffice}
+use Rattle.taking.specs.Taking.{sameOffices, takeNumber, takeOf, takeWords, takenOffice}
 use Rattle.agreement.specs.World.{Replica, Posted, World, Call, issue, send, take, replicaAt, messageAt, number, issued, taken, elected, step, after}
 use Rattle.agreement.specs.Demand.{Founded, says}
 use Rattle.agreement.proofs.Founded.{foundReplica}

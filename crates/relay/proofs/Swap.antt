@@ -21,7 +21,7 @@ use Rattle.kept.specs.declared.Kept.{Kept}
 use Rattle.summary.specs.Summary.{summaryAfter}
 use Rattle.frame.specs.declared.Record.{Record}
 use Rattle.frame.specs.State.{heldBy, foldedBy}
-use Rattle.frame.specs.Taking.{takeOf}
+use Rattle.taking.specs.Taking.{takeOf}
 use Rattle.frame.proofs.State.{held, whole-length}
 use Rattle.agreement.specs.World.{Replica, Posted, World, Call, take, replicaAt, messageAt, onSome, number, taken, put, step, after}
 use Rattle.agreement.specs.Demand.{Founded}

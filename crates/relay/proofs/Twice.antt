@@ -25,12 +25,12 @@ use Rattle.kept.specs.declared.Kept.{Kept}
 use Rattle.frame.specs.declared.Record.{Record}
 use Rattle.frame.specs.State.{foldedBy}
 use Rattle.frame.specs.Soundness.{soundB}
-use Rattle.frame.specs.Taking.{sameOffices, takeOf, takeWords}
+use Rattle.taking.specs.Taking.{sameOffices, takeOf, takeWords}
 use Rattle.frame.specs.Electing.{electedOf, electOf, electWords}
 use Rattle.frame.proofs.Sound.{sound, sound-true}
 use Rattle.frame.proofs.State.{kept-stays}
-use Rattle.frame.proofs.Take.{Accepted, accepted}
-use Rattle.frame.proofs.Accept.{take-keeps}
+use Rattle.taking.proofs.Takes.{Accepted, accepted}
+use Rattle.taking.proofs.Accept.{take-keeps}
 use Rattle.frame.proofs.Elect.{elect-done}
 use Rattle.agreement.specs.World.{Replica, taken, elected}
 use Rattle.agreement.specs.Demand.{says}

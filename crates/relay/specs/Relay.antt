@@ -5,8 +5,8 @@
 --     either-order    (n : ℕ) (weights : List ℕ) (start : World) → Founded n weights start
 --                     → (cs : List Call) → EitherOrder (after start cs)                                           proofs/Swap.antt
 -- A `Replica` is a record with the words of its log and the entries that it has dropped, and `says` is what they hold: the settled log, dropped
--- entries included, and the tails of the ballots. Take and elect are those that the contracts of `frame` cite; `taken` and `elected` are what
--- they leave (agreement/specs/World). Assumes nothing.
+-- entries included, and the tails of the ballots. Take and elect are those that the contracts of `taking` and `frame` cite; `taken` and `elected` are
+-- what they leave (agreement/specs/World). Assumes nothing.
 use mathlib.Core.Path.{_≡_}
 use mathlib.Core.List.{List}
 use mathlib.Core.Option.{some}
@@ -18,7 +18,7 @@ use Rattle.protocol.specs.Office.{tail, path}
 use Rattle.ballots.specs.Ballots.{noBallot}
 use Rattle.frame.specs.declared.Record.{Record}
 use Rattle.frame.specs.State.{heldBy, withBallots}
-use Rattle.frame.specs.Taking.{takeOf}
+use Rattle.taking.specs.Taking.{takeOf}
 use Rattle.frame.specs.Electing.{electOf}
 use Rattle.agreement.specs.World.{Replica, Posted, World, replicaAt, messageAt, taken, elected}
 use Rattle.agreement.specs.Demand.{says}

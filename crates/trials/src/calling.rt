@@ -130,7 +130,7 @@ fn make(record: Record, line: Line, log: &[u32], output: &mut [u8], message: &[u
         b'I' => {
             let place = (line.first % 4294967296) as u32;
             let code = (line.second % 4294967296) as u32;
-            let issued = record.issue(log, place, code);
+            let issued = issuing::issue(record, log, place, code);
             print(issued.number as u64);
             return issued.record;
         }
@@ -168,7 +168,7 @@ fn change(
             folded.record
         }
         b'T' => {
-            let taken = record.take(log, message);
+            let taken = taking::take(record, log, message);
             tell(taken.number, taken.places as u64);
             taken.record
         }

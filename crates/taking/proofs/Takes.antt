@@ -38,12 +38,12 @@ use Rattle.comparing.specs.Checking.{checkedBy}
 use Rattle.comparing.specs.declared.Checked.{Checked}
 use Rattle.acceptance.proofs.Numbers.{refusal-folded}
 use Rattle.reading.proofs.Answers.{rest-of-message}
 use Rattle.frame.specs.State.{heldLength, foldedBy, holding}
 use Rattle.frame.specs.Soundness.{soundB, Sound}
-use Rattle.frame.specs.Taking.{sameOffices, onReading, sharedPlaces, takeNumber, takePlaces, takenOffice, takeOf, takeWords}
+use Rattle.taking.specs.Taking.{sameOffices, onReading, sharedPlaces, takeNumber, takePlaces, takenOffice, takeOf, takeWords}
 use Rattle.frame.specs.declared.Record.{Record}
-use Rattle.frame.specs.declared.taking.Taken.{Taken}
+use Rattle.taking.specs.declared.Taken.{Taken}
 use Rattle.frame.proofs.Sound.{sound, sound-true}
 
 pub take-refused : (r : Record) (words s : List ℕ) (x p : ℕ) → x ≡ takeNumber r words s → p ≡ takePlaces r words s → (x ≡ 0 → ⊥)
     → (_≡_ {A = Taken} (record { number = x; places = p; «record» = r }) (takeOf r words s)) × (words ≡ takeWords r words s)

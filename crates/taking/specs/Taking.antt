@@ -10,11 +10,11 @@ use Rattle.protocol.specs.Folding as F
 use Rattle.shared_places.specs.FromEnd.{compares, placesFromEnd}
 use Rattle.spelling.specs.Content.{Content, asPacket}
 use Rattle.spelling.specs.Reading.{reading}
 use Rattle.frame.specs.State.{foldedBy, holding}
 use Rattle.ballots.specs.Ballots.{wordsWith}
 use Rattle.frame.specs.Soundness.{soundB}
 use Rattle.frame.specs.declared.Record.{Record}
-use Rattle.frame.specs.declared.taking.Taken.{Taken}
+use Rattle.taking.specs.declared.Taken.{Taken}
 
 -- the message has the record's n and its n weights
 unfoldable pub sameOffices : Record → Content → Bool

@@ -28,15 +28,15 @@ use Rattle.spelling.proofs.Valid.{valid-facts}
 use Rattle.spelling.proofs.Laws.{reading-spelling, spelling-reading}
 use Rattle.writer.specs.Written as written
 use Rattle.kept.specs.declared.Kept.{Kept}
 use Rattle.frame.specs.State.{foldedBy, keptBy, holdingBehind, holding, freshRecord}
 use Rattle.protocol.specs.Limits.{Head}
 use Rattle.frame.specs.Soundness.{Sound}
 use Rattle.frame.specs.Message.{contentOf, messageOf}
-use Rattle.frame.specs.Taking.{sameOffices, takeNumber, takePlaces, takeOf, takeWords}
+use Rattle.taking.specs.Taking.{sameOffices, takeNumber, takePlaces, takeOf, takeWords}
 use Rattle.frame.specs.declared.Record.{Record}
 use Rattle.frame.proofs.State.{whole-length, folded-fine, folded-by, sound-behind, sound-of}
-use Rattle.frame.proofs.Ineffective.{ineffective, ineffective-fine}
-use Rattle.frame.proofs.Take.{Accepted, accepted, same-count, packet-fine, take-refused, take-done-is, taken-office, not-read, other, like}
+use Rattle.taking.proofs.Ineffective.{ineffective, ineffective-fine}
+use Rattle.taking.proofs.Takes.{Accepted, accepted, same-count, packet-fine, take-refused, take-done-is, taken-office, not-read, other, like}
 
 number-is : (r : Record) (words s : List ℕ) → takeOf r words s .number ≡ takeNumber r words s
 unfolding takeOf

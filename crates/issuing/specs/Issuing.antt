@@ -2,13 +2,19 @@
 use Prim.Native.Nat.{ℕ}
 use mathlib.Core.List.{List}
 use lib.Dec.{eqb}
+use lib.ListN.{set}
 use Rattle.lists.specs.Tests.{pick}
 use Rattle.protocol.specs.Entry.{value}
 use Rattle.protocol.specs.Folding.{withFoldedIssue, refuseFoldedIssue}
-use Rattle.frame.specs.State.{foldedBy, holding}
+use Rattle.ballots.specs.declared.Ballot.{Ballot}
+use Rattle.frame.specs.State.{foldedBy, withBallots, holding}
 use Rattle.frame.specs.Soundness.{soundB}
 use Rattle.frame.specs.declared.Record.{Record}
-use Rattle.frame.specs.declared.issuing.Issued.{Issued}
+use Rattle.issuing.specs.declared.Issued.{Issued}
+
+-- the record with another own ballot
+abbrev pub withOwn : Record → Ballot → Record
+withOwn r b = withBallots r (set (r .ballots) (r .own) b)
 
 -- 1: "record unsound, or log below 1024 words"; 3, 5 and 11 are the protocol's
 unfoldable pub issueNumber : Record → List ℕ → ℕ → ℕ → ℕ

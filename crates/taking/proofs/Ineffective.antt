@@ -1,7 +1,6 @@
 -- Dropped entries that have done nothing: what is kept of them may be kept in a sound record.
 --     ineffective         the founding weights, no code, and all the entries office 0's
 --     ineffective-fine    within the limits
---     weights-fine        the founding weights of a record are within the limits
 -- Assumes nothing.
 use mathlib.Core.Path.{_≡_, refl}
 use mathlib.Core.Bool.{true}
@@ -12,20 +11,16 @@ use native.Mathlib.Nat.{not-suc-le-zero}
 use lib.Dec.{eqb}
 use lib.ListN.{drop, replicate}
 use Rattle.lists.specs.Tests.{allB}
-use Rattle.lists.proofs.Tests.{both-1, all-drop, all-replicate}
-use Rattle.protocol.specs.Limits.{Head, total, weightsFine, headFine}
-use Rattle.protocol.proofs.Limits.{head-true}
+use Rattle.lists.proofs.Tests.{all-drop, all-replicate}
+use Rattle.protocol.specs.Limits.{Head, total}
 use Rattle.summary.specs.Summary.{startWith}
 use Rattle.kept.specs.Kept.{KeptFacts}
 use Rattle.kept.specs.declared.Kept.{Kept}
 use Rattle.kept.proofs.Laws.{nothing-fine}
+use Rattle.frame.proofs.Found.{weights-fine}
 
 abbrev pub ineffective : List ℕ → ℕ → Kept
 ineffective founding dropped = record { dropped = dropped; summary = startWith founding; counts = dropped ∷ replicate 7 0 }
-
-pub weights-fine : (n own : ℕ) (founding : List ℕ) → Head n own founding → weightsFine n founding ≡ true
-unfolding headFine
-weights-fine n own founding H = both-1 _ _ (head-true n own founding H)
 
 total-first : (x : ℕ) → total (x ∷ replicate 7 0) ≡ x
 unfolding total

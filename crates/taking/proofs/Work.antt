@@ -32,12 +32,12 @@ use Rattle.elections.specs.declared.State.{State}
 use Rattle.summary.specs.Summary.{summaryAfter}
 use Rattle.kept.specs.Kept.{keptAfter}
 use Rattle.kept.specs.declared.Kept.{Kept}
 use Rattle.frame.specs.State.{heldLength, stateIn, withHeld, withState, withKept, withNoted, heldBy, foldedBy, keptBy, holding}
-use Rattle.frame.specs.Taking.{takeNumber, takePlaces, takenOffice, takeOf, takeWords}
+use Rattle.taking.specs.Taking.{takeNumber, takePlaces, takenOffice, takeOf, takeWords}
 use Rattle.frame.specs.declared.Record.{Record}
-use Rattle.frame.specs.declared.taking.Taken.{Taken}
+use Rattle.taking.specs.declared.Taken.{Taken}
 use Rattle.frame.proofs.State as Held
-use Rattle.frame.proofs.Take.{Says, says, valid, restOf, packet-in, tails-in, done-comparable, Accepted, accepted, packet-fine, taken-office, take-done-is, take-answer}
+use Rattle.taking.proofs.Takes.{Says, says, valid, restOf, packet-in, tails-in, done-comparable, Accepted, accepted, packet-fine, taken-office, take-done-is, take-answer}
 
 -- ── the code's work on an accepted message ──
 module _ (r : Record) (words s : List ℕ) (m : Reading) (e : takeNumber r words s ≡ 0) (is : m ≡ readingOf (reading s)) where

@@ -28,13 +28,13 @@ use Rattle.ballots.specs.declared.Ballot.{Ballot}
 use Rattle.summary.specs.Summary.{summaryAfter}
 use Rattle.kept.specs.declared.Kept.{Kept}
 use Rattle.ballots.proofs.Laws as B
-use Rattle.frame.specs.State.{heldLength, heldBy, foldedBy, withHeld, ownBallot, withOwn, keptBy}
+use Rattle.frame.specs.State.{heldLength, heldBy, foldedBy, withHeld, ownBallot, keptBy}
 use Rattle.frame.specs.Soundness.{soundB, Sound}
-use Rattle.frame.specs.Issuing.{issueNumber, issuedRecord, issueOf}
+use Rattle.issuing.specs.Issuing.{withOwn, issueNumber, issuedRecord, issueOf}
 use Rattle.frame.specs.declared.Record.{Record}
-use Rattle.frame.specs.declared.issuing.Issued.{Issued}
+use Rattle.issuing.specs.declared.Issued.{Issued}
 use Rattle.frame.proofs.Sound.{sound, sound-true}
-use Rattle.frame.proofs.State.{log-length, whole-length, words-kept, ballot, tail-at, tail-length, folded-fine, kept-stays, folded-by, sound-of}
+use Rattle.frame.proofs.State.{log-length, whole-length, words-kept, ballot, tail-at, folded-fine, kept-stays, folded-by, sound-of}
 
 -- ── the number, with the record's fields ──
 pub number-unsound : (r : Record) (words : List ℕ) (line code : ℕ) → soundB r words ≡ false → 1 ≡ issueNumber r words line code
@@ -75,7 +75,7 @@ module _ (r : Record) (words : List ℕ) (S : Sound r words) (line code : ℕ) w
 
   -- each way out, by the own ballot's length
   tail-is : length (tail (heldBy r words) (r .own)) ≡ len
-  tail-is = tail-length r words S (r .own) (omega arith)
+  tail-is = ap length (tail-at r words (r .own)) ∙ B.tail-length (r .n) (heldLength r) mine (ballot r words S (r .own) (omega arith))
 
   -- the number by the record's own length and ballot
   pub number-at : (b : Ballot) → b ≡ ownBallot r → (held : ℕ) → held ≡ heldLength r → (k : ℕ) → k ≡ refusalAt (r .n) line code (r .settled) held (b .len) (countIn (r .own) (tailOf b))

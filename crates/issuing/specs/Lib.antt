@@ -1,0 +1,2 @@
+-- The definitions that the contracts of `issuing` cite.
+pub mod Issuing

@@ -1,0 +1,2 @@
+-- The definitions that the contract of `taking` cites.
+pub mod Taking
