@@ -5,26 +5,19 @@ ghost use mathlib.Core.List.{[], _∷_, _++_};
 ghost use Prim.Native.Nat.{_+_, _≤_};
 ghost use lib.ListN.{length};
 ghost use lib.Seq.{sets};
-ghost use Rattle.protocol.specs.Entry.{officeOf};
 ghost use Rattle.ballots.specs.Ballots.{tailOf};
 ghost use Rattle.frame.specs.Electing.{electOf};
 ghost use Rattle.tables.specs.Tables.{tables, tableAt};
 ghost use Rattle.table_lines.specs.Lines.{shown, emptyLog, withTable, settledFrom, lineOf, linesOf, few};
 use ballots::Ballot;
 use decimal::put_number;
+use entries::office_of;
 use frame::Record;
 use tables::TABLES;
 use tables::table_at;
 
 // The most bytes that are printed: 2197 lines of at most 28, and behind them room for a number's 20 digits.
 pub const OUTPUT: usize = 61536;
-
-// The office of an entry.
-fn office_of(word: u32) -> usize
-    ensures { λ r. ⌜ r ≡ officeOf word ⌝ }
-{
-    (word / 16777216) as usize
-}
 
 // Writes a digit for the office of each entry, `-` where there is no entry, and answers the place behind.
 fn put_entries(out: &mut [u8], at: usize, entries: &[u32]) -> usize

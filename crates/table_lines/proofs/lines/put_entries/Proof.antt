@@ -21,7 +21,7 @@ loop-again c =
     let put = c .before .before in
     let l = put .before .before .before .before .before .loop in
     let s = put .before .before .before .before .before .before .before .before .before in
-    digits-next (l .inv) (s .pre .0) (s .pre .1) (search needs) _ (put .before .office-of .ensures) (put .put-number .ensures .0) (put .put-number .ensures .1)
+    digits-next (l .inv) (s .pre .0) (s .pre .1) (search needs) _ (put .before .office-of .ensures .0) (put .put-number .ensures .0) (put .put-number .ensures .1)
 
 returns-2 : tie.Need-returns-2 Inv-loop μ-loop
 returns-2 c = digits-ends (c .before .loop .inv) (c .before .before .if1 .left) (search needs)
