@@ -6,8 +6,8 @@ use Prim.Native.Nat.{_≤_}
 use lib.ListN.{length}
 use lib.Seq.{length-take-le}
 use borrow.Author.Needs.{needs}
-use Rattle.rehearsal_io.proofs.show.Statement.{statement}
-use Rattle.rehearsal_io.proofs.show.Tie as tie
+use Rattle.rehearse.proofs.show.Statement.{statement}
+use Rattle.rehearse.proofs.show.Tie as tie
 
 slice-aggregate-write-all : tie.Need-slice-aggregate-write-all
 slice-aggregate-write-all c =
