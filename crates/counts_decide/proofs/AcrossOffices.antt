@@ -41,7 +41,7 @@ use Rattle.taking.specs.Taking.{sameOffices, takeNumber, takeOf, takeWords, tak
 use Rattle.agreement.specs.World.{Replica, World, Call, issue, send, take, elect, replicaAt, step, after}
 use Rattle.agreement.specs.Demand.{Founded, says}
 use Rattle.agreement.proofs.Founded.{foundReplica}
-use Rattle.agreement.proofs.ThreeOffices.{usualWeights, emptyLog, threeOffices, three-founded}
+use Rattle.agreement.proofs.ThreeOffices.{usualWeights, emptyLog, threeOffices, three-founded, office-there}
 use Rattle.counts_decide.specs.CountsDecide.{countsLeq, HeldAt}
 
 -- ── a list of calls ──
@@ -74,6 +74,13 @@ pub record Crossed : Type 0 where
   pub first : at0 ≡ path (says (office 0)) 1
   pub second : at1 ≡ path (says (office 1)) 1
 
+-- that they are there is a law, and their records need not be computed for it
+there-0 : replicaAt crossed 0 ≡ some (office 0)
+there-0 = office-there crossing 0 (foundReplica 3 usualWeights 0 emptyLog) (omega arith)
+
+there-1 : replicaAt crossed 1 ≡ some (office 1)
+there-1 = office-there crossing 1 (foundReplica 3 usualWeights 0 emptyLog) (omega arith)
+
 pub computed : Crossed
 unfolding step after begins extends electing settle withElect isEntry proper countIn fair refusalAt withIssue catchUp rebase refuseTake
     withTake withFoldedIssue refuseFoldedIssue withFoldedElect withFoldedTake refuseFoldedTake
@@ -84,7 +91,7 @@ unfolding step after begins extends electing settle withElect isEntry proper cou
     afterBallot ballotNext ballotOk ballotsOk contentAt endOk headOk layoutOk reading recordAt recordHere recordsOk restAt settledAt droppedAt sizeAt tailAt
     tailsAt ballotBytes ballotsBytes endBytes headBytes logRecord spelling contentOf tailsOf electOf electWords foundNumber foundOf issueNumber
     issueOf sendBytes sendNumber sendOf sameOffices takeNumber takeOf takeWords takenOffice
-computed = record { office0 = refl; office1 = refl; first = refl; second = refl }
+computed = record { office0 = there-0; office1 = there-1; first = refl; second = refl }
 
 -- ── the law that it refutes ──
 -- counts decide across any two offices of a world

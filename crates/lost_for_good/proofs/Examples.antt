@@ -51,7 +51,7 @@ use Rattle.pending.specs.Parts.{common, settledOf, lostOf}
 use Rattle.agreement.specs.World.{Replica, World, Call, issue, send, take, elect, replicaAt, number, step, after}
 use Rattle.agreement.specs.Demand.{Founded, says, logAt, viewAt, order, IssuedIn}
 use Rattle.agreement.proofs.Founded.{foundReplica}
-use Rattle.agreement.proofs.ThreeOffices.{usualWeights, emptyLog, threeOffices, three-founded}
+use Rattle.agreement.proofs.ThreeOffices.{usualWeights, emptyLog, threeOffices, three-founded, office-there}
 use Rattle.lost_for_good.specs.LostForGood.{Settled, Pending, LostIn, issuesIt, issuesOf}
 
 -- ── a list of calls ──
@@ -112,6 +112,13 @@ pub record Computed : Type 0 where
   pub mixed-settled : settledOf 1 (says mixed-before) (says mixed-after) ≡ b ∷ []
   pub mixed-lost : lostOf 1 (says mixed-before) (says mixed-after) ≡ value 1 5 131 ∷ []
 
+-- that office 1 is there is a law, and its record need not be computed for it
+was-there : replicaAt (after threeOffices mixed) 1 ≡ some mixed-before
+was-there = office-there mixed 1 (foundReplica 3 usualWeights 1 emptyLog) (omega arith)
+
+is-there : replicaAt (after threeOffices (mixed ++ (take 1 0 ∷ []))) 1 ≡ some mixed-after
+is-there = office-there (mixed ++ (take 1 0 ∷ [])) 1 (foundReplica 3 usualWeights 1 emptyLog) (omega arith)
+
 pub computed : Computed
 unfolding common order longest issuesIt issuesOf number step after
     begins extends electing settle withElect isEntry proper countIn fair refusalAt withIssue catchUp rebase refuseTake
@@ -135,8 +142,8 @@ computed = record {
   log-last = refl;
   ordered = refl;
   issues = refl;
-  mixed-was = refl;
-  mixed-is = refl;
+  mixed-was = was-there;
+  mixed-is = is-there;
   mixed-settled = refl;
   mixed-lost = refl;
 }

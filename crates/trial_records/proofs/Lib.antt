@@ -1,4 +1,2 @@
--- Laws of the digest and of the letters, and an example computed.
-pub mod Cases
-pub mod Digests
+-- Laws of the letters.
 pub mod Letters

@@ -1,3 +1,2 @@
--- The digest of a record, and the lines that set a part of it.
-pub mod Digest
+-- The lines that set a part of the record.
 pub mod Setting

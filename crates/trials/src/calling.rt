@@ -7,7 +7,6 @@ use tabulation::Row;
 use tallies::Winner;
 use trial_lines::Line;
 use trial_lines::weights;
-use trial_records::digest;
 
 // Prints a space and a number.
 fn print(number: u64) {
@@ -42,7 +41,7 @@ fn rows_digest(rows: [Row; 64], count: usize) -> u64 {
     let mut h: u64 = 0;
     for i in 0..within(count, 64) {
         let row = rows[i];
-        h = digest::with(digest::with(h, row.class as u64), row.total);
+        h = trial_digests::with(trial_digests::with(h, row.class as u64), row.total);
     }
     h
 }
@@ -67,7 +66,7 @@ fn look_at(record: Record, line: Line, log: &[u32], message: &[u8]) {
         b'C' => {
             let made = archive::compare(record, log, message);
             let answers = made.answers;
-            tell(made.number, digest::with_words(0, &answers));
+            tell(made.number, trial_digests::with_words(0, &answers));
         }
         b'Q' => {
             let mut lines = [0u32; 7100];
@@ -76,7 +75,7 @@ fn look_at(record: Record, line: Line, log: &[u32], message: &[u8]) {
             let made = earlier::frame_at(record, log, line.first, &lines[..length]);
             let edits = made.edits;
             tell(made.number, made.words as u64);
-            print(digest::with_words(0, &edits));
+            print(trial_digests::with_words(0, &edits));
         }
         _ => print(record.sound(log) as u64),
     }
@@ -90,7 +89,7 @@ fn look(record: Record, line: Line, log: &[u32], message: &[u8]) {
             let mut number: u32 = 0;
             let part = settling::settled(record, log, &mut number);
             tell(number, part.len() as u64);
-            print(digest::with_words(0, part));
+            print(trial_digests::with_words(0, part));
         }
         b'V' => {
             let place = (line.first % 4294967296) as u32;
@@ -104,7 +103,7 @@ fn look(record: Record, line: Line, log: &[u32], message: &[u8]) {
         b'A' => {
             let lines = both_frames::all_lines(record, log);
             let codes = lines.codes;
-            tell(lines.number, digest::with_words(0, &codes));
+            tell(lines.number, trial_digests::with_words(0, &codes));
         }
         b'B' => {
             let lowest = weights(line, 1);
@@ -191,8 +190,8 @@ pub fn call(trial: Trial, line: Line, log: &mut [u32], output: &mut [u8], messag
         &mut output[..room],
         &message[..size],
     );
-    let h = digest::with(digest::of_record(next.record), words as u64);
-    print(digest::with_bytes(digest::with_words(h, &log[..words]), &output[..room]));
+    let h = trial_digests::with(trial_digests::of_record(next.record), words as u64);
+    print(trial_digests::with_bytes(trial_digests::with_words(h, &log[..words]), &output[..room]));
     io::write_all(1, b"\n");
     next
 }

@@ -5,7 +5,6 @@ use trial_lines::Line;
 use trial_lines::Put;
 use trial_lines::put_bytes;
 use trial_lines::put_words;
-use trial_records::record;
 
 // The record, and how long the log, the output and the message are.
 pub struct Trial {
@@ -17,7 +16,7 @@ pub struct Trial {
 
 // As at the start.
 pub fn start() -> Trial {
-    let record = record::none();
+    let record = trial_records::none();
     Trial {
         record,
         words: 0,
@@ -49,8 +48,8 @@ fn taken(put: Put, before: usize) -> usize {
 
 // The record with what the line says, if it is taken.
 fn set_record(before: Record, line: Line) -> Record {
-    if record::fits(line) {
-        return record::set(before, line);
+    if trial_records::fits(line) {
+        return trial_records::set(before, line);
     }
     refuse();
     before

@@ -1,4 +1,0 @@
-// Random histories: the rehearsal program, run on the stored worlds of every kind.
-fn main() {
-    rehearsal_io::rehearse();
-}

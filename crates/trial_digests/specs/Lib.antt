@@ -1,0 +1,2 @@
+-- The digest of a record.
+pub mod Digest
