@@ -1,5 +1,2 @@
--- Laws of decimal numbers and of the parts of a text.
-pub mod Ends
+-- Laws of decimal numbers.
 pub mod Walks
-pub mod Digits
-pub mod Printed

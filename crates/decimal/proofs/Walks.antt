@@ -18,7 +18,7 @@ use Rattle.lists.specs.Tests.{both, pick}
 use Rattle.lists.proofs.Tests.{both-1, pick-cases}
 use Rattle.decimal.specs.declared.number.Number.{Number}
 use Rattle.decimal.specs.declared.number.Number.the-variants.{Value, Not}
-use Rattle.decimal.specs.Parts.{partLength}
+use Rattle.text_parts.specs.Parts.{partLength}
 use Rattle.decimal.specs.Number.{isDigit, appended, byNumber, digitOf, digitsOf, leadingZero, numberOf}
 use Rattle.decimal.specs.Numbers.{inFirst, fields, fieldsFrom, fieldNumber, numbersAfter, noNumbers}
 

@@ -1,5 +1,3 @@
--- Decimal numbers, and the parts of a text.
+-- Decimal numbers.
 pub mod Number
-pub mod Parts
 pub mod Numbers
-pub mod Printing

@@ -3,7 +3,7 @@ ghost use mathlib.Core.Path.{_≡_};
 ghost use Rattle.decimal.specs.Numbers.{noNumbers, numbersFrom};
 use crate::number::Number;
 use crate::number::number_of;
-use crate::parts::part_end;
+use text_parts::part_end;
 
 // Up to eight numbers: whether each field was one, how many there are, and their values with zeros behind them.
 pub struct Numbers {

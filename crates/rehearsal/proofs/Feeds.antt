@@ -10,7 +10,7 @@ use native.Mathlib.Omega.{arith}
 use lib.Dec.{eqb}
 use lib.ListN.{length, take, drop}
 use lib.Seq.{sets}
-use Rattle.decimal.specs.Parts.{partLength}
+use Rattle.text_parts.specs.Parts.{partLength}
 use Rattle.lists.proofs.Tests.{pick-cases}
 use Rattle.rehearsal_lines.specs.declared.Held.{Held}
 use Rattle.rehearsal_lines.specs.Held.{lineHeld, cut, heldOf, nothing}

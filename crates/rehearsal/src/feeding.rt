@@ -9,7 +9,7 @@ ghost use Rattle.rehearsal_turns.specs.Turns.{turnAt, turnWords, turnSlots};
 ghost use Rattle.rehearsal_offices.specs.World.{logOf};
 ghost use Rattle.rehearsal.specs.Feeding.{atFirst, feeds, finishes, FedAs};
 use crate::Rehearsal;
-use decimal::part_end;
+use text_parts::part_end;
 use frame::Record;
 use lists::within;
 use rehearsal_answers::print;

@@ -17,7 +17,7 @@ use Rattle.rehearsal_answers.specs.declared.Answer.{Answer}
 use Rattle.rehearsal_answers.specs.declared.Item.{Item}
 use Rattle.rehearsal_answers.specs.declared.Item.the-variants.{Number, Dash, Nothing}
 use Rattle.rehearsal_answers.specs.Answer.{spacedItem, printedOf, printedIn}
-use Rattle.decimal.proofs.Digits.{decimal-short}
+use Rattle.printing.proofs.Digits.{decimal-short}
 
 pub item-short : (i : Item) → length (spacedItem i) ≤ 21
 item-short (Number n) = omega (arith, decimal-short 20 n)

@@ -3,7 +3,7 @@ use Prim.Native.Nat.{ℕ, _+_}
 use mathlib.Core.List.{List, [], _∷_, _++_}
 use lib.Dec.{leb}
 use Rattle.lists.specs.Tests.{pick}
-use Rattle.decimal.specs.Printing.{decimalOf}
+use Rattle.printing.specs.Printing.{decimalOf}
 use Rattle.rehearsal_answers.specs.declared.Answer.{Answer}
 use Rattle.rehearsal_answers.specs.declared.Item.{Item}
 use Rattle.rehearsal_answers.specs.declared.Item.the-variants.{Number, Dash, Nothing}

@@ -4,7 +4,7 @@ ghost use Prim.Native.Nat.{_+_, _≤_};
 ghost use lib.ListN.{length};
 ghost use lib.Seq.{sets};
 ghost use Rattle.rehearsal_answers.specs.Answer.{spaced, dashed, spacedItem, printedOf, printedIn};
-use decimal::put_number;
+use printing::put_number;
 
 // A number, a dash where there is none to print, or no item at all.
 pub enum Item {

@@ -12,7 +12,7 @@ use lib.ListN.{length, take, drop}
 use lib.Seq.{take-all, length-take-le}
 use borrow.Author.Tests.{lt-ltb, ltb-true, ltb-false}
 use Rattle.lists.specs.Tests.{pick}
-use Rattle.decimal.specs.Parts.{partLength}
+use Rattle.text_parts.specs.Parts.{partLength}
 use Rattle.decimal.specs.Number.{byNumber}
 use Rattle.decimal.specs.Numbers.{fields, fieldsFrom, fieldNumber, numbersFrom}
 use Rattle.decimal.proofs.Walks.{fields-here, fields-all}

@@ -7,7 +7,7 @@ use decimal::Number;
 use decimal::Numbers;
 use decimal::number_of;
 use decimal::numbers_from;
-use decimal::part_end;
+use text_parts::part_end;
 
 // A command with its numbers.
 pub enum Command {

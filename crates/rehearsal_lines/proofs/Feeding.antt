@@ -18,7 +18,7 @@ use borrow.Author.Tests.{ne-eqb}
 use Rattle.lists.specs.Tests.{pick}
 use Rattle.lists.proofs.Tests.{pick-cases}
 use Rattle.lists.proofs.Stores.{Left, left-all, left-next, left-none}
-use Rattle.decimal.specs.Parts.{partLength}
+use Rattle.text_parts.specs.Parts.{partLength}
 use Rattle.rehearsal_lines.specs.Held.{cut}
 use Rattle.rehearsal_lines.proofs.Holding.{cut-more}
 use Rattle.rehearsal_lines.specs.Feeding.{Said, Fed, saidThen, feedBy, finishBy}

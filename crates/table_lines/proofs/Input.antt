@@ -13,7 +13,7 @@ use Rattle.lists.specs.Tests.{pick}
 use Rattle.decimal.specs.Number.{byNumber, numberOf}
 use Rattle.decimal.specs.Numbers.{inFirst, fields, fieldsFrom, numbersAfter, noNumbers, numbersOf, numbersFrom}
 use Rattle.decimal.proofs.Walks.{fields-all}
-use Rattle.decimal.specs.Parts.{partLength}
+use Rattle.text_parts.specs.Parts.{partLength}
 use Rattle.rehearsal_lines.specs.Feeding.{linesOf}
 use Rattle.table_lines.specs.Answers.{onlyLine, numbersIn}
 

@@ -15,13 +15,13 @@ use lib.Seq.{length-take-le, take-all}
 use borrow.Author.Tests.{eqb-true, eqb-false, ne-eqb, leb-true, le-leb, lt-ltb}
 use Rattle.lists.specs.Tests.{both, pick, allB}
 use Rattle.lists.proofs.Tests.{both-0, both-1, both-true, pick-false}
-use Rattle.decimal.specs.Parts.{partLength}
+use Rattle.text_parts.specs.Parts.{partLength}
 use Rattle.decimal.specs.Number.{isDigit, appended, byNumber, digitOf, digitsOf, leadingZero, numberOf}
 use Rattle.decimal.specs.Numbers.{inFirst, fields, fieldNumber, noNumbers, numbersAfter, numbersOf}
 use Rattle.decimal.specs.declared.number.Number.{Number}
 use Rattle.decimal.specs.declared.number.Number.the-variants.{Value, Not}
 use Rattle.decimal.specs.declared.numbers.Numbers.{Numbers}
-use Rattle.decimal.proofs.Ends.{part-short}
+use Rattle.text_parts.proofs.Ends.{part-short}
 use Rattle.decimal.proofs.Walks.{fields-all}
 use Rattle.table_lines.specs.Answers.{numbersIn, threeNumbers, answerTo}
 use Rattle.table_lines.proofs.Input.{second-line, only-line}

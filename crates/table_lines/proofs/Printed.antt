@@ -17,9 +17,9 @@ use borrow.Author.Tests.{eq-eqb, ne-eqb, le-leb}
 use Rattle.lists.specs.Tests.{pick}
 use Rattle.lists.proofs.Tests.{pick-true, pick-false, pick-cases}
 use Rattle.protocol.specs.Limits.{headFine}
-use Rattle.decimal.specs.Printing.{decimalIn, decimalOf, printedAt}
+use Rattle.printing.specs.Printing.{decimalIn, decimalOf, printedAt}
 use Rattle.decimal.specs.declared.numbers.Numbers.{Numbers}
-use Rattle.decimal.proofs.Digits.{decimal-short, printed-all}
+use Rattle.printing.proofs.Digits.{decimal-short, printed-all}
 use Rattle.soundness.specs.Soundness.{longEnough}
 use Rattle.frame.specs.Founding.{foundNumber, foundOf}
 use Rattle.tables.specs.Tables.{tables}

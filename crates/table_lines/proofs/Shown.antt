@@ -18,8 +18,8 @@ use Rattle.lists.proofs.Tests.{both-0, both-1, both-true, all-at}
 use Rattle.lists.proofs.Walk.{rest-step}
 use Rattle.lists.proofs.Stores.{Left, left-all, left-next, left-none}
 use Rattle.protocol.specs.Entry.{officeOf}
-use Rattle.decimal.specs.Printing.{glyph, printedAt}
-use Rattle.decimal.proofs.Digits.{digits-one, printed-all, put-behind}
+use Rattle.printing.specs.Printing.{glyph, printedAt}
+use Rattle.printing.proofs.Digits.{digits-one, printed-all, put-behind}
 use Rattle.table_lines.specs.Lines.{digits, shown, few}
 
 -- an office of one digit

@@ -6,7 +6,7 @@ use Prim.Native.Nat.{ℕ}
 use lib.Dec.{eqb}
 use Rattle.lists.specs.Tests.{both, pick}
 use Rattle.decimal.specs.Numbers.{fields, numbersOf, noNumbers}
-use Rattle.decimal.specs.Printing.{decimalOf}
+use Rattle.printing.specs.Printing.{decimalOf}
 use Rattle.decimal.specs.declared.numbers.Numbers.{Numbers}
 use Rattle.rehearsal_lines.specs.Feeding as Feeding
 use Rattle.frame.specs.Founding.{foundOf}

@@ -10,7 +10,7 @@ use Rattle.protocol.specs.Entry.{officeOf}
 use Rattle.protocol.specs.Office.{Office}
 use Rattle.ballots.specs.Ballots.{ballotOf, noBallot}
 use Rattle.ballots.specs.declared.Ballot.{Ballot}
-use Rattle.decimal.specs.Printing.{glyph}
+use Rattle.printing.specs.Printing.{glyph}
 use Rattle.frame.specs.State.{withBallots}
 use Rattle.frame.specs.Electing.{electOf, electWords}
 use Rattle.frame.specs.declared.Record.{Record}

@@ -8,8 +8,8 @@ use crate::lines::OUTPUT;
 use crate::lines::put_lines;
 use decimal::Numbers;
 use decimal::numbers_from;
-use decimal::part_end;
-use decimal::put_number;
+use text_parts::part_end;
+use printing::put_number;
 use frame::Record;
 
 // The answer where the input is not one line.

@@ -5,8 +5,8 @@ use mathlib.Core.Path.{_≡_, ap, _∙_}
 use Prim.Native.Nat.{ℕ, _+_}
 use lib.ListN.{set, length-set}
 use lib.Seq.{sets}
-use Rattle.decimal.specs.Printing.{decimalOf, printedAt}
-use Rattle.decimal.proofs.Digits.{printed-all}
+use Rattle.printing.specs.Printing.{decimalOf, printedAt}
+use Rattle.printing.proofs.Digits.{printed-all}
 use borrow.Author.Needs.{needs}
 use Rattle.rehearsal_answers.proofs.put_spaced.Statement.{statement}
 use Rattle.rehearsal_answers.proofs.put_spaced.Tie as tie

@@ -2,7 +2,7 @@
 use native.Mathlib.Omega.{arith}
 use mathlib.Core.Path.{sym, _∙_}
 use Rattle.decimal.specs.Number.{byNumber}
-use Rattle.decimal.proofs.Ends.{part-within}
+use Rattle.text_parts.proofs.Ends.{part-within}
 use Rattle.decimal.proofs.Walks.{number-within}
 use Rattle.rehearsal_commands.proofs.Lines.{line-step}
 use borrow.Author.Needs.{needs}

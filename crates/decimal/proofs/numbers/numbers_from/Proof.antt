@@ -8,7 +8,7 @@ use lib.ListN.{length}
 use Rattle.lists.specs.Tests.{pick}
 use Rattle.decimal.specs.Number.{byNumber}
 use Rattle.decimal.specs.Numbers.{numbersAfter, numbersFrom, fieldsFrom}
-use Rattle.decimal.proofs.Ends.{part-within}
+use Rattle.text_parts.proofs.Ends.{part-within}
 use Rattle.decimal.proofs.Walks.{number-within, numbers-step, numbers-end}
 use Rattle.decimal.proofs.numbers.numbers_from.Statement.{statement}
 use Rattle.decimal.proofs.numbers.numbers_from.Tie as tie

@@ -5,7 +5,7 @@ use mathlib.Core.List.{_++_}
 use native.Mathlib.Omega.{arith}
 use Prim.Native.Nat.{_+_, _-_, _<_, _≤_}
 use lib.ListN.{length, take, drop, length-take}
-use Rattle.decimal.proofs.Ends.{part-within}
+use Rattle.text_parts.proofs.Ends.{part-within}
 use Rattle.rehearsal_lines.specs.Held.{lineHeld}
 use Rattle.rehearsal_lines.proofs.Holding.{line-held}
 use Rattle.rehearsal_lines.proofs.Feeding.{FeedRest, feed-begins, feed-ends}

@@ -8,8 +8,8 @@ use lib.ListN.{length, set}
 use lib.Seq.{sets}
 use borrow.Author.Tests.{not-true, not-false}
 use borrow.Author.Needs.{needs}
-use Rattle.decimal.specs.Printing.{decimalOf}
-use Rattle.decimal.proofs.Digits.{decimal-short, printed-all}
+use Rattle.printing.specs.Printing.{decimalOf}
+use Rattle.printing.proofs.Digits.{decimal-short, printed-all}
 use Rattle.frame.specs.declared.founding.Founded.{Founded}
 use Rattle.tables.specs.Tables.{tables}
 use Rattle.table_lines.specs.Lines.{linesOf}

@@ -6,8 +6,8 @@ use lib.ListN.{take}
 use lib.Seq.{length-take-le}
 use borrow.Author.Needs.{needs}
 use Rattle.decimal.specs.Numbers.{numbersFrom}
-use Rattle.decimal.specs.Parts.{partLength}
-use Rattle.decimal.proofs.Ends.{part-within}
+use Rattle.text_parts.specs.Parts.{partLength}
+use Rattle.text_parts.proofs.Ends.{part-within}
 use Rattle.table_lines.proofs.Input.{second-line, only-line}
 use Rattle.table_lines.proofs.answers.numbers_in.Statement.{statement}
 use Rattle.table_lines.proofs.answers.numbers_in.Tie as tie

@@ -4,10 +4,10 @@ use native.Mathlib.Omega.{arith}
 use mathlib.Core.Path.{_≡_, refl}
 use Prim.Native.Nat.{suc, _+_, _-_}
 use lib.ListN.{length, drop}
-use Rattle.decimal.specs.Parts.{partLength}
-use Rattle.decimal.proofs.Ends.{part-stop, part-next, part-none}
-use Rattle.decimal.proofs.parts.part_end.Statement.{statement}
-use Rattle.decimal.proofs.parts.part_end.Tie as tie
+use Rattle.text_parts.specs.Parts.{partLength}
+use Rattle.text_parts.proofs.Ends.{part-stop, part-next, part-none}
+use Rattle.text_parts.proofs.part_end.Statement.{statement}
+use Rattle.text_parts.proofs.part_end.Tie as tie
 
 abbrev Inv-loop : tie.InvT-loop
 Inv-loop bytes at mark i₀ i = i + partLength mark (drop i bytes) ≡ at + partLength mark (drop at bytes)

@@ -6,13 +6,13 @@ use Prim.Native.Nat.{ℕ, _-_, _/_, _<_}
 use lib.ListN.{length-set}
 use borrow.Fn.Kinds.{In}
 use borrow.Fn.PlainCycle.{Measures, is, falls, and}
-use Rattle.decimal.proofs.Digits.{digits-none, digits-one, decimal-short, put-last}
-use Rattle.decimal.proofs.printing.put_digits.Reads as put-digits
-use Rattle.decimal.proofs.printing.put_digits.Kinds as put-digits-kinds
-use Rattle.decimal.proofs.printing.+put_digits.Lts-put_digits as put-digits-lts
-use Rattle.decimal.proofs.printing.glyph_of.Reads as glyph-of-reads
-use Rattle.decimal.proofs.printing.+put_digits.{statement}
-use Rattle.decimal.proofs.printing.+put_digits.Tie.{close}
+use Rattle.printing.proofs.Digits.{digits-none, digits-one, decimal-short, put-last}
+use Rattle.printing.proofs.put_digits.Reads as put-digits
+use Rattle.printing.proofs.put_digits.Kinds as put-digits-kinds
+use Rattle.printing.proofs.+put_digits.Lts-put_digits as put-digits-lts
+use Rattle.printing.proofs.glyph_of.Reads as glyph-of-reads
+use Rattle.printing.proofs.+put_digits.{statement}
+use Rattle.printing.proofs.+put_digits.Tie.{close}
 
 abbrev μ-put-digits : Measures 1 put-digits-kinds.ps ℕ
 μ-put-digits κs a = a .1 .1 .1 .0

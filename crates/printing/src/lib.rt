@@ -3,7 +3,7 @@ ghost use mathlib.Core.Path.{_≡_};
 ghost use Prim.Native.Nat.{_+_, _<_, _≤_};
 ghost use lib.ListN.{length};
 ghost use lib.Seq.{sets};
-ghost use Rattle.decimal.specs.Printing.{glyph, decimalIn, printedAt};
+ghost use Rattle.printing.specs.Printing.{glyph, decimalIn, printedAt};
 
 // The most digits that a number of 64 bits has.
 const PLACES: usize = 20;

@@ -2,9 +2,9 @@
 use borrow.Author.Needs.{needs}
 use native.Mathlib.Nat.{add-zero}
 use native.Mathlib.Omega.{arith}
-use Rattle.decimal.proofs.Digits.{printed-all, printed-none}
-use Rattle.decimal.proofs.printing.put_number.Statement.{statement}
-use Rattle.decimal.proofs.printing.put_number.Tie as tie
+use Rattle.printing.proofs.Digits.{printed-all, printed-none}
+use Rattle.printing.proofs.put_number.Statement.{statement}
+use Rattle.printing.proofs.put_number.Tie as tie
 
 returns : tie.Need-returns
 returns c = let a = c .before .before .args in let e = printed-none (a .out .now) (a .at) (a .n) (omega arith) in (rw (e, add-zero), rw e)

@@ -11,11 +11,11 @@ use lib.Dec.{ltb}
 use lib.ListN.{length, getD, length-append, List·getD-append}
 use borrow.Author.Tests.{le-leb, ne-eqb, ltb-true, ltb-false}
 use Rattle.lists.specs.Tests.{both, pick}
 use Rattle.decimal.specs.declared.number.Number.{Number}
 use Rattle.decimal.specs.declared.number.Number.the-variants.{Value, Not}
 use Rattle.decimal.specs.Number.{byNumber, isDigit, appended, digitOf, digitsOf, leadingZero, numberOf}
-use Rattle.decimal.specs.Printing.{glyph, decimalIn, decimalOf}
-use Rattle.decimal.proofs.Digits.{digits-one, digits-more}
+use Rattle.printing.specs.Printing.{glyph, decimalIn, decimalOf}
+use Rattle.printing.proofs.Digits.{digits-one, digits-more}
 
 module _ (most : ℕ) where
   -- one more digit at the end

@@ -13,7 +13,7 @@ use lib.Seq.{drop-cons}
 use borrow.Author.Tests.{eq-eqb, ne-eqb}
 use Rattle.lists.specs.Tests.{pick}
 use Rattle.lists.proofs.Tests.{pick-cases}
-use Rattle.decimal.specs.Parts.{partLength}
+use Rattle.text_parts.specs.Parts.{partLength}
 
 module _ (mark : ℕ) (s : List ℕ) (i : ℕ) where
   pub part-stop : i < length s → getD s i 0 ≡ mark → partLength mark (drop i s) ≡ 0

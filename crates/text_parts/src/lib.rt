@@ -2,7 +2,7 @@
 ghost use mathlib.Core.Path.{_≡_};
 ghost use Prim.Native.Nat.{_+_};
 ghost use lib.ListN.{drop};
-ghost use Rattle.decimal.specs.Parts.{partLength};
+ghost use Rattle.text_parts.specs.Parts.{partLength};
 
 // Where the part that begins at `at` ends: at the next mark, or at the end.
 pub fn part_end(bytes: &[u8], at: usize, mark: u8) -> usize

@@ -15,7 +15,7 @@ use borrow.Author.Tests.{lt-ltb, le-ltb, le-leb, lt-leb}
 use Rattle.lists.specs.Tests.{pick}
 use Rattle.lists.proofs.Tests.{pick-cases}
 use Rattle.lists.proofs.Stores.{sets-append}
-use Rattle.decimal.specs.Printing.{glyph, decimalIn, decimalOf, printedAt}
+use Rattle.printing.specs.Printing.{glyph, decimalIn, decimalOf, printedAt}
 
 pub digits-none : (places n : ℕ) → places ≡ 0 → decimalIn places n ≡ []
 unfolding decimalIn
