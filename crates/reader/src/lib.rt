@@ -2,9 +2,9 @@
 // record at it. Callers with a plain slice use the functions `read_..`, which make the reader at a position, read one
 // record through it, and answer that with the position after it.
 use ballot_records::BallotStep;
+use ballot_records::ballot_at;
 use records::EndStep;
 use records::LogStep;
-use ballot_records::ballot_at;
 use records::end_at;
 use records::entry_at;
 use records::log_at;

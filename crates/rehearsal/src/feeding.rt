@@ -9,7 +9,6 @@ ghost use Rattle.rehearsal_turns.specs.Turns.{turnAt, turnWords, turnSlots};
 ghost use Rattle.rehearsal_offices.specs.World.{logOf};
 ghost use Rattle.rehearsal.specs.Feeding.{atFirst, feeds, finishes, FedAs};
 use crate::Rehearsal;
-use text_parts::part_end;
 use frame::Record;
 use lists::within;
 use rehearsal_answers::print;
@@ -24,6 +23,7 @@ use rehearsal_offices::no_offices;
 use rehearsal_turns::Turn;
 use rehearsal_turns::question;
 use rehearsal_turns::turn_at;
+use text_parts::part_end;
 
 // The rehearsal after some input, and how many bytes it printed.
 pub struct Fed {

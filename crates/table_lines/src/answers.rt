@@ -8,9 +8,9 @@ use crate::lines::OUTPUT;
 use crate::lines::put_lines;
 use decimal::Numbers;
 use decimal::numbers_from;
-use text_parts::part_end;
-use printing::put_number;
 use frame::Record;
+use printing::put_number;
+use text_parts::part_end;
 
 // The answer where the input is not one line.
 fn no_numbers() -> Numbers
