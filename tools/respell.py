@@ -75,7 +75,8 @@ def respell(text, names):
 
 def main():
     root = sys.argv[1] if len(sys.argv) > 1 else "."
-    part(root)
+    if any(turned(w) != w for w in words(root)):  # a second run finds nothing to turn, and leaves the definitions alone
+        part(root)
     names = {w: turned(w) for w in words(root) if turned(w) != w}
     together = list(beside(root, names))
     back = {}

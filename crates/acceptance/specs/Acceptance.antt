@@ -2,7 +2,7 @@
 use Rattle.std.specs.Prelude.{ℕ, not, List, map, eqb, take}
 use Rattle.lists.specs.Tests.{both, pick, same}
 use Rattle.protocol.specs.Folding.{Packet}
-use Rattle.ballots.specs.Ballots.{tail-of}
+use Rattle.ballots.specs.Ballots.{tail_of}
 use Rattle.numbers.specs.Numbers.{run_at}
 use Rattle.spelling.specs.Reading.{record_at}
 use Rattle.readings.specs.declared.Reading.{Reading}
@@ -11,7 +11,7 @@ use Rattle.comparing.specs.declared.Checked.{Checked}
 
 -- the message that was read: its log records stand in the rest after the head
 abbrev pub packet_in : List ℕ → Reading → Packet
-packet_in rest m = record { sender = m.sender; dropped = m.dropped; state = record { log = run_at 6 record_at m.held rest; tails = map tail-of m.ballots } }
+packet_in rest m = record { sender = m.sender; dropped = m.dropped; state = record { log = run_at 6 record_at m.held rest; tails = map tail_of m.ballots } }
 
 -- the number of a take on a sound record with these fields. 7: "message not of the layout, .."; 8: "message's n or weights differ from the
 -- record's"; 9: the own message; 16, 17 and 10 by the logs

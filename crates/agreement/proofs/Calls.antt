@@ -40,7 +40,7 @@ use Rattle.sending.specs.Sending.{send_of}
 use Rattle.taking.specs.Taking.{take_of}
 use Rattle.frame.specs.Electing.{winner_of}
 use Rattle.folding.specs.Folding.{fold_of}
-use Rattle.frame.specs.State.{held-by, folded_by}
+use Rattle.frame.specs.State.{held_by, folded_by}
 use Rattle.frame.proofs.Sound.{sound-true}
 use Rattle.agreement.specs.World.{
   Replica,
@@ -144,7 +144,7 @@ module _ (n : ℕ) (ws : List ℕ) (pos : 0 < n) (w : World) (s : SoundWorld n w
   m = s.each k d e
 
   abbrev undropped : List ℕ
-  undropped = (held-by d.held d.words).log
+  undropped = (held_by d.held d.words).log
 
   done : d.held.summary ≡ summary_after (start_with ws) (says d).log
   done =

@@ -15,7 +15,7 @@ use Rattle.protocol_laws.proofs.FoldedLimits.{FoldedFine}
 use Rattle.protocol.proofs.FoldedWorld as F
 use Rattle.ballots.specs.Ballots.{words_with}
 use Rattle.frame.specs.declared.Record.{Record}
-use Rattle.frame.specs.State.{held-by, folded_by, goes, holding}
+use Rattle.frame.specs.State.{held_by, folded_by, goes, holding}
 use Rattle.frame.specs.Soundness.{Sound}
 use Rattle.frame.proofs.State.{folded-fine, held, words-kept}
 use Rattle.agreement.specs.World.{Replica, leaving}
@@ -37,7 +37,7 @@ pub record Moves (n : ℕ) (ws : List ℕ) (k : ℕ) (d next : Replica) (number 
 
 -- nothing goes where the office is what it was
 none-goes : (d : Replica) → d.former ++ goes d.held d.words (folded_by d.held d.words) ≡ d.former
-none-goes d = ap (λ (j : ℕ). d.former ++ L.take j (held-by d.held d.words).log) (sub_self d.held.kept.dropped) ∙ append-nil d.former
+none-goes d = ap (λ (j : ℕ). d.former ++ L.take j (held_by d.held d.words).log) (sub_self d.held.kept.dropped) ∙ append-nil d.former
 
 -- a refused call, whatever the replica
 pub left-still : (d : Replica) (r : Record) (words : List ℕ) → r ≡ d.held → words ≡ d.words → leaving d r words ≡ d

@@ -19,7 +19,7 @@ use Rattle.spelling.specs.Reading.{sender_at, content_at}
 use Rattle.frame.specs.Electing.{winner_of}
 use Rattle.folding.specs.Folding.{fold_of}
 use Rattle.frame.specs.Soundness.{sound_b}
-use Rattle.frame.specs.State.{held-by}
+use Rattle.frame.specs.State.{held_by}
 use Rattle.agreement.specs.Demand.{says}
 use Rattle.agreement.specs.World.{Replica, Posted, World, Call, issue, send, take, elect, fold, replica_at, message_at, number, issued, taken, elected, folded, step, after}
 
@@ -46,7 +46,7 @@ pub record Always (n : ℕ) (weights : List ℕ) (start : World) (cs : List Call
   -- (iii) from the counts that it keeps, the undropped entries make the counts of its settled log, and the entry that wins is the one that the
   -- settled log and the founding weights decide
   pub counts : (k : ℕ) (d : Replica) → replica_at (after start cs) k ≡ some d
-      → counts_after d.held.kept.counts (held-by d.held d.words).log ≡ counts_after (no_counts 8) (says d).log
+      → counts_after d.held.kept.counts (held_by d.held d.words).log ≡ counts_after (no_counts 8) (says d).log
   pub winner : (k : ℕ) (d : Replica) → replica_at (after start cs) k ≡ some d → winner_of d.held d.words ≡ by_settled weights (says d).log (votes (says d))
   -- two offices with equal settled logs have equal present weights and hold equal codes
   pub equal : (j k : ℕ) (d e : Replica) → replica_at (after start cs) j ≡ some d → replica_at (after start cs) k ≡ some e

@@ -11,7 +11,7 @@ use Rattle.protocol.specs.Entry.{office_of, line_of, code_of}
 use Rattle.protocol.specs.Beginning.{◌⊑◌}
 use Rattle.protocol.specs.Office.{Office, path}
 use Rattle.protocol.specs.Longest.{longest}
-use Rattle.frame.specs.State.{held-by}
+use Rattle.frame.specs.State.{held_by}
 use Rattle.frame.specs.Founding.{found_of}
 use Rattle.kept.specs.Kept.{kept_nothing, kept_after}
 use Rattle.agreement.specs.World.{Replica, World, Call, issue, replica_at, on_some, number, after}
@@ -28,7 +28,7 @@ pub record Founded (n : ℕ) (weights : List ℕ) (start : World) : Type 0 where
 
 -- what an office's record and log say: its settled log, which "begins with what its office had dropped by then", and the tails of its ballots
 abbrev pub says : Replica → Office
-says d = record { log = d.former ++ (held-by d.held d.words).log; tails = (held-by d.held d.words).tails }
+says d = record { log = d.former ++ (held_by d.held d.words).log; tails = (held_by d.held d.words).tails }
 
 -- office k's settled log; empty where there is no such office
 abbrev pub log_at : World → ℕ → List ℕ

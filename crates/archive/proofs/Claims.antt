@@ -24,14 +24,14 @@ use Rattle.protocol.specs.Limits.{tail_fine}
 use Rattle.protocol.specs.Office.{path}
 use Rattle.protocol_laws.proofs.Counts.{counts-length, counts-most}
 use Rattle.protocol_laws.proofs.Limits.{fine-tail}
-use Rattle.ballots.specs.Ballots.{ballot_fine, tail-of}
+use Rattle.ballots.specs.Ballots.{ballot_fine, tail_of}
 use Rattle.ballots.proofs.Laws.{tail-fine}
 use Rattle.spelling.proofs.Items.{room_for}
 use Rattle.vectors.specs.Vectors.{EachAtMost, kept_count_limit, vector_bytes, vector_of, versions_bytes}
 use Rattle.vectors.proofs.Items.{is_count, count_item}
 use Rattle.vectors.proofs.Vectors.{kept-vector, paths-length, vector-length}
 use Rattle.versions.specs.Versions.{after, answers_to, at_most, before, beside, compared_to, counts_in, equal, is_vector, nine, stands}
-use Rattle.frame.specs.State.{held_length, held-by}
+use Rattle.frame.specs.State.{held_length, held_by}
 use Rattle.frame.specs.Soundness.{sound_b, Sound}
 use Rattle.frame.specs.declared.Record.{Record}
 use Rattle.frame.proofs.Sound.{sound}
@@ -163,10 +163,10 @@ module _ (n : ℕ) (start : List ℕ) (long : length start ≡ n) where
     vector-is = eq-eqb (length (vector_bytes start p)) (8 * n) (vector-length n start long p)
 
 -- the version at place k + 1 is the path of office k
-pub version-path : (r : Record) (words : List ℕ) → Sound r words → (k : ℕ) → k < r.n → version_at r words (suc k) ≡ path (held-by r words) k
+pub version-path : (r : Record) (words : List ℕ) → Sound r words → (k : ℕ) → k < r.n → version_at r words (suc k) ≡ path (held_by r words) k
 version-path r words S k h =
     let log = take (held_length r) words in
-    let tails = map tail-of r.ballots in
+    let tails = map tail_of r.ballots in
     let many : length (map (λ (t : List ℕ). log ++ t) (take r.n tails)) ≡ r.n = paths-length r.n r.ballots (omega (arith, S.eight, S.head.most)) log in
     in-range [] (log ++ []) (map (λ (t : List ℕ). log ++ t) (take r.n tails)) k (omega arith)
     ∙ get_d_map (λ (t : List ℕ). log ++ t) [] (take r.n tails) k ∙ ap (λ (t : List ℕ). log ++ t) (get_or-take r.n tails k [] h)
@@ -204,9 +204,9 @@ module _ (r : Record) (words out : List ℕ) (done : (write_of r words out).numb
       both_true _ _ (le-leb (length log) 1024 (omega (arith, log-length r words sounds, sounds.most)))
       (all_map (tail_fine r.n (held_length r)) (λ (p : List ℕ). leb (length p) 1024) (λ t. log ++ t)
       (λ t e. le-leb (length (log ++ t)) 1024 (omega (arith, length-append log t, log-length r words sounds, (fine-tail r.n (held_length r) t e).room)))
-      (take r.n (map tail-of r.ballots))
-      (all_take (tail_fine r.n (held_length r)) r.n (map tail-of r.ballots)
-      (all_map (ballot_fine r.n (held_length r)) (tail_fine r.n (held_length r)) tail-of (tail-fine r.n (held_length r)) r.ballots sounds.fine)))
+      (take r.n (map tail_of r.ballots))
+      (all_take (tail_fine r.n (held_length r)) r.n (map tail_of r.ballots)
+      (all_map (ballot_fine r.n (held_length r)) (tail_fine r.n (held_length r)) tail_of (tail-fine r.n (held_length r)) r.ballots sounds.fine)))
 
   module _ (i : ℕ) (h : i ≤ r.n) where
     short : length (version_at r words i) ≤ 1024

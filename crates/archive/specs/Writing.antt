@@ -4,7 +4,7 @@ use Rattle.std.specs.Prelude.{ℕ, List, eqb, ltb, length, take}
 use Rattle.lists.specs.Tests.{pick}
 use Rattle.lists.specs.Padded.{in_front}
 use Rattle.vectors.specs.Vectors.{versions_bytes, versions_of}
-use Rattle.frame.specs.State.{held-by}
+use Rattle.frame.specs.State.{held_by}
 use Rattle.frame.specs.Soundness.{sound_b}
 use Rattle.frame.specs.declared.Record.{Record}
 use Rattle.archive.specs.declared.Written.{Written}
@@ -15,7 +15,7 @@ start_of r = take r.n r.kept.counts
 
 -- the log and the n paths of a record with its log, without the dropped entries
 abbrev pub versions : Record → List ℕ → List (List ℕ)
-versions r words = versions_of r.n (held-by r words)
+versions r words = versions_of r.n (held_by r words)
 
 -- the bytes of their vectors
 abbrev pub vectors_of : Record → List ℕ → List ℕ

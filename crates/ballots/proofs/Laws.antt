@@ -23,7 +23,7 @@ use Rattle.protocol.specs.Limits.{is_empty, tail_fine}
 use Rattle.protocol.specs.Fair.{fair}
 use Rattle.protocol_laws.proofs.Fair.{fair-nil}
 use Rattle.lists.proofs.Tests.{both-0, both-1, both_true, zeros, all-zeros, get_d_map}
-use Rattle.ballots.specs.Ballots.{ballot_shape, ballot_fine, empty_ballot, tail-of, ballot_of, no_ballot, pushed, is_no_ballot, off_end}
+use Rattle.ballots.specs.Ballots.{ballot_shape, ballot_fine, empty_ballot, tail_of, ballot_of, no_ballot, pushed, is_no_ballot, off_end}
 use Rattle.ballots.specs.declared.Ballot.{Ballot}
 
 pub record Fine (n held : ℕ) (b : Ballot) : Type 0 where
@@ -31,8 +31,8 @@ pub record Fine (n held : ℕ) (b : Ballot) : Type 0 where
   pub len : b.len ≤ 32
   pub zero : all_b (eqb 0) (drop b.len b.cells) ≡ true
   pub path : held + b.len ≤ 1024
-  pub entries : all_b (is_entry n) (tail-of b) ≡ true
-  pub parts : fair n (tail-of b) ≡ true
+  pub entries : all_b (is_entry n) (tail_of b) ≡ true
+  pub parts : fair n (tail_of b) ≡ true
 
 pub fine : (n held : ℕ) (b : Ballot) → ballot_fine n held b ≡ true → Fine n held b
 unfolding ballot_fine ballot_shape tail_fine
@@ -45,27 +45,27 @@ fine n held b e =
       cells = cells;
       len = len;
       zero = both-1 _ _ (both-1 _ _ s);
-      path = omega (arith, leb-true (held + length (tail-of b)) 1024 (both-0 _ _ t), length-take-le b.len b.cells (omega arith));
+      path = omega (arith, leb-true (held + length (tail_of b)) 1024 (both-0 _ _ t), length-take-le b.len b.cells (omega arith));
       entries = both-0 _ _ (both-1 _ _ t);
       parts = both-1 _ _ (both-1 _ _ t);
     }
 
 -- the tail of the ballot that holds it
-pub tail-of : (t : List ℕ) → tail-of (ballot_of t) ≡ t
+pub tail-of : (t : List ℕ) → tail_of (ballot_of t) ≡ t
 tail-of t = take-append_seam t _
 
-pub tails-of : (ts : List (List ℕ)) → map tail-of (map ballot_of ts) ≡ ts
+pub tails-of : (ts : List (List ℕ)) → map tail_of (map ballot_of ts) ≡ ts
 tails-of [] = refl
 tails-of (t ∷ ts) = ap₂ (λ (x : List ℕ) (l : List (List ℕ)). x ∷ l) (tail-of t) (tails-of ts)
 
 -- the tail at an office of eight ballots
-pub tail_at : (bs : List Ballot) (k : ℕ) → get_or (map tail-of bs) k [] ≡ tail-of (get_or bs k off_end)
-tail_at bs k = get_d_map tail-of off_end bs k
+pub tail_at : (bs : List Ballot) (k : ℕ) → get_or (map tail_of bs) k [] ≡ tail_of (get_or bs k off_end)
+tail_at bs k = get_d_map tail_of off_end bs k
 
 -- a ballot is fine as its cells are in shape and its tail is fine
-pub tail-fine : (n held : ℕ) (b : Ballot) → ballot_fine n held b ≡ true → tail_fine n held (tail-of b) ≡ true
+pub tail-fine : (n held : ℕ) (b : Ballot) → ballot_fine n held b ≡ true → tail_fine n held (tail_of b) ≡ true
 unfolding ballot_fine
-tail-fine n held b e = both-1 (ballot_shape b) (tail_fine n held (tail-of b)) e
+tail-fine n held b e = both-1 (ballot_shape b) (tail_fine n held (tail_of b)) e
 
 shape_of : (t : List ℕ) → length t ≤ 32 → ballot_shape (ballot_of t) ≡ true
 unfolding ballot_shape
@@ -76,7 +76,7 @@ shape_of t h =
 pub fine-tail : (n held : ℕ) (t : List ℕ) → tail_fine n held t ≡ true → ballot_fine n held (ballot_of t) ≡ true
 unfolding ballot_fine tail_fine
 fine-tail n held t e =
-    both_true (ballot_shape (ballot_of t)) (tail_fine n held (tail-of (ballot_of t)))
+    both_true (ballot_shape (ballot_of t)) (tail_fine n held (tail_of (ballot_of t)))
     (shape_of t (leb-true (length t) 32 (both-0 _ _ e)))
     (ap (tail_fine n held) (tail-of t) ∙ e)
 
@@ -91,29 +91,29 @@ module _ (n held : ℕ) (b : Ballot) (F : Fine n held b) where
       let l : 32 - b.len ≡ suc (32 - (b.len + 1)) = omega arith in
       sym (drop-drop 1 b.len b.cells) ∙ ap (drop 1) (unused ∙ ap (λ (k : ℕ). replicate k 0) l)
 
-  pub tail-length : length (tail-of b) ≡ b.len
+  pub tail-length : length (tail_of b) ≡ b.len
   tail-length = length-take-le b.len b.cells (omega arith)
 
-  pub ballot-held : ballot_of (tail-of b) ≡ b
+  pub ballot-held : ballot_of (tail_of b) ≡ b
   ballot-held = λ i. record {
     len = tail-length i;
     cells = held-cells i;
   }
     where
-      held-cells : tail-of b ++ replicate (32 - length (tail-of b)) 0 ≡ b.cells
+      held-cells : tail_of b ++ replicate (32 - length (tail_of b)) 0 ≡ b.cells
       held-cells = rw (tail-length, ← unused) (take-append-drop b.len b.cells)
 
-  pub push-held : (e : ℕ) → b.len < 32 → pushed b e ≡ ballot_of (tail-of b ++ e ∷ [])
+  pub push-held : (e : ℕ) → b.len < 32 → pushed b e ≡ ballot_of (tail_of b ++ e ∷ [])
   unfolding pushed pick
   push-held e h = rw (lt-ltb b.len 32 h) (λ i. record { len = grown i; cells = grown-cells i })
     where
-      grown : b.len + 1 ≡ length (tail-of b ++ e ∷ [])
+      grown : b.len + 1 ≡ length (tail_of b ++ e ∷ [])
       grown = rw (length-append, tail-length)
 
-      grown-cells : set b.cells b.len e ≡ (tail-of b ++ e ∷ []) ++ replicate (32 - length (tail-of b ++ e ∷ [])) 0
+      grown-cells : set b.cells b.len e ≡ (tail_of b ++ e ∷ []) ++ replicate (32 - length (tail_of b ++ e ∷ [])) 0
       grown-cells = set_split b.cells b.len e (omega arith) ∙ rw (← grown, ← unused-next h, append_assoc, add-one)
 
-pub held_all : (n held : ℕ) (bs : List Ballot) → all_b (ballot_fine n held) bs ≡ true → map ballot_of (map tail-of bs) ≡ bs
+pub held_all : (n held : ℕ) (bs : List Ballot) → all_b (ballot_fine n held) bs ≡ true → map ballot_of (map tail_of bs) ≡ bs
 unfolding all_b
 held_all n held [] e = refl
 held_all n held (b ∷ bs) e =
@@ -122,7 +122,7 @@ held_all n held (b ∷ bs) e =
     (held_all n held bs (both-1 _ _ e))
 
 -- no ballot is the empty tail
-pub none-empty : (b : Ballot) → is_no_ballot b ≡ true → is_empty (tail-of b) ≡ true
+pub none-empty : (b : Ballot) → is_no_ballot b ≡ true → is_empty (tail_of b) ≡ true
 unfolding is_empty
 none-empty b h = ap (λ (k : ℕ). is_empty (take k b.cells)) (sym (eqb-true 0 b.len h))
 

@@ -7,8 +7,8 @@ use Rattle.protocol.specs.Limits.{tail_fine, tails_fine}
 use Rattle.ballots.specs.declared.Ballot.{Ballot}
 
 -- the tail that a ballot holds
-abbrev pub tail-of : Ballot → List ℕ
-tail-of b = take b.len b.cells
+abbrev pub tail_of : Ballot → List ℕ
+tail_of b = take b.len b.cells
 
 -- the ballot that holds a tail: "unused cells are zero"
 abbrev pub ballot_of : List ℕ → Ballot
@@ -35,15 +35,15 @@ ballot_shape b = both (eqb (length b.cells) 32) (both (leb b.len 32) (all_b (eqb
 
 -- a ballot of a sound record of n offices, beside a settled log of which so many entries are held
 unfoldable pub ballot_fine : ℕ → ℕ → Ballot → Bool
-ballot_fine n held b = both (ballot_shape b) (tail_fine n held (tail-of b))
+ballot_fine n held b = both (ballot_shape b) (tail_fine n held (tail_of b))
 
 -- eight ballots of such a record: each in shape, and the tails that they hold within their limits
 unfoldable pub ballots_fine : ℕ → ℕ → List Ballot → Bool
-ballots_fine n held bs = both (all_b ballot_shape bs) (tails_fine n held (map tail-of bs))
+ballots_fine n held bs = both (all_b ballot_shape bs) (tails_fine n held (map tail_of bs))
 
 -- the office's state in a log's words and eight ballots: "its first settled-length words are the settled log", (xiv) its undropped part
 abbrev pub office_in : List ℕ → ℕ → List Ballot → Office
-office_in words held bs = record { log = take held words; tails = map tail-of bs }
+office_in words held bs = record { log = take held words; tails = map tail_of bs }
 
 -- a log's words with a settled log in front; "the others .. keep their contents"
 abbrev pub words_with : List ℕ → List ℕ → List ℕ

@@ -22,7 +22,7 @@ use Rattle.protocol_laws.proofs.Frames.{edit-append}
 use Rattle.protocol_laws.proofs.Codes.{cell-back, codes_at}
 use Rattle.summary.specs.declared.Summary.{Summary}
 use Rattle.frame.specs.Soundness.{Sound, sound_b}
-use Rattle.frame.specs.State.{held-by}
+use Rattle.frame.specs.State.{held_by}
 use Rattle.both_frames.specs.Frames.{kept_edit, refused_frame, frame_of, shown_in, settled_frame_of, all_lines_of}
 use Rattle.frame.specs.declared.Record.{Record}
 use Rattle.shown_edits.specs.declared.Edit.{Edit}
@@ -51,12 +51,12 @@ module _ (r : Record) (words : List ℕ) where
   frame-shown line p e = rw e
 
 -- ── the stored codes ──
-pub stored-code : (r : Record) (words : List ℕ) → Sound r words → (line : ℕ) → line ≤ 63 → get_or r.summary.codes line 0 ≡ cell (edit_after line (kept_edit r line) (held-by r words).log)
-stored-code r words S line h = ap (λ (x : Summary). get_or x.codes line 0) S.done ∙ codes_at r.kept.summary.codes (held-by r words).log line (omega (arith, S.kept.lines))
+pub stored-code : (r : Record) (words : List ℕ) → Sound r words → (line : ℕ) → line ≤ 63 → get_or r.summary.codes line 0 ≡ cell (edit_after line (kept_edit r line) (held_by r words).log)
+stored-code r words S line h = ap (λ (x : Summary). get_or x.codes line 0) S.done ∙ codes_at r.kept.summary.codes (held_by r words).log line (omega (arith, S.kept.lines))
 
 pub stored-shown : (r : Record) (words : List ℕ) → Sound r words → (line : ℕ) → line ≤ 63
-    → stored_edit (get_or r.summary.codes line 0) ≡ edit_is (edit_after line (kept_edit r line) (held-by r words).log)
-stored-shown r words S line h = cell-said (get_or r.summary.codes line 0) (edit_after line (kept_edit r line) (held-by r words).log) (stored-code r words S line h)
+    → stored_edit (get_or r.summary.codes line 0) ≡ edit_is (edit_after line (kept_edit r line) (held_by r words).log)
+stored-shown r words S line h = cell-said (get_or r.summary.codes line 0) (edit_after line (kept_edit r line) (held_by r words).log) (stored-code r words S line h)
 
 pub behind-shown : (line : ℕ) (before : Option ℕ) (base last : ℕ) (x t : List ℕ) → base ≡ cell (edit_after line before x) → last ≡ cell (edit_after line (of_cell base) t)
     → stored_edit last ≡ edit_is (edit_after line before (x ++ t))
@@ -83,5 +83,5 @@ lines-frames r words line h = go (sound_b r words) refl
     go : (t : Bool) → sound_b r words ≡ t → shown (all_lines_of r words) ≡ settled_frame_of r words line
     go true e =
         let S = sound r words e in
-        ap shown (sym (lines-shown r words e S)) ∙ shown-done line (kept_edit r line) (held-by r words).log h _ (stored-shown r words S line h) ∙ frame-shown r words line _ e
+        ap shown (sym (lines-shown r words e S)) ∙ shown-done line (kept_edit r line) (held_by r words).log h _ (stored-shown r words S line h) ∙ frame-shown r words line _ e
     go false e = ap shown (sym (lines-unsound r words e)) ∙ (λ i. record { number = 1; edit = stored_edit (get_d_replicate 64 0 line i) }) ∙ frame-unsound r words line _ e

@@ -7,7 +7,7 @@ use Rattle.lists.specs.Tests.{pick}
 use Rattle.protocol.specs.Office.{path}
 use Rattle.protocol.specs.Frames.{edit_after}
 use Rattle.protocol.specs.Codes.{edit_in, no_codes, codes_after}
-use Rattle.frame.specs.State.{held-by}
+use Rattle.frame.specs.State.{held_by}
 use Rattle.frame.specs.Soundness.{sound_b}
 use Rattle.frame.specs.declared.Record.{Record}
 use Rattle.shown_edits.specs.declared.Edit.TheVariants.{NotYet}
@@ -32,11 +32,11 @@ unfoldable pub frame_of : Record → List ℕ → ℕ → List ℕ → Framed
 frame_of r words line p = pick (sound_b r words) (shown_in line (kept_edit r line) p) (refused_frame 1)
 
 abbrev pub settled_frame_of : Record → List ℕ → ℕ → Framed
-settled_frame_of r words line = frame_of r words line (held-by r words).log
+settled_frame_of r words line = frame_of r words line (held_by r words).log
 
 abbrev pub tentative_frame_of : Record → List ℕ → ℕ → Framed
-tentative_frame_of r words line = frame_of r words line (path (held-by r words) r.own)
+tentative_frame_of r words line = frame_of r words line (path (held_by r words) r.own)
 
 -- (ii) "one new frame call answers all 64 lines after one such walk", as they are stored; refused, no edit yet for each
 unfoldable pub all_lines_of : Record → List ℕ → Lines
-all_lines_of r words = pick (sound_b r words) (record { number = 0; codes = codes_after r.kept.summary.codes (held-by r words).log }) (record { number = 1; codes = no_codes })
+all_lines_of r words = pick (sound_b r words) (record { number = 0; codes = codes_after r.kept.summary.codes (held_by r words).log }) (record { number = 1; codes = no_codes })

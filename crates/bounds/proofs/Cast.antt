@@ -13,23 +13,23 @@ use Rattle.lists.specs.Tests.{all_b}
 use Rattle.lists.proofs.Tests.{all_get_d, all_map, all-mono, drop-map, get_d_map}
 use Rattle.protocol.specs.Entry.{is_entry}
 use Rattle.protocol.specs.Office.{first, votes_of}
-use Rattle.ballots.specs.Ballots.{tail-of, ballot_fine, is_no_ballot, off_end}
+use Rattle.ballots.specs.Ballots.{tail_of, ballot_fine, is_no_ballot, off_end}
 use Rattle.ballots.specs.declared.Ballot.{Ballot}
 use Rattle.ballots.proofs.Laws as B
 use Rattle.tallies.specs.Tallies.{no_vote, cast, vote_in, votes_in, SilentFrom}
 use Rattle.votes.proofs.Cells.{vote-none, cast-vote}
 
-pub cast-votes : (n settled : ℕ) (bs : List Ballot) → all_b (ballot_fine n settled) bs ≡ true → votes_in (map cast bs) ≡ votes_of (map tail-of bs)
+pub cast-votes : (n settled : ℕ) (bs : List Ballot) → all_b (ballot_fine n settled) bs ≡ true → votes_in (map cast bs) ≡ votes_of (map tail_of bs)
 unfolding all_b
 cast-votes n settled bs f = λ i k. same k i
   where
-    entries : all_b (λ (b : Ballot). all_b (is_entry n) (tail-of b)) bs ≡ true
-    entries = all-mono (ballot_fine n settled) (λ (b : Ballot). all_b (is_entry n) (tail-of b)) (λ b g. (B.fine n settled b g).entries) bs f
+    entries : all_b (λ (b : Ballot). all_b (is_entry n) (tail_of b)) bs ≡ true
+    entries = all-mono (ballot_fine n settled) (λ (b : Ballot). all_b (is_entry n) (tail_of b)) (λ b g. (B.fine n settled b g).entries) bs f
 
-    same : (k : ℕ) → votes_in (map cast bs) k ≡ votes_of (map tail-of bs) k
+    same : (k : ℕ) → votes_in (map cast bs) k ≡ votes_of (map tail_of bs) k
     same k =
         ap vote_in (get_d_map cast off_end bs k) ∙
-        cast-vote n (get_or bs k off_end) (all_get_d (λ (b : Ballot). all_b (is_entry n) (tail-of b)) off_end bs k entries refl) ∙
+        cast-vote n (get_or bs k off_end) (all_get_d (λ (b : Ballot). all_b (is_entry n) (tail_of b)) off_end bs k entries refl) ∙
         ap first (sym (B.tail_at bs k))
 
 pub cast-silent : (n : ℕ) (bs : List Ballot) → n ≤ 8 → all_b is_no_ballot (drop n bs) ≡ true → SilentFrom n (map cast bs)

@@ -16,7 +16,7 @@ use Rattle.protocol_laws.proofs.Counts.{count-of, no-count, none-length}
 use Rattle.one_order.proofs.Lawful.{settled-lawful}
 use Rattle.protocol.proofs.World as P
 use Rattle.kept.specs.declared.Kept.{Kept}
-use Rattle.frame.specs.State.{held-by}
+use Rattle.frame.specs.State.{held_by}
 use Rattle.vectors.specs.Vectors.{vector_of}
 use Rattle.versions.specs.Versions.{compared_to}
 use Rattle.archive.specs.Claims.{EachLeq, FourAnswers, vector_at}
@@ -98,7 +98,7 @@ module _ (n : ℕ) (p q : List ℕ) (pq : (p ⊑ q) ↔ counts_leq n p q) (qp : 
 version-held : (n : ℕ) (ws : List ℕ) (k : ℕ) (d : Replica) → SoundReplica n ws k d → (i : ℕ) → i ≤ d.held.n → Holds (says d) (whole_at d i)
 version-held n ws k d m zero h = inl refl
 version-held n ws k d m (suc i) h =
-    let o = held-by d.held d.words in
+    let o = held_by d.held d.words in
     inr (i, ap (λ (p : List ℕ). d.former ++ p) (version-path d.held d.words m.sound i (omega arith)) ∙ sym (append_assoc d.former o.log (tail o i)))
 
 module _ (n : ℕ) (ws : List ℕ) (start : World) (f : Founded n ws start) (cs : List Call) where

@@ -5,14 +5,14 @@ use Rattle.lists.specs.Tests.{both, pick}
 use Rattle.protocol.specs.Codes.{no_codes}
 use Rattle.runs.specs.Runs.{of_frame, edits_of, shortest_run}
 use Rattle.backward.specs.Cells.{placed}
-use Rattle.frame.specs.State.{held-by}
+use Rattle.frame.specs.State.{held_by}
 use Rattle.frame.specs.Soundness.{sound_b}
 use Rattle.frame.specs.declared.Record.{Record}
 use Rattle.earlier.specs.declared.Earlier.{Earlier}
 
 -- the first p settled entries, without the dropped ones
 abbrev pub first_of : Record → List ℕ → ℕ → List ℕ
-first_of r words p = take (p - r.kept.dropped) (held-by r words).log
+first_of r words p = take (p - r.kept.dropped) (held_by r words).log
 
 -- the last edit in them of each line named, or else the kept one, and "the length of the shortest run ending at p that has an edit for each named
 -- line", or (xiv) "p less the dropped count where no undropped run has every named line"

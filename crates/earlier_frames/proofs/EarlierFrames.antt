@@ -23,7 +23,7 @@ use Rattle.backward.specs.Cells.{placed}
 use Rattle.backward.proofs.Placed.{get_or-mapped}
 use Rattle.runs.proofs.Runs.{shortest-one, shortest-is}
 use Rattle.kept.specs.declared.Kept.{Kept}
-use Rattle.frame.specs.State.{held-by}
+use Rattle.frame.specs.State.{held_by}
 use Rattle.frame.specs.Soundness.{sound_b}
 use Rattle.frame.proofs.Sound as frame
 use Rattle.frame.proofs.State.{whole_length}
@@ -82,7 +82,7 @@ module _ (n : ℕ) (weights : List ℕ) (start : World) (founded : Founded n wei
     sound = (always n weights start founded cs).sound k d e
 
     settled : length (says d).log ≡ d.held.settled
-    settled = omega (arith, length-append d.former (held-by d.held d.words).log, counted, whole_length d.held d.words (frame.sound d.held d.words sound))
+    settled = omega (arith, length-append d.former (held_by d.held d.words).log, counted, whole_length d.held d.words (frame.sound d.held d.words sound))
 
     module _ (p : ℕ) (lines : List ℕ) where
       abbrev undropped : List ℕ
@@ -103,7 +103,7 @@ module _ (n : ℕ) (weights : List ℕ) (start : World) (founded : Founded n wei
       module _ (w : Within d p) where
         first-is : d.former ++ undropped ≡ first d p
         first-is =
-            let held : List ℕ = (held-by d.held d.words).log in
+            let held : List ℕ = (held_by d.held d.words).log in
             let k : length d.former + (p - d.held.kept.dropped) ≡ p = omega (arith, counted, w.0) in
             sym (take-append-add d.former held (p - d.held.kept.dropped)) ∙ ap (λ (j : ℕ). take j (d.former ++ held)) k
 
@@ -151,7 +151,7 @@ module _ (n : ℕ) (weights : List ℕ) (start : World) (founded : Founded n wei
           last line = cell (last_edit line (first d p))
 
           long : length undropped ≡ p - d.held.kept.dropped
-          long = length-take-le (p - d.held.kept.dropped) (held-by d.held d.words).log (omega (arith, length-append d.former (held-by d.held d.words).log, counted, w.1))
+          long = length-take-le (p - d.held.kept.dropped) (held_by d.held d.words).log (omega (arith, length-append d.former (held_by d.held d.words).log, counted, w.1))
 
           run : (i : ℕ) → i ≤ p - d.held.kept.dropped → run_edits d.held d.words p lines i ≡ run_has lines (first d p) i
           run i j =

@@ -21,7 +21,7 @@ use Rattle.lists.proofs.Tests.{both-0, both-1, both_true, both-comm, both-assoc,
 use Rattle.lists.proofs.Walk.{and_both, rest-step, with-next, with-done}
 use Rattle.protocol.specs.Limits.{is_empty, tail_fine, tails_fine}
 use Rattle.protocol_laws.proofs.Limits.{empty-nil}
-use Rattle.ballots.specs.Ballots.{ballot_fine, ballot_shape, ballots_fine, empty_ballot, is_no_ballot, off_end, tail-of}
+use Rattle.ballots.specs.Ballots.{ballot_fine, ballot_shape, ballots_fine, empty_ballot, is_no_ballot, off_end, tail_of}
 use Rattle.eight_ballots.specs.Fours.{entry_cells, fits_at, of_four}
 use Rattle.ballots.specs.declared.Ballot.{Ballot}
 use Rattle.eight_ballots.proofs.Fours.{rest_fine, fine-tests}
@@ -33,15 +33,15 @@ places_fine n held bs = both (all_b (ballot_fine n held) bs) (all_b is_no_ballot
 
 pub shape_of : (n held : ℕ) (b : Ballot) → ballot_fine n held b ≡ true → ballot_shape b ≡ true
 unfolding ballot_fine
-shape_of n held b e = both-0 (ballot_shape b) (tail_fine n held (tail-of b)) e
+shape_of n held b e = both-0 (ballot_shape b) (tail_fine n held (tail_of b)) e
 
 -- a ballot in shape with an empty tail is none
-none-shaped : (b : Ballot) → ballot_shape b ≡ true → is_empty (tail-of b) ≡ true → is_no_ballot b ≡ true
+none-shaped : (b : Ballot) → ballot_shape b ≡ true → is_empty (tail_of b) ≡ true → is_no_ballot b ≡ true
 unfolding ballot_shape
 none-shaped b s e =
     let cells = eqb-true (length b.cells) 32 (both-0 _ _ s) in
     let len = leb-true b.len 32 (both-0 _ _ (both-1 _ _ s)) in
-    let none : length (tail-of b) ≡ 0 = ap length (empty-nil (tail-of b) e) in
+    let none : length (tail_of b) ≡ 0 = ap length (empty-nil (tail_of b) e) in
     eq-eqb 0 b.len (omega (arith, none, length-take-le b.len b.cells (omega arith)))
 
 -- two tests of every ballot make a third
@@ -59,18 +59,18 @@ places-fine n held bs eight = alike _ _ to from
         let shape = both-0 _ _ e in
         let tails = both-1 _ _ (both-1 _ _ e) in
         both_true _ _
-        (both_halves ballot_shape (λ b. tail_fine n held (tail-of b)) (ballot_fine n held) (λ b p q. both_true (ballot_shape b) (tail_fine n held (tail-of b)) p q) bs shape
-        (sym (all-mapped (tail_fine n held) tail-of bs) ∙ both-0 _ _ tails))
-        (both_halves ballot_shape (λ b. is_empty (tail-of b)) is_no_ballot none-shaped (drop n bs) (all_drop ballot_shape n bs shape)
-        (sym (all-mapped is_empty tail-of (drop n bs)) ∙ ap (all_b is_empty) (sym (drop-map tail-of n bs)) ∙ both-1 _ _ tails))
+        (both_halves ballot_shape (λ b. tail_fine n held (tail_of b)) (ballot_fine n held) (λ b p q. both_true (ballot_shape b) (tail_fine n held (tail_of b)) p q) bs shape
+        (sym (all-mapped (tail_fine n held) tail_of bs) ∙ both-0 _ _ tails))
+        (both_halves ballot_shape (λ b. is_empty (tail_of b)) is_no_ballot none-shaped (drop n bs) (all_drop ballot_shape n bs shape)
+        (sym (all-mapped is_empty tail_of (drop n bs)) ∙ ap (all_b is_empty) (sym (drop-map tail_of n bs)) ∙ both-1 _ _ tails))
 
     from : places_fine n held bs ≡ true → ballots_fine n held bs ≡ true
     from e =
         let fine = both-0 _ _ e in
         both_true _ _ (all-mono (ballot_fine n held) ballot_shape (shape_of n held) bs fine)
-        (both_true _ _ (eq-eqb (length (map tail-of bs)) 8 (length-map bs tail-of ∙ eight))
-        (both_true _ _ (all_map (ballot_fine n held) (tail_fine n held) tail-of (tail-fine n held) bs fine)
-        (ap (all_b is_empty) (drop-map tail-of n bs) ∙ all_map is_no_ballot is_empty tail-of none-empty (drop n bs) (both-1 _ _ e))))
+        (both_true _ _ (eq-eqb (length (map tail_of bs)) 8 (length-map bs tail_of ∙ eight))
+        (both_true _ _ (all_map (ballot_fine n held) (tail_fine n held) tail_of (tail-fine n held) bs fine)
+        (ap (all_b is_empty) (drop-map tail_of n bs) ∙ all_map is_no_ballot is_empty tail_of none-empty (drop n bs) (both-1 _ _ e))))
 
 -- eight ballots that are none are within the limits
 pub none-all : (n held : ℕ) → held ≤ 1024 → (bs : List Ballot) → length bs ≡ 8 → all_b empty_ballot bs ≡ true → true ≡ ballots_fine n held bs

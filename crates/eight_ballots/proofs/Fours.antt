@@ -25,7 +25,7 @@ use Rattle.entries.specs.Carries.{is_coding}
 use Rattle.entries.proofs.Carries.{zero-next}
 use Rattle.entries.proofs.Word.{coding-entry}
 use Rattle.lists.proofs.Walk.{AllWith, and_both, with-done}
-use Rattle.ballots.specs.Ballots.{ballot_fine, ballot_shape, tail-of}
+use Rattle.ballots.specs.Ballots.{ballot_fine, ballot_shape, tail_of}
 use Rattle.eight_ballots.specs.Fours.{all_cells, coding_cells, entry_cells, mask_words, of_four, unused_zero, fair_tail}
 use Rattle.ballots.specs.declared.Ballot.{Ballot}
 use Rattle.ballots.proofs.Laws.{fine}
@@ -124,7 +124,7 @@ fine-tests n held b some = alike _ _ to from
     to e =
         let lens = both-0 _ _ e in
         let cells = both-0 _ _ (both-1 _ _ e) in
-        let l : length (tail-of b) ≡ b.len = length-take-le b.len b.cells (omega (arith, leb-true b.len 32 (both-0 _ _ lens), eqb-true (length b.cells) 32 (both-0 _ _ cells))) in
+        let l : length (tail_of b) ≡ b.len = length-take-le b.len b.cells (omega (arith, leb-true b.len 32 (both-0 _ _ lens), eqb-true (length b.cells) 32 (both-0 _ _ cells))) in
         both_true _ _ (both_true _ _ (both-0 _ _ cells) (both_true _ _ (both-0 _ _ lens) (both-0 _ _ (both-1 _ _ (both-1 _ _ e)))))
         (both_true _ _ (rw l (both-0 _ _ lens))
         (both_true _ _ (rw l (both-1 _ _ lens)) (both_true _ _ (all_take (is_entry n) b.len b.cells (both-1 _ _ cells)) (both-1 _ _ (both-1 _ _ (both-1 _ _ e))))))
@@ -134,6 +134,6 @@ fine-tests n held b some = alike _ _ to from
         let F = fine n held b e in
         let unused : all_b (is_entry n) (drop b.len b.cells) ≡ true =
         all-mono (eqb 0) (is_entry n) (λ x z. ap (is_entry n) (sym (eqb-true 0 x z)) ∙ zero-entry n some) (drop b.len b.cells) F.zero in
-        let cells : all_b (is_entry n) b.cells ≡ true = rw (take-append-drop b.len b.cells) at (all_append (is_entry n) (tail-of b) (drop b.len b.cells) F.entries unused) in
+        let cells : all_b (is_entry n) b.cells ≡ true = rw (take-append-drop b.len b.cells) at (all_append (is_entry n) (tail_of b) (drop b.len b.cells) F.entries unused) in
         both_true _ _ (both_true _ _ (le-leb b.len 32 F.len) (le-leb (held + b.len) 1024 F.path))
         (both_true _ _ (both_true _ _ (eq-eqb (length b.cells) 32 F.cells) cells) (both_true _ _ F.zero F.parts))

@@ -4,7 +4,7 @@ use Rattle.protocol.specs.Entry.{is_entry}
 use Rattle.protocol.specs.Fair.{fair}
 use Rattle.lists.specs.Tests.{both, pick, all_b}
 use Rattle.entries.specs.Carries.{is_coding}
-use Rattle.ballots.specs.Ballots.{tail-of}
+use Rattle.ballots.specs.Ballots.{tail_of}
 use Rattle.ballots.specs.declared.Ballot.{Ballot}
 
 -- a ballot of this length may stand at this place of a record of n offices: no path past 1024, and none from office n on
@@ -32,7 +32,7 @@ padded_entries n b = both (leb b.len 32) (both (entry_cells n b) (unused_zero b)
 
 -- (v) no office has more than its part of the ballot's tail
 unfoldable pub fair_tail : ℕ → Ballot → Bool
-fair_tail n b = fair n (tail-of b)
+fair_tail n b = fair n (tail_of b)
 
 -- a test of four ballots
 unfoldable pub of_four : (Ballot → Bool) → Ballot → Ballot → Ballot → Ballot → Bool

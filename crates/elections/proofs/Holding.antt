@@ -19,7 +19,7 @@ use Rattle.protocol.specs.Elect.{with_elect}
 use Rattle.protocol.specs.Limits.{is_empty, length_limit, tail_fine}
 use Rattle.lists.proofs.Tests.{all_map, drop-map}
 use Rattle.protocol_laws.proofs.Limits as Limits
-use Rattle.ballots.specs.Ballots.{ballot_fine, is_no_ballot, tail-of, ballot_of, words_with}
+use Rattle.ballots.specs.Ballots.{ballot_fine, is_no_ballot, tail_of, ballot_of, words_with}
 use Rattle.ballots.proofs.Laws as B
 use Rattle.summary.specs.Summary.{summary_after}
 use Rattle.kept.specs.Kept.{rule_behind}
@@ -60,11 +60,11 @@ module _ (n : ℕ) (s : State) (words : List ℕ) (S : Steppable n s words) wher
 
   pub held-fine : Limits.Fine n (held_in s words)
   held-fine = record {
-    eight = length-map s.ballots tail-of ∙ S.eight;
+    eight = length-map s.ballots tail_of ∙ S.eight;
     most = omega (arith, log-length, S.most);
     entries = S.entries;
-    tails = rw log-length (all_map (ballot_fine n s.held) (tail_fine n s.held) tail-of (B.tail-fine n s.held) s.ballots S.fine);
-    rest = rw (drop-map tail-of n s.ballots) (all_map is_no_ballot is_empty tail-of B.none-empty (drop n s.ballots) S.rest);
+    tails = rw log-length (all_map (ballot_fine n s.held) (tail_fine n s.held) tail_of (B.tail-fine n s.held) s.ballots S.fine);
+    rest = rw (drop-map tail_of n s.ballots) (all_map is_no_ballot is_empty tail_of B.none-empty (drop n s.ballots) S.rest);
   }
 
 pub held : (n : ℕ) (kept : Kept) (s : State) (words : List ℕ) → Electable n kept s words → state_of kept (held_in s words) ≡ s

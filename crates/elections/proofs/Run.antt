@@ -24,14 +24,14 @@ use Rattle.protocol_laws.proofs.Counts.{counts-next, counts-most}
 use Rattle.protocol_laws.proofs.Vote.{NamesVoted, winner-voted, by_log-voted}
 use Rattle.protocol_laws.proofs.Limits as Limits
 use Rattle.protocol_laws.proofs.Elect.{elect-none, elect-some}
-use Rattle.ballots.specs.Ballots.{tail-of, ballot_of, words_with}
+use Rattle.ballots.specs.Ballots.{tail_of, ballot_of, words_with}
 use Rattle.ballots.specs.declared.Ballot.{Ballot}
 use Rattle.summary.specs.Summary.{summary_after, summary_next}
 use Rattle.summary.specs.declared.Summary.{Summary}
 use Rattle.summary.proofs.Laws.{summary-next}
 use Rattle.kept.specs.Kept.{rule_behind}
 use Rattle.kept.specs.declared.Kept.{Kept}
-use Rattle.elections.specs.Elections.{held_in, Steppable, winner_in, settled_by, step_of, step-words}
+use Rattle.elections.specs.Elections.{held_in, Steppable, winner_in, settled_by, step_of, step_words}
 use Rattle.elections.specs.declared.State.{State}
 use Rattle.elections.proofs.Holding.{state_of, Electable, elected_in, log-length, held, held-by, held-fine, words-kept, words-length, electable-of}
 
@@ -52,17 +52,17 @@ module _ (n : ℕ) (s : State) (words : List ℕ) (S : Steppable n s words) (cou
   step-fine = Limits.settle-fine n e (held_in s words) (held-fine n s words S) voted.0 voted.1
 
 module _ (counts : List ℕ) (s : State) (words : List ℕ) where
-  pub step-won : (e : ℕ) → winner_in counts s words ≡ some e → (bs : List Ballot) → bs ≡ map ballot_of (map (lose e) (map tail-of s.ballots))
+  pub step-won : (e : ℕ) → winner_in counts s words ≡ some e → (bs : List Ballot) → bs ≡ map ballot_of (map (lose e) (map tail_of s.ballots))
       → (x : Summary) → x ≡ summary_next s.summary e
-      → (◌≡◌ {A = State} (record { summary = x; held = s.held + 1; ballots = bs }) (step_of counts s words)) × (set words s.held e ≡ step-words counts s words)
-  unfolding step_of step-words
+      → (◌≡◌ {A = State} (record { summary = x; held = s.held + 1; ballots = bs }) (step_of counts s words)) × (set words s.held e ≡ step_words counts s words)
+  unfolding step_of step_words
   step-won e w bs q x p = (
     (λ i. record { summary = p i; held = s.held + 1; ballots = q i }) ∙ ap (λ (o : Option ℕ). next o s (settled_by s)) (sym w),
     ap (λ (o : Option ℕ). next o words (set words s.held)) (sym w),
   )
 
-  pub step-nobody : winner_in counts s words ≡ none → (s ≡ step_of counts s words) × (words ≡ step-words counts s words)
-  unfolding step_of step-words
+  pub step-nobody : winner_in counts s words ≡ none → (s ≡ step_of counts s words) × (words ≡ step_words counts s words)
+  unfolding step_of step_words
   step-nobody w = (ap (λ (o : Option ℕ). next o s (settled_by s)) (sym w), ap (λ (o : Option ℕ). next o words (set words s.held)) (sym w))
 
 -- ── the step as the rule has it ──
@@ -88,7 +88,7 @@ module _ (n : ℕ) (kept : Kept) (s : State) (words : List ℕ) (E : Electable n
     -- the next state holds the office with e settled
     step-held : settled_by s e ≡ state_of kept (stepped s words e)
     unfolding settle
-    step-held = λ i. record { summary = after i; held = sym next-length i; ballots = map ballot_of (map (lose e) (map tail-of s.ballots)) }
+    step-held = λ i. record { summary = after i; held = sym next-length i; ballots = map ballot_of (map (lose e) (map tail_of s.ballots)) }
       where
         after : summary_next s.summary e ≡ summary_after kept.summary (take s.held words ++ e ∷ [])
         after = ap (λ (y : Summary). summary_next y e) E.done ∙ sym (summary-next kept.summary (take s.held words) e)
@@ -166,11 +166,11 @@ module _ (n : ℕ) (kept : Kept) (s₀ : State) (words₀ : List ℕ) (s : State
           long = words-length o.log words (fits e w) ∙ R.long;
         }
 
-    module _ (out : State) (p : out ≡ step_of cs s words) (last : List ℕ) (q : last ≡ step-words cs s words) where
+    module _ (out : State) (p : out ≡ step_of cs s words) (last : List ℕ) (q : last ≡ step_words cs s words) where
       -- a step that raises the held length settled an entry
       settles : (out.held ≡ s.held → ⊥)
           → (e : ℕ) × (winner_in cs s words ≡ some e) × (out ≡ state_of kept (stepped s words e)) × (last ≡ words_with (stepped s words e).log words)
-      unfolding step_of step-words
+      unfolding step_of step_words
       settles h =
           let m = a-win s words out last (winner_in cs s words) p q h in
           let room = (winning n s words R.sound.limits cs m.0 m.1).1 in
@@ -199,7 +199,7 @@ module _ (n : ℕ) (kept : Kept) (s₀ : State) (words₀ : List ℕ) (s : State
           k ∙ ap₂ counted c here ∙ sym (counts-next kept.counts log e) ∙ ap (counts_after kept.counts) (sym all)
 
       pub run-last : out.held ≡ s.held → (out ≡ s) × (last ≡ words) × (elected_in kept s₀ words₀ ≡ held_in s words)
-      unfolding step_of step-words
+      unfolding step_of step_words
       run-last h =
           let m = no-win s words out last (winner_in cs s words) p q h in
           (m.1, m.2, R.same ∙ elect-none (rule_behind kept) (held_in s words) (by-rule n kept s words R.sound cs c ∙ m.0))

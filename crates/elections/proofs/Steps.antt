@@ -24,7 +24,7 @@ use Rattle.protocol.specs.Office.{first, votes}
 use Rattle.protocol.specs.Elect.{lose}
 use Rattle.lists.proofs.Tests.{both-0, both-1, both_true, all-at, all_get_d, all_drop, all-mono, drop-map, get_d_map}
 use Rattle.lists.proofs.Fill.{filled, front-step, fill_here, fill-rest}
-use Rattle.ballots.specs.Ballots.{tail-of, ballot_of, no_ballot, off_end, ballot_shape, ballot_fine, is_no_ballot}
+use Rattle.ballots.specs.Ballots.{tail_of, ballot_of, no_ballot, off_end, ballot_shape, ballot_fine, is_no_ballot}
 use Rattle.ballots.specs.declared.Ballot.{Ballot}
 use Rattle.ballots.proofs.Laws as B
 use Rattle.tallies.specs.Tallies.{no_vote, cast, vote_in, votes_in, SilentFrom, winner_is}
@@ -53,7 +53,7 @@ all-silent (suc k) = both_true (eqb no_vote no_vote) (all_b (eqb no_vote) (repli
 
 -- "ballots starting with it lose that entry, all other ballots become none"
 abbrev pub lost : ℕ → Ballot → Ballot
-lost e b = ballot_of (lose e (tail-of b))
+lost e b = ballot_of (lose e (tail_of b))
 
 none-lost : (n settled e : ℕ) (bs : List Ballot) → all_b (ballot_fine n settled) bs ≡ true → all_b is_no_ballot bs ≡ true → bs ≡ map (lost e) bs
 unfolding all_b
@@ -63,7 +63,7 @@ none-lost n settled e (b ∷ bs) f h =
     (sym (B.ballot-held n settled b (B.fine n settled b (both-0 _ _ f))) ∙ ap ballot_of (lost-none e b (sym (eqb-true 0 b.len (both-0 _ _ h)))))
     (none-lost n settled e bs (both-1 _ _ f) (both-1 _ _ h))
 
-lost-all : (e : ℕ) (bs : List Ballot) → map (lost e) bs ≡ map ballot_of (map (lose e) (map tail-of bs))
+lost-all : (e : ℕ) (bs : List Ballot) → map (lost e) bs ≡ map ballot_of (map (lose e) (map tail_of bs))
 lost-all e [] = refl
 lost-all e (b ∷ bs) = ap (λ (l : List Ballot). lost e b ∷ l) (lost-all e bs)
 
@@ -98,8 +98,8 @@ module _ (n : ℕ) (s : State) (words : List ℕ) (S : Steppable n s words) wher
           ap (all_b (eqb no_vote)) (drop-map cast n s.ballots ∙ sym (none-cast (drop n s.ballots) S.rest)) ∙ all-silent (length (drop n s.ballots)),
     )
 
-  entries : all_b (λ (b : Ballot). all_b (is_entry n) (tail-of b)) s.ballots ≡ true
-  entries = all-mono (ballot_fine n s.held) (λ (b : Ballot). all_b (is_entry n) (tail-of b)) (λ b f. (B.fine n s.held b f).entries) s.ballots S.fine
+  entries : all_b (λ (b : Ballot). all_b (is_entry n) (tail_of b)) s.ballots ≡ true
+  entries = all-mono (ballot_fine n s.held) (λ (b : Ballot). all_b (is_entry n) (tail_of b)) (λ b f. (B.fine n s.held b f).entries) s.ballots S.fine
 
   cast-votes : votes_in (map cast s.ballots) ≡ votes (held_in s words)
   unfolding all_b
@@ -108,7 +108,7 @@ module _ (n : ℕ) (s : State) (words : List ℕ) (S : Steppable n s words) wher
       same : (k : ℕ) → votes_in (map cast s.ballots) k ≡ votes (held_in s words) k
       same k =
           ap vote_in (get_d_map cast off_end s.ballots k) ∙
-          cast-vote n (get_or s.ballots k off_end) (all_get_d (λ (b : Ballot). all_b (is_entry n) (tail-of b)) off_end s.ballots k entries refl) ∙
+          cast-vote n (get_or s.ballots k off_end) (all_get_d (λ (b : Ballot). all_b (is_entry n) (tail_of b)) off_end s.ballots k entries refl) ∙
           ap first (sym (B.tail_at s.ballots k))
 
   -- what the winner that is found by these votes says
@@ -151,7 +151,7 @@ module _ (n : ℕ) (s : State) (words : List ℕ) (S : Steppable n s words) wher
           front-step no_ballot (map (lost e) s.ballots) s.ballots i (omega (arith, all-lost)) (omega (arith, S.eight))
 
       pub lost-first : 0 < (get_or bs i off_end).len → (v : ℕ) → v ≡ cast (get_or bs i off_end) → v ≡ e → (x : Ballot)
-          → x ≡ ballot_of (drop 1 (tail-of (get_or bs i off_end))) → Settling e s.ballots (set bs i x) (i + 1)
+          → x ≡ ballot_of (drop 1 (tail_of (get_or bs i off_end))) → Settling e s.ballots (set bs i x) (i + 1)
       lost-first h v p q x t = lost-write x (t ∙ ap ballot_of (lost-for e (get_or bs i off_end) h cells-here (sym p ∙ q)))
 
       pub lost-rival : 0 < (get_or bs i off_end).len → (v : ℕ) → v ≡ cast (get_or bs i off_end) → (v ≡ e → ⊥) → (x : Ballot) → x ≡ no_ballot → Settling e s.ballots (set bs i x) (i + 1)
@@ -163,7 +163,7 @@ module _ (n : ℕ) (s : State) (words : List ℕ) (S : Steppable n s words) wher
           subst (λ (l : List Ballot). Settling e s.ballots l (i + 1)) (set-get_or bs i off_end)
           (lost-write x (sym (B.ballot-held n s.held x (B.fine n s.held x fine-here)) ∙ ap ballot_of (lost-none e x q)))
 
-    pub lost-end : (bs : List Ballot) (i : ℕ) → Settling e s.ballots bs i → i ≡ n → bs ≡ map ballot_of (map (lose e) (map tail-of s.ballots))
+    pub lost-end : (bs : List Ballot) (i : ℕ) → Settling e s.ballots bs i → i ≡ n → bs ≡ map ballot_of (map (lose e) (map tail_of s.ballots))
     lost-end bs i inv q =
         inv ∙ ap (filled (map (lost e) s.ballots) s.ballots) q ∙
         fill-rest (map (lost e) s.ballots) s.ballots n

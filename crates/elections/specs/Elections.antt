@@ -7,7 +7,7 @@ use Rattle.protocol.specs.Counts.{quieter_by}
 use Rattle.protocol.specs.Vote.{winner}
 use Rattle.protocol.specs.Office.{Office, votes}
 use Rattle.protocol.specs.Elect.{lose, next}
-use Rattle.ballots.specs.Ballots.{tail-of, ballot_of, ballot_fine, is_no_ballot, office_in}
+use Rattle.ballots.specs.Ballots.{tail_of, ballot_of, ballot_fine, is_no_ballot, office_in}
 use Rattle.ballots.specs.declared.Ballot.{Ballot}
 use Rattle.summary.specs.Summary.{summary_next}
 use Rattle.elections.specs.declared.State.{State}
@@ -32,7 +32,7 @@ winner_in counts s words = winner s.summary.present (quieter_by counts) (votes (
 
 -- the state with entry e settled: "the length rises by one"
 abbrev pub settled_by : State → ℕ → State
-settled_by s e = record { summary = summary_next s.summary e; held = s.held + 1; ballots = map ballot_of (map (lose e) (map tail-of s.ballots)) }
+settled_by s e = record { summary = summary_next s.summary e; held = s.held + 1; ballots = map ballot_of (map (lose e) (map tail_of s.ballots)) }
 
 -- one step
 unfoldable pub step_of : List ℕ → State → List ℕ → State

@@ -20,7 +20,7 @@ use Rattle.summary.specs.Summary.{summary_after}
 use Rattle.summary.proofs.Laws.{summary-append}
 use Rattle.kept.specs.Kept.{kept_after}
 use Rattle.kept.specs.declared.Kept.{Kept}
-use Rattle.frame.specs.State.{held_length, held-by, folded_by, with_held, kept_by, holding}
+use Rattle.frame.specs.State.{held_length, held_by, folded_by, with_held, kept_by, holding}
 use Rattle.frame.specs.Soundness.{sound_b, Sound}
 use Rattle.folding.specs.Folding.{shortened_of, fold_of, fold_words}
 use Rattle.frame.specs.declared.Record.{Record}
@@ -55,7 +55,7 @@ module _ (r : Record) (words : List ℕ) (S : Sound r words) where
 
   -- ── the record that is left ──
   abbrev log : List ℕ
-  log = (held-by r words).log
+  log = (held_by r words).log
 
   -- what the log has done is done by the dropped entries and then by the rest
   rest-done : (k : ℕ) → summary_after (kept_after r.kept (take k log)).summary (drop k log) ≡ r.summary
@@ -78,11 +78,11 @@ module _ (r : Record) (words : List ℕ) (S : Sound r words) where
 
 -- ── the whole answer ──
 pub fold-made : (r : Record) (words : List ℕ) → sound_b r words ≡ true → (k : ℕ) → k ≡ gone_of r words → (x : Kept) → x ≡ kept_after r.kept (take k words)
-    → (last : List ℕ) → last ≡ words_with (drop k (held-by r words).log) words
+    → (last : List ℕ) → last ≡ words_with (drop k (held_by r words).log) words
     → (◌≡◌ {A = Folded} (record { «record» = with_held r x r.noted r.summary r.settled r.ballots; number = 0; count = k }) (fold_of r words)) × (last ≡ fold_words r words)
 unfolding fold_of fold_words with_fold pick
 fold-made r words e k c x q last l =
-    (rw e (λ i. record { «record» = fold-held r words (sound r words e) k c x q i; number = 0; count = c i }), rw e (l ∙ ap (λ (j : ℕ). words_with (drop j (held-by r words).log) words) c))
+    (rw e (λ i. record { «record» = fold-held r words (sound r words e) k c x q i; number = 0; count = c i }), rw e (l ∙ ap (λ (j : ℕ). words_with (drop j (held_by r words).log) words) c))
 
 pub fold-zero : (r : Record) (words : List ℕ) → sound_b r words ≡ true → (fold_of r words).number ≡ 0
 unfolding fold_of pick

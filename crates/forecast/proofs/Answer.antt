@@ -19,7 +19,7 @@ use Rattle.tallies.specs.declared.Winner.{Winner}
 use Rattle.tallies.specs.declared.Winner.TheVariants.{Nobody}
 use Rattle.bounds.specs.Bounds.{fits, sure_winner}
 use Rattle.bounds.proofs.Cast.{cast-votes, cast-silent}
-use Rattle.frame.specs.State.{held_length, held-by}
+use Rattle.frame.specs.State.{held_length, held_by}
 use Rattle.frame.specs.Soundness.{sound_b, Sound}
 use Rattle.frame.specs.declared.Record.{Record}
 use Rattle.frame.proofs.State.{log-length, room-for}
@@ -53,5 +53,5 @@ module _ (r : Record) (words lowest highest : List ℕ) where
       simp (e, f)
       (ap (λ (x : Winner). record { number = 0; winner = x }) (made ∙ λ i. winner_is (sure_winner (bounds_of r lowest) (bounds_of r highest) (quieter_by (p i)) (voted i))))
     where
-      voted : votes_in vs ≡ votes (held-by r words)
+      voted : votes_in vs ≡ votes (held_by r words)
       voted = ap votes_in q ∙ cast-votes r.n (held_length r) r.ballots S.fine

@@ -30,7 +30,7 @@ use Rattle.bounds.specs.Bounds.{◌≼◌, fits, sure_winner}
 use Rattle.bounds.proofs.Choices.{fits-true, fits-of, ≼_refl}
 use Rattle.bounds.proofs.Exact as sure
 use Rattle.bounds.proofs.Eight.{Silent, winner-eight, eight-zeros}
-use Rattle.frame.specs.State.{held-by}
+use Rattle.frame.specs.State.{held_by}
 use Rattle.frame.specs.Soundness.{sound_b, Sound}
 use Rattle.frame.specs.Electing.{tie_order, winner_of}
 use Rattle.frame.specs.declared.Record.{Record}
@@ -65,13 +65,13 @@ module _ (r : Record) (words lowest highest : List ℕ) where
       let named = named_of r words lowest highest in
       let is = named-is q in
       let fit = (done-fits q).1 in
-      let asymmetric = quieter-asymmetric (counts_after r.kept.counts (held-by r words).log) in
-      let some-sure = sure.sure-some (tie_order r words) (bounds_of r lowest) (bounds_of r highest) fit (votes (held-by r words)) asymmetric in
-      let none-sure = sure.sure-none (tie_order r words) (bounds_of r lowest) (bounds_of r highest) fit (votes (held-by r words)) in
+      let asymmetric = quieter-asymmetric (counts_after r.kept.counts (held_by r words).log) in
+      let some-sure = sure.sure-some (tie_order r words) (bounds_of r lowest) (bounds_of r highest) fit (votes (held_by r words)) asymmetric in
+      let none-sure = sure.sure-none (tie_order r words) (bounds_of r lowest) (bounds_of r highest) fit (votes (held_by r words)) in
       record {
         named = λ e. (λ h. (some-sure e).0 (winner-some named e (sym is ∙ h)), λ s. is ∙ ap winner_is ((some-sure e).1 s));
         nobody = (λ h. none-sure.0 (winner-none named (sym is ∙ h)), λ s. is ∙ ap winner_is (none-sure.1 s));
-        one = sure.surely-unique (tie_order r words) (bounds_of r lowest) (bounds_of r highest) fit (votes (held-by r words)) asymmetric;
+        one = sure.surely-unique (tie_order r words) (bounds_of r lowest) (bounds_of r highest) fit (votes (held_by r words)) asymmetric;
       }
 
   -- "a total of zero counts as a choice"
@@ -80,7 +80,7 @@ module _ (r : Record) (words lowest highest : List ℕ) where
   zero-none z = go (ℕ_discrete (forecast_number r words lowest highest) 0)
     where
       go : Dec (forecast_number r words lowest highest ≡ 0) → (forecast_of r words lowest highest).winner ≡ Nobody
-      go (yes q) = named-is q ∙ ap winner_is (sure.sure-zero (tie_order r words) (bounds_of r lowest) (bounds_of r highest) (done-fits q).1 (votes (held-by r words)) z)
+      go (yes q) = named-is q ∙ ap winner_is (sure.sure-zero (tie_order r words) (bounds_of r lowest) (bounds_of r highest) (done-fits q).1 (votes (held_by r words)) z)
       go (no q) = refused_none q
 
 -- "Bounds from place n on aren't looked at"
@@ -111,17 +111,17 @@ weights-aside r s words lowest highest p q a = λ i. record {
 }
 
 -- the offices from place n on have no vote
-silent : (r : Record) (words : List ℕ) → Sound r words → Silent r.n (votes (held-by r words))
+silent : (r : Record) (words : List ℕ) → Sound r words → Silent r.n (votes (held_by r words))
 unfolding is_empty
-silent r words S k h = go (get_or (held-by r words).tails k []) refl
+silent r words S k h = go (get_or (held_by r words).tails k []) refl
   where
-    at : is_empty (get_or (held-by r words).tails k []) ≡ true
+    at : is_empty (get_or (held_by r words).tails k []) ≡ true
     at =
         let p : k ≡ r.n + (k - r.n) = omega arith in
-        ap (λ (j : ℕ). is_empty (get_or (held-by r words).tails j [])) p ∙ ap is_empty (sym (get_or-drop r.n (held-by r words).tails (k - r.n) [])) ∙
-        all_get_d is_empty [] (drop r.n (held-by r words).tails) (k - r.n) (folded-fine r words S).held.rest refl
+        ap (λ (j : ℕ). is_empty (get_or (held_by r words).tails j [])) p ∙ ap is_empty (sym (get_or-drop r.n (held_by r words).tails (k - r.n) [])) ∙
+        all_get_d is_empty [] (drop r.n (held_by r words).tails) (k - r.n) (folded-fine r words S).held.rest refl
 
-    go : (t : List ℕ) → get_or (held-by r words).tails k [] ≡ t → first (get_or (held-by r words).tails k []) ≡ none
+    go : (t : List ℕ) → get_or (held_by r words).tails k [] ≡ t → first (get_or (held_by r words).tails k []) ≡ none
     go [] q = ap first q
     go (x ∷ t) q = absurd (true≢false (sym at ∙ ap is_empty q))
 
@@ -130,23 +130,23 @@ module _ (s : Record) (words : List ℕ) (S : Sound s words) where
   abbrev present : List ℕ
   present = s.summary.present
 
-  follows : present ≡ weights_after s.kept.summary.present (held-by s words).log
+  follows : present ≡ weights_after s.kept.summary.present (held_by s words).log
   follows = ap (λ (x : Summary). x.present) S.done
 
   long : length present ≡ 8
-  long = ap length follows ∙ weights-length s.kept.summary.present (held-by s words).log ∙ S.kept.eight
+  long = ap length follows ∙ weights-length s.kept.summary.present (held_by s words).log ∙ S.kept.eight
 
   zero : all_b (eqb 0) (drop s.n present) ≡ true
-  zero = ap (λ (ws : List ℕ). all_b (eqb 0) (drop s.n ws)) follows ∙ weights-zero s.n s.kept.summary.present (held-by s words).log S.entries S.kept.rest
+  zero = ap (λ (ws : List ℕ). all_b (eqb 0) (drop s.n ws)) follows ∙ weights-zero s.n s.kept.summary.present (held_by s words).log S.entries S.kept.rest
 
-  quiet : Silent (length (take s.n present)) (votes (held-by s words))
+  quiet : Silent (length (take s.n present)) (votes (held_by s words))
   quiet k h = let m = S.head.most in silent s words S k (omega (arith, length-take-le s.n present (omega (arith, long))))
 
   met : named_of s words present present ≡ winner_of s words
   met =
-      sure.sure-met (tie_order s words) (take s.n present) (votes (held-by s words)) ∙
-      sym (winner-eight (tie_order s words) (take s.n present) (votes (held-by s words)) quiet) ∙
-      ap (λ (ws : List ℕ). winner ws (tie_order s words) (votes (held-by s words))) (eight-zeros s.n present S.head.most long zero ∙ follows)
+      sure.sure-met (tie_order s words) (take s.n present) (votes (held_by s words)) ∙
+      sym (winner-eight (tie_order s words) (take s.n present) (votes (held_by s words)) quiet) ∙
+      ap (λ (ws : List ℕ). winner ws (tie_order s words) (votes (held_by s words))) (eight-zeros s.n present S.head.most long zero ∙ follows)
 
 pub bounds-met : (r s : Record) (words : List ℕ) → sound_b r words ≡ true → sound_b s words ≡ true → Alike r s
     → forecast_of r words s.summary.present s.summary.present ≡ record { number = 0; winner = winner_is (winner_of s words) }

@@ -13,7 +13,7 @@ use Rattle.std.specs.Prelude.{◌≡◌, ◌↔◌, List, ℕ}
 use Rattle.protocol.specs.Office.{votes}
 use Rattle.tallies.specs.declared.Winner.TheVariants.{Entry, Nobody}
 use Rattle.bounds.specs.Bounds.{WinsSurely}
-use Rattle.frame.specs.State.{held-by}
+use Rattle.frame.specs.State.{held_by}
 use Rattle.frame.specs.Electing.{tie_order}
 use Rattle.frame.specs.declared.Record.{Record}
 use Rattle.forecast.specs.Forecast.{bounds_of, forecast_of}
@@ -21,7 +21,7 @@ use Rattle.forecast.specs.Forecast.{bounds_of, forecast_of}
 -- "it wins under every choice, by document 01's winning rule with the tie order of its day; a total of zero counts as a choice": for every list of n
 -- weights, each at least the lowest and at most the highest of its place
 abbrev pub WinsFirst : Record → List ℕ → List ℕ → List ℕ → ℕ → Type 0
-WinsFirst r words lowest highest e = WinsSurely (bounds_of r lowest) (bounds_of r highest) (tie_order r words) (votes (held-by r words)) e
+WinsFirst r words lowest highest e = WinsSurely (bounds_of r lowest) (bounds_of r highest) (tie_order r words) (votes (held_by r words)) e
 
 -- "It is named exactly if it wins under every choice"
 pub record Exact (r : Record) (words lowest highest : List ℕ) : Type 0 where

@@ -7,7 +7,7 @@ use Rattle.lists.specs.Tests.{pick}
 use Rattle.protocol.specs.Office.{votes}
 use Rattle.tallies.specs.Tallies.{winner_is}
 use Rattle.bounds.specs.Bounds.{fits, sure_winner}
-use Rattle.frame.specs.State.{held-by}
+use Rattle.frame.specs.State.{held_by}
 use Rattle.frame.specs.Soundness.{sound_b}
 use Rattle.frame.specs.Electing.{tie_order}
 use Rattle.frame.specs.declared.Record.{Record}
@@ -19,7 +19,7 @@ bounds_of r cells = take r.n cells
 
 -- the entry that is named, if any, "with the tie order of its day"
 abbrev pub named_of : Record → List ℕ → List ℕ → List ℕ → Option ℕ
-named_of r words lowest highest = sure_winner (bounds_of r lowest) (bounds_of r highest) (tie_order r words) (votes (held-by r words))
+named_of r words lowest highest = sure_winner (bounds_of r lowest) (bounds_of r highest) (tie_order r words) (votes (held_by r words))
 
 -- 1: "record unsound, or log below 1024 words"; "15 when an earlier lowest exceeds its highest, after number 1"
 unfoldable pub forecast_number : Record → List ℕ → List ℕ → List ℕ → ℕ

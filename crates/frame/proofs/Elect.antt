@@ -25,7 +25,7 @@ use Rattle.kept.specs.declared.Kept.{Kept}
 use Rattle.elections.proofs.Holding.{state_of, elected_in}
 use Rattle.elections.specs.declared.State.{State}
 use Rattle.elections.proofs.Run as Run
-use Rattle.frame.specs.State.{held_length, held-by, folded_by, state_in, with_state, kept_by, holding_behind, holding}
+use Rattle.frame.specs.State.{held_length, held_by, folded_by, state_in, with_state, kept_by, holding_behind, holding}
 use Rattle.frame.specs.Soundness.{sound_b, Sound}
 use Rattle.frame.specs.Electing.{rule_of, elected_of, elect_of, elect_words, winner_of}
 use Rattle.frame.specs.declared.Record.{Record}
@@ -65,7 +65,7 @@ module _ (r : Record) (words : List ℕ) (e : sound_b r words ≡ true) (x : Sta
       kept : holding_behind r r.kept (elected_of r words) ≡ holding r words (elected_of r words)
       kept = ap (λ (k : Kept). holding_behind r k (elected_of r words)) (sym (kept-stays r words (sound r words e) (elected_of r words) refl))
 
-      grown : count ≡ elect_count (rule_of r) (held-by r words)
+      grown : count ≡ elect_count (rule_of r) (held_by r words)
       grown = omega (arith, h, ap (λ (y : State). y.held) elected, log-length r words (sound r words e))
 
 -- ── what elect leaves ──
@@ -77,7 +77,7 @@ elect-zero r words e = rw e
 pub record ElectDone (r : Record) (words : List ℕ) : Type 0 where
   pub was : Sound r words
   pub made : (elect_of r words).«record» ≡ holding r words (elected_of r words)
-  pub counted : (elect_of r words).count ≡ elect_count (rule_of r) (held-by r words)
+  pub counted : (elect_of r words).count ≡ elect_count (rule_of r) (held_by r words)
   pub written : elect_words r words ≡ words_with (elected_of r words).held.log words
 
 pub elect-done : (r : Record) (words : List ℕ) → (elect_of r words).number ≡ 0 → ElectDone r words
@@ -113,11 +113,11 @@ elect-keeps r words q = go (sound_b r words) refl
 
 -- "answers how many entries it settled": the count is the log's growth
 pub elect-grows : (r : Record) (words : List ℕ) → (elect_of r words).number ≡ 0
-    → (s : List ℕ) × ((held-by (elect_of r words).«record» (elect_words r words)).log ≡ (held-by r words).log ++ s) × (length s ≡ (elect_of r words).count)
+    → (s : List ℕ) × ((held_by (elect_of r words).«record» (elect_words r words)).log ≡ (held_by r words).log ++ s) × (length s ≡ (elect_of r words).count)
 unfolding with_folded_elect
 elect-grows r words q =
     let D = elect-done r words q in
-    let g = elect-log (rule_of r) (held-by r words) in
+    let g = elect-log (rule_of r) (held_by r words) in
     (g.0, ap (λ (f : F.FoldedOffice). f.held.log) (elect-state r words q) ∙ g.1, g.2 ∙ sym D.counted)
 
 -- "until no entry wins"
@@ -126,4 +126,4 @@ unfolding with_folded_elect
 elect-ends r words q =
     let D = elect-done r words q in
     let k = elect-kept r words q ∙ kept-stays r words D.was (elected_of r words) refl in
-    ap₂ (λ (x : Kept) (f : F.FoldedOffice). rule_behind x f.held.log (votes f.held)) k (elect-state r words q) ∙ elect-stops (rule_of r) (rule-voted r) (held-by r words)
+    ap₂ (λ (x : Kept) (f : F.FoldedOffice). rule_behind x f.held.log (votes f.held)) k (elect-state r words q) ∙ elect-stops (rule_of r) (rule-voted r) (held_by r words)

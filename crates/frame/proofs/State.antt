@@ -21,7 +21,7 @@ use Rattle.protocol.specs.Office.{tail}
 use Rattle.protocol.specs.Folding as F
 use Rattle.protocol.specs.Limits.{Head, length_limit, lengths_fine}
 use Rattle.protocol_laws.proofs.FoldedLimits.{FoldedFine}
-use Rattle.ballots.specs.Ballots.{ballot_fine, tail-of, off_end, office_in, words_with}
+use Rattle.ballots.specs.Ballots.{ballot_fine, tail_of, off_end, office_in, words_with}
 use Rattle.ballots.specs.declared.Ballot.{Ballot}
 use Rattle.ballots.proofs.Laws as B
 use Rattle.summary.specs.Summary.{summary_after}
@@ -32,18 +32,18 @@ use Rattle.soundness.proofs.Folded as fields
 use Rattle.elections.specs.Elections.{Steppable}
 use Rattle.elections.proofs.Holding.{Electable}
 use Rattle.elections.proofs.Holding as Holding
-use Rattle.frame.specs.State.{held_length, held-by, folded_by, state_in, with_held, own_ballot, goes, kept_by, holding_behind, holding}
+use Rattle.frame.specs.State.{held_length, held_by, folded_by, state_in, with_held, own_ballot, goes, kept_by, holding_behind, holding}
 use Rattle.frame.specs.Soundness.{Sound}
 use Rattle.frame.specs.declared.Record.{Record}
 
-pub tail_at : (r : Record) (words : List ℕ) (k : ℕ) → tail (held-by r words) k ≡ tail-of (get_or r.ballots k off_end)
+pub tail_at : (r : Record) (words : List ℕ) (k : ℕ) → tail (held_by r words) k ≡ tail_of (get_or r.ballots k off_end)
 tail_at r words k = B.tail_at r.ballots k
 
 -- the office that a record was made to hold, behind what is kept
 pub held-behind : (r : Record) (k : Kept) (f : F.FoldedOffice) → k.dropped ≡ f.dropped → (words : List ℕ) → folded_by (holding_behind r k f) (words_with f.held.log words) ≡ f
 held-behind r k f e words =
     let n : f.dropped + length f.held.log - k.dropped ≡ length f.held.log = omega arith in
-    let o : held-by (holding_behind r k f) (words_with f.held.log words) ≡ f.held =
+    let o : held_by (holding_behind r k f) (words_with f.held.log words) ≡ f.held =
     ap (λ (x : ℕ). office_in (words_with f.held.log words) x (holding_behind r k f).ballots) n ∙ Holding.held-by k f.held words in
     λ i. record { dropped = e i; held = o i; noted = f.noted }
 
@@ -69,14 +69,14 @@ module _ (r : Record) (words : List ℕ) (S : Sound r words) where
   pub electable : Electable r.n r.kept (state_in r) words
   electable = record { limits = limits; done = S.done; countable = λ k. omega (arith, count-within r.n r.weights r.kept S.kept k, S.within, within-limit) }
 
-  pub log-length : length (held-by r words).log ≡ held_length r
+  pub log-length : length (held_by r words).log ≡ held_length r
   log-length = Holding.log-length _ _ words limits
 
   -- dropped entries included
-  pub whole_length : F.settled_length r.kept.dropped (held-by r words) ≡ r.settled
+  pub whole_length : F.settled_length r.kept.dropped (held_by r words) ≡ r.settled
   whole_length = fields.settled-length r.n r.own r.weights r.kept r.noted r.summary r.settled r.ballots words S
 
-  pub words-kept : words_with (held-by r words).log words ≡ words
+  pub words-kept : words_with (held_by r words).log words ≡ words
   words-kept = Holding.words-kept _ _ words limits
 
   pub ballot : (k : ℕ) → k < 8 → B.Fine r.n (held_length r) (get_or r.ballots k off_end)
@@ -96,18 +96,18 @@ module _ (r : Record) (words : List ℕ) (S : Sound r words) where
   pub kept-stays : (f : F.FoldedOffice) → f.dropped ≡ r.kept.dropped → kept_by r words f ≡ r.kept
   kept-stays f e =
       let n : f.dropped - r.kept.dropped ≡ 0 = omega arith in
-      ap (λ (k : ℕ). kept_after r.kept (take k (held-by r words).log)) n ∙ kept-nil r.kept
+      ap (λ (k : ℕ). kept_after r.kept (take k (held_by r words).log)) n ∙ kept-nil r.kept
 
   pub held : holding r words (folded_by r words) ≡ r
   held =
       let k = kept-stays (folded_by r words) refl in
-      let done = ap (λ (x : Kept). summary_after x.summary (held-by r words).log) k ∙ sym S.done in
+      let done = ap (λ (x : Kept). summary_after x.summary (held_by r words).log) k ∙ sym S.done in
       λ i. with_held r (k i) r.noted (done i) (whole_length i) (B.held_all r.n (held_length r) r.ballots S.fine i)
 
   -- a call that leaves the office as f, which has dropped as much as before or more, and no more than was settled
   module _ (f : F.FoldedOffice) (more : r.kept.dropped ≤ f.dropped) (within : f.dropped ≤ r.settled) where
     goes-length : length (goes r words f) ≡ f.dropped - r.kept.dropped
-    goes-length = length-take-le (f.dropped - r.kept.dropped) (held-by r words).log (omega (arith, log-length))
+    goes-length = length-take-le (f.dropped - r.kept.dropped) (held_by r words).log (omega (arith, log-length))
 
     pub kept-dropped : (kept_by r words f).dropped ≡ f.dropped
     kept-dropped = omega (arith, goes-length, more)
@@ -118,5 +118,5 @@ module _ (r : Record) (words : List ℕ) (S : Sound r words) where
     pub sound-of : FoldedFine r.n r.own f → Sound (holding r words f) (words_with f.held.log words)
     sound-of x =
         sound-behind r (kept_by r words f) f words S.head
-        (after-fine r.n r.weights r.kept S.kept S.head.most (goes r words f) (all_take (is_entry r.n) (f.dropped - r.kept.dropped) (held-by r words).log S.entries))
+        (after-fine r.n r.weights r.kept S.kept S.head.most (goes r words f) (all_take (is_entry r.n) (f.dropped - r.kept.dropped) (held_by r words).log S.entries))
         kept-dropped x S.room

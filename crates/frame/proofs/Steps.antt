@@ -16,7 +16,7 @@ use native.Mathlib.Omega.{arith}
 use lib.ListN.{length, get_or, take, set}
 use Rattle.protocol.specs.Counts.{count_of, counted, counts_after}
 use Rattle.protocol.specs.Elect.{lose}
-use Rattle.ballots.specs.Ballots.{tail-of, ballot_of, words_with}
+use Rattle.ballots.specs.Ballots.{tail_of, ballot_of, words_with}
 use Rattle.ballots.specs.declared.Ballot.{Ballot}
 use Rattle.summary.specs.Summary.{summary_next}
 use Rattle.summary.specs.declared.Summary.{Summary}
@@ -49,7 +49,7 @@ abbrev settled_in : Record → ℕ → Record
 settled_in r e = with_state r (settled_by (state_in r) e)
 
 -- the same from its parts
-pub settled_is : (r : Record) (words : List ℕ) → Stepping r words → (e : ℕ) (bs : List Ballot) → bs ≡ map ballot_of (map (lose e) (map tail-of r.ballots))
+pub settled_is : (r : Record) (words : List ℕ) → Stepping r words → (e : ℕ) (bs : List Ballot) → bs ≡ map ballot_of (map (lose e) (map tail_of r.ballots))
     → (x : Summary) → x ≡ summary_next r.summary e → with_held r r.kept r.noted x (r.settled + 1) bs ≡ settled_in r e
 settled_is r words S e bs q x p =
     let more : r.settled + 1 ≡ r.kept.dropped + (held_length r + 1) = omega (arith, S.within) in

@@ -8,7 +8,7 @@ use Rattle.protocol.specs.Office.{votes}
 use Rattle.protocol.specs.Elect.{elect_count}
 use Rattle.protocol.specs.Folding as F
 use Rattle.kept.specs.Kept.{rule_behind}
-use Rattle.frame.specs.State.{held-by, folded_by, holding}
+use Rattle.frame.specs.State.{held_by, folded_by, holding}
 use Rattle.ballots.specs.Ballots.{words_with}
 use Rattle.frame.specs.Soundness.{sound_b}
 use Rattle.frame.specs.declared.Record.{Record}
@@ -20,7 +20,7 @@ rule_of r = rule_behind r.kept
 
 -- the order in which ties go at the record's settled log: by its counts, (xiv) the dropped entries' being the kept ones
 abbrev pub tie_order : Record → List ℕ → ℕ → ℕ → Bool
-tie_order r words = quieter r.kept.counts (held-by r words).log
+tie_order r words = quieter r.kept.counts (held_by r words).log
 
 -- the office after elect
 abbrev pub elected_of : Record → List ℕ → F.FoldedOffice
@@ -30,7 +30,7 @@ elected_of r words = F.with_folded_elect (rule_of r) (folded_by r words)
 unfoldable pub elect_of : Record → List ℕ → Elected
 elect_of r words =
     pick (sound_b r words)
-    (record { «record» = holding r words (elected_of r words); number = 0; count = elect_count (rule_of r) (held-by r words) })
+    (record { «record» = holding r words (elected_of r words); number = 0; count = elect_count (rule_of r) (held_by r words) })
     (record { «record» = r; number = 1; count = 0 })
 
 -- the log's words after elect
@@ -39,4 +39,4 @@ elect_words r words = pick (sound_b r words) (words_with (elected_of r words).he
 
 -- the entry that wins, if any
 abbrev pub winner_of : Record → List ℕ → Option ℕ
-winner_of r words = rule_of r (held-by r words).log (votes (held-by r words))
+winner_of r words = rule_of r (held_by r words).log (votes (held_by r words))

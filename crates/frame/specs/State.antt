@@ -19,12 +19,12 @@ abbrev pub held_length : Record → ℕ
 held_length r = S.held_length r.settled r.kept.dropped
 
 -- the undropped log and the tails that the record and its log hold
-abbrev pub held-by : Record → List ℕ → Office
-held-by r words = office_in words (held_length r) r.ballots
+abbrev pub held_by : Record → List ℕ → Office
+held_by r words = office_in words (held_length r) r.ballots
 
 -- with the dropped count and the noted lengths
 abbrev pub folded_by : Record → List ℕ → F.FoldedOffice
-folded_by r words = record { dropped = r.kept.dropped; held = held-by r words; noted = r.noted }
+folded_by r words = record { dropped = r.kept.dropped; held = held_by r words; noted = r.noted }
 
 -- the record r with everything but its offices, own office and founding weights
 abbrev pub with_held : Record → Kept → List ℕ → Summary → ℕ → List Ballot → Record
@@ -54,7 +54,7 @@ own_ballot r = get_or r.ballots r.own B.off_end
 
 -- the entries that a call drops which leaves the office as f: as many as the dropped count rises by, from the front of what was held
 abbrev pub goes : Record → List ℕ → F.FoldedOffice → List ℕ
-goes r words f = take (f.dropped - r.kept.dropped) (held-by r words).log
+goes r words f = take (f.dropped - r.kept.dropped) (held_by r words).log
 
 -- what is then kept
 abbrev pub kept_by : Record → List ℕ → F.FoldedOffice → Kept

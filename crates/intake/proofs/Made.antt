@@ -14,7 +14,7 @@ use Rattle.lists.proofs.Tests.{map-set, get_d_map}
 use Rattle.lists.proofs.Walk.{take-from}
 use Rattle.protocol_laws.proofs.Beginning.{begins-true}
 use Rattle.ballots.specs.declared.Ballot.{Ballot}
-use Rattle.ballots.specs.Ballots.{tail-of, ballot_of, off_end, office_in, words_with}
+use Rattle.ballots.specs.Ballots.{tail_of, ballot_of, off_end, office_in, words_with}
 use Rattle.merging.specs.Merging.{past_ballot, adopted_all}
 use Rattle.merging.proofs.Laws.{Taking, take_past}
 use Rattle.summary.specs.Summary.{summary_after}
@@ -37,7 +37,7 @@ compared a b = go (begins a b) refl
 
 module _ (words : List ℕ) (s : State) (own : ℕ) (theirs : List ℕ) (sender : ℕ) (offered : List Ballot) (A : Aligned words s theirs sender offered) where
   abbrev message : Message
-  message = record { sender = sender; state = record { log = theirs; tails = map tail-of offered } }
+  message = record { sender = sender; state = record { log = theirs; tails = map tail_of offered } }
 
   abbrev held : Office
   held = office_in words s.held s.ballots
@@ -61,9 +61,9 @@ module _ (words : List ℕ) (s : State) (own : ℕ) (theirs : List ℕ) (sender 
   -- the ballots that are offered: the own place has the sender's
   offers-made : map ballot_of (offers own message) ≡ set offered own (get_or offered sender off_end)
   offers-made =
-      let ts : List (List ℕ) = map tail-of offered in
+      let ts : List (List ℕ) = map tail_of offered in
       let bs : List Ballot = map ballot_of ts in
-      let there : sender < length bs = rw (length-map ts ballot_of, length-map offered tail-of, A.eight) A.sender-below in
+      let there : sender < length bs = rw (length-map ts ballot_of, length-map offered tail_of, A.eight) A.sender-below in
       map-set ballot_of ts own (get_or ts sender [])
       ∙ ap (set bs own) (sym (get_d_map ballot_of [] ts sender) ∙ get_d_any bs sender (ballot_of []) off_end there)
       ∙ ap (λ (x : List Ballot). set x own (get_or x sender off_end)) A.offers-tails

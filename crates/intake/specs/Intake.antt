@@ -7,7 +7,7 @@ use Rattle.protocol.specs.Office.{Office}
 use Rattle.protocol.specs.Take.{with_take}
 use Rattle.protocol.specs.Folding.{FoldedOffice, caught_up, from_there}
 use Rattle.ballots.specs.declared.Ballot.{Ballot}
-use Rattle.ballots.specs.Ballots.{tail-of, ballot_of, office_in}
+use Rattle.ballots.specs.Ballots.{tail_of, ballot_of, office_in}
 use Rattle.readings.specs.declared.Reading.{Reading}
 use Rattle.acceptance.specs.Acceptance.{packet_in}
 use Rattle.summary.specs.Summary.{summary_after}
@@ -41,7 +41,7 @@ intaken_of words s kept own rest m = record {
 
 -- the office's state after it took a message whose log begins where the own one does
 abbrev pub aligned_take : List ℕ → State → ℕ → List ℕ → ℕ → List Ballot → Office
-aligned_take words s own theirs sender offers = with_take own (record { sender = sender; state = record { log = theirs; tails = map tail-of offers } }) (office_in words s.held s.ballots)
+aligned_take words s own theirs sender offers = with_take own (record { sender = sender; state = record { log = theirs; tails = map tail_of offers } }) (office_in words s.held s.ballots)
 
 -- "if the message's log extends the settled log, the record writes the missing entries from its own length onward": the held length
 -- and the log's words after that
@@ -57,9 +57,9 @@ pub record Aligned (words : List ℕ) (s : State) (theirs : List ℕ) (sender : 
   pub held-within : s.held ≤ length words
   pub theirs-within : length theirs ≤ length words
   pub compared : comparable (take s.held words) theirs ≡ true
-  pub tails : map ballot_of (map tail-of s.ballots) ≡ s.ballots
+  pub tails : map ballot_of (map tail_of s.ballots) ≡ s.ballots
   pub eight : length offers ≡ 8
-  pub offers-tails : map ballot_of (map tail-of offers) ≡ offers
+  pub offers-tails : map ballot_of (map tail_of offers) ≡ offers
 
 -- and where it begins elsewhere: every sound record with such a message has it
 pub record Ready (words : List ℕ) (s : State) (kept : Kept) (rest : List ℕ) (m : Reading) : Type 0 where
@@ -70,7 +70,7 @@ pub record Ready (words : List ℕ) (s : State) (kept : Kept) (rest : List ℕ) 
   pub begins-within : m.dropped ≤ kept.dropped + s.held
   pub ends-past : kept.dropped ≤ m.dropped + m.held
   pub compared : comparable (caught_up (packet_in rest m) (folded_in words s kept)).log (from_there (packet_in rest m) (folded_in words s kept)).state.log ≡ true
-  pub held : map ballot_of (map tail-of s.ballots) ≡ s.ballots
+  pub held : map ballot_of (map tail_of s.ballots) ≡ s.ballots
   pub theirs-eight : length m.ballots ≡ 8
-  pub theirs-held : map ballot_of (map tail-of m.ballots) ≡ m.ballots
+  pub theirs-held : map ballot_of (map tail_of m.ballots) ≡ m.ballots
   pub room : Roomy kept (m.dropped - kept.dropped)

@@ -23,12 +23,12 @@ use Rattle.lists.proofs.Tests.{pick_true, pick-false, map-set}
 use Rattle.protocol_laws.proofs.Issue as Issue
 use Rattle.protocol_laws.proofs.FoldedLimits.{folded-issue-fine}
 use Rattle.protocol_laws.proofs.Moves.{Proper, proper-true}
-use Rattle.ballots.specs.Ballots.{tail-of, ballot_of, off_end, pushed, words_with}
+use Rattle.ballots.specs.Ballots.{tail_of, ballot_of, off_end, pushed, words_with}
 use Rattle.ballots.specs.declared.Ballot.{Ballot}
 use Rattle.summary.specs.Summary.{summary_after}
 use Rattle.kept.specs.declared.Kept.{Kept}
 use Rattle.ballots.proofs.Laws as B
-use Rattle.frame.specs.State.{held_length, held-by, folded_by, with_held, own_ballot, kept_by}
+use Rattle.frame.specs.State.{held_length, held_by, folded_by, with_held, own_ballot, kept_by}
 use Rattle.frame.specs.Soundness.{sound_b, Sound}
 use Rattle.issuing.specs.Issuing.{with_own, issue_number, issued_record, issue_of}
 use Rattle.frame.specs.declared.Record.{Record}
@@ -61,29 +61,29 @@ module _ (r : Record) (words : List ℕ) (S : Sound r words) (line code : ℕ) w
   unfolding with_issue with_folded_issue
   issue-held b q h =
       let k = sym (kept-stays r words S (with_folded_issue r.own entry (folded_by r words)) refl) in
-      λ i. with_held r (k i) r.noted ((S.done ∙ ap (λ (x : Kept). summary_after x.summary (held-by r words).log) k) i) (sym (whole_length r words S) i) (sym ballots i)
+      λ i. with_held r (k i) r.noted ((S.done ∙ ap (λ (x : Kept). summary_after x.summary (held_by r words).log) k) i) (sym (whole_length r words S) i) (sym ballots i)
     where
-      grown : ballot_of (tail (held-by r words) r.own ++ entry ∷ []) ≡ b
+      grown : ballot_of (tail (held_by r words) r.own ++ entry ∷ []) ≡ b
       grown =
           ap (λ (t : List ℕ). ballot_of (t ++ entry ∷ [])) (tail_at r words r.own) ∙
           sym (q ∙ B.push-held r.n (held_length r) (get_or r.ballots r.own off_end) (ballot r words S r.own (omega arith)) entry h)
 
-      ballots : map ballot_of (set (map tail-of r.ballots) r.own (tail (held-by r words) r.own ++ entry ∷ [])) ≡ set r.ballots r.own b
+      ballots : map ballot_of (set (map tail_of r.ballots) r.own (tail (held_by r words) r.own ++ entry ∷ [])) ≡ set r.ballots r.own b
       ballots =
-          map-set ballot_of (map tail-of r.ballots) r.own (tail (held-by r words) r.own ++ entry ∷ []) ∙
+          map-set ballot_of (map tail_of r.ballots) r.own (tail (held_by r words) r.own ++ entry ∷ []) ∙
           ap₂ (λ (l : List Ballot) (x : Ballot). set l r.own x) (B.held_all r.n (held_length r) r.ballots S.fine) grown
 
   -- each way out, by the own ballot's length
-  tail-is : length (tail (held-by r words) r.own) ≡ len
+  tail-is : length (tail (held_by r words) r.own) ≡ len
   tail-is = ap length (tail_at r words r.own) ∙ B.tail-length r.n (held_length r) mine (ballot r words S r.own (omega arith))
 
   -- the number by the record's own length and ballot
-  pub number_at : (b : Ballot) → b ≡ own_ballot r → (held : ℕ) → held ≡ held_length r → (k : ℕ) → k ≡ refusal_at r.n line code r.settled held b.len (count_in r.own (tail-of b))
+  pub number_at : (b : Ballot) → b ≡ own_ballot r → (held : ℕ) → held ≡ held_length r → (k : ℕ) → k ≡ refusal_at r.n line code r.settled held b.len (count_in r.own (tail_of b))
       → k ≡ issue_number r words line code
   unfolding refuse_folded_issue
   number_at b p held h k q =
-      number-sound k (q ∙ ap (λ (x : ℕ). refusal_at r.n line code r.settled x b.len (count_in r.own (tail-of b))) h
-      ∙ ap (λ (x : Ballot). refusal_at r.n line code r.settled (held_length r) x.len (count_in r.own (tail-of x))) p
+      number-sound k (q ∙ ap (λ (x : ℕ). refusal_at r.n line code r.settled x b.len (count_in r.own (tail_of b))) h
+      ∙ ap (λ (x : Ballot). refusal_at r.n line code r.settled (held_length r) x.len (count_in r.own (tail_of x))) p
       ∙ λ i. refusal_at r.n line code (sym (whole_length r words S) i) (sym (log-length r words S) i) (sym tail-is i) (count_in r.own (sym (tail_at r words r.own) i)))
 
 -- the office with the entry issued
@@ -168,7 +168,7 @@ allowed r words line code q =
     let d = Issue.issue-done r.n r.own line code (folded_by r words) D.allowed in
     let F = ballot r words S r.own (omega arith) in
     let short : (get_or r.ballots r.own off_end).len ≡ 32 → ⊥ =
-    λ e. omega (arith, d.below, Issue.never-4 r.n r.own (held-by r words) (folded-fine r words S).held H.member (tail-is r words S line code ∙ e)) in
+    λ e. omega (arith, d.below, Issue.never-4 r.n r.own (held_by r words) (folded-fine r words S).held H.member (tail-is r words S line code ∙ e)) in
     record {
       was = S;
       place = omega arith;

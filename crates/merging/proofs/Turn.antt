@@ -17,7 +17,7 @@ use borrow.Author.Tests.{eqb-true, eqb-false, ltb-false}
 use Rattle.lists.specs.Tests.{pick}
 use Rattle.lists.proofs.Fill.{filled, fill_step, fill_end, fill_here}
 use Rattle.ballots.specs.declared.Ballot.{Ballot}
-use Rattle.ballots.specs.Ballots.{tail-of, ballot_of, off_end}
+use Rattle.ballots.specs.Ballots.{tail_of, ballot_of, off_end}
 use Rattle.merging.specs.Merging.{past_ballot, adopted_ballot, adopted_all}
 use Rattle.merging.proofs.Walks.{past-short, tail-most, offer-short}
 use Rattle.merging.proofs.Laws.{rest-past-nil}
@@ -29,13 +29,13 @@ map_at f d e (x ∷ xs) zero h = refl
 map_at f d e (x ∷ xs) (suc i) h = map_at f d e xs i (le_of_suc-le-suc h)
 
 -- one of the ballots that hold their tails
-held_at : (bs : List Ballot) (i : ℕ) → i < length bs → map ballot_of (map tail-of bs) ≡ bs → ballot_of (tail-of (get_or bs i off_end)) ≡ get_or bs i off_end
+held_at : (bs : List Ballot) (i : ℕ) → i < length bs → map ballot_of (map tail_of bs) ≡ bs → ballot_of (tail_of (get_or bs i off_end)) ≡ get_or bs i off_end
 held_at bs i h e =
-    sym (map_at ballot_of [] off_end (map tail-of bs) i (omega (arith, length-map bs tail-of)) ∙ ap ballot_of (map_at tail-of off_end [] bs i h))
+    sym (map_at ballot_of [] off_end (map tail_of bs) i (omega (arith, length-map bs tail_of)) ∙ ap ballot_of (map_at tail_of off_end [] bs i h))
     ∙ ap (λ (l : List Ballot). get_or l i off_end) e
 
 -- a ballot that holds its tail stays as it is where it is none, and beside a log that is not longer
-kept-past : (ws : List ℕ) (b : Ballot) → ballot_of (tail-of b) ≡ b → (ltb 0 b.len && ltb 0 (length ws)) ≡ false → b ≡ past_ballot ws b
+kept-past : (ws : List ℕ) (b : Ballot) → ballot_of (tail_of b) ≡ b → (ltb 0 b.len && ltb 0 (length ws)) ≡ false → b ≡ past_ballot ws b
 unfolding past_ballot
 kept-past ws b held e = go (ltb 0 b.len) refl e
   where
@@ -43,7 +43,7 @@ kept-past ws b held e = go (ltb 0 b.len) refl e
     none n = sym held ∙ ap (λ (k : ℕ). ballot_of (take k b.cells)) n ∙ past-short ws b (omega arith)
 
     beside : (us : List ℕ) → length us ≡ 0 → b ≡ past_ballot us b
-    beside [] n = sym (ap ballot_of (rest-past-nil (tail-of b)) ∙ held)
+    beside [] n = sym (ap ballot_of (rest-past-nil (tail_of b)) ∙ held)
     beside (u ∷ us) n = absurd (omega arith)
 
     go : (t : Bool) → ltb 0 b.len ≡ t → (t && ltb 0 (length ws)) ≡ false → b ≡ past_ballot ws b
@@ -114,9 +114,9 @@ module _ (grown between : List ℕ) (bs os : List Ballot) (own sender : ℕ) whe
     room = rw e (simp (length-append, length-take, length-drop) (omega (arith, long)))
 
     -- the store of a ballot that is none, and of any where the log did not grow
-    pub left-past : map ballot_of (map tail-of bs) ≡ bs → (ltb 0 (get_or xs i off_end).len && ltb 0 (length grown)) ≡ false → xs ≡ set xs i (past_ballot grown (get_or xs i off_end))
+    pub left-past : map ballot_of (map tail_of bs) ≡ bs → (ltb 0 (get_or xs i off_end).len && ltb 0 (length grown)) ≡ false → xs ≡ set xs i (past_ballot grown (get_or xs i off_end))
     left-past held f =
-        left_out xs i _ (kept-past grown (get_or xs i off_end) (ap (λ (b : Ballot). ballot_of (tail-of b)) place ∙ held_at bs i h held ∙ sym place) f)
+        left_out xs i _ (kept-past grown (get_or xs i off_end) (ap (λ (b : Ballot). ballot_of (tail_of b)) place ∙ held_at bs i h held ∙ sym place) f)
 
     -- by both stores, with the offer of the office g
     module _ (l : i < length os) (g : ℕ) (q : g ≡ pick (eqb i own) sender i) where

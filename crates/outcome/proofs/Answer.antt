@@ -17,12 +17,12 @@ use Rattle.lists.proofs.Tests.{both-0, both-1, both_true, both-false-0, both-fal
 use Rattle.lists.proofs.Walk.{take-from}
 use Rattle.protocol.specs.Office.{tail}
 use Rattle.protocol.specs.Limits.{tails_fine}
-use Rattle.ballots.specs.Ballots.{tail-of, ballot_fine, ballots_fine, off_end}
+use Rattle.ballots.specs.Ballots.{tail_of, ballot_fine, ballots_fine, off_end}
 use Rattle.ballots.proofs.Laws as B
 use Rattle.eight_ballots.proofs.Eight.{places-fine}
 use Rattle.own_entries.specs.Told.{told_of, told_words, told_refused}
 use Rattle.own_entries.specs.declared.Told.{Told}
-use Rattle.frame.specs.State.{held_length, held-by, own_ballot}
+use Rattle.frame.specs.State.{held_length, held_by, own_ballot}
 use Rattle.frame.specs.Soundness.{sound_b, Sound}
 use Rattle.frame.specs.declared.Record.{Record}
 use Rattle.frame.proofs.Sound.{sound-true}
@@ -58,7 +58,7 @@ module _ (before after : Record) (words : List ℕ) where
 
     eight : length before.ballots ≡ 8
     unfolding ballots_fine tails_fine
-    eight = sym (length-map before.ballots tail-of) ∙ eqb-true _ 8 (both-0 _ _ (both-1 _ _ F.fine))
+    eight = sym (length-map before.ballots tail_of) ∙ eqb-true _ 8 (both-0 _ _ (both-1 _ _ F.fine))
 
     pub was-fine : B.Fine before.n (held_length before) (own_ballot before)
     was-fine =
@@ -79,14 +79,14 @@ module _ (before after : Record) (words : List ℕ) where
     log-part : take (held_length after - place_in before after) (drop (place_in before after) words) ≡ log_since before after words
     log-part = take-from (place_in before after) (held_length after) words
 
-    path-part : log_since before after words ++ tail-of (get_or after.ballots before.own off_end) ≡ path_since before after words
+    path-part : log_since before after words ++ tail_of (get_or after.ballots before.own off_end) ≡ path_since before after words
     path-part =
         ap (λ (t : List ℕ). log_since before after words ++ t) (sym (tail_at after words before.own))
-        ∙ sym (drop-append-le (place_in before after) (held-by after words).log (tail (held-by after words) before.own) (omega (arith, begins, log-length after words S)))
+        ∙ sym (drop-append-le (place_in before after) (held_by after words).log (tail (held_by after words) before.own) (omega (arith, begins, log-length after words S)))
 
     pub report-made : (rest : List ℕ) (told : Told)
         → let l = take (held_length after - place_in before after) (drop (place_in before after) words) in
-        told ≡ told_of before.own (tail_before before) l (l ++ tail-of (get_or after.ballots before.own off_end)) rest
+        told ≡ told_of before.own (tail_before before) l (l ++ tail_of (get_or after.ballots before.own off_end)) rest
         → (rest' : List ℕ) → rest' ≡ told_words before.own (tail_before before) l rest → Reports before after words rest (outcome_is told) rest'
     unfolding report_of report_words pick
     report-made rest told e rest' w = (
@@ -94,5 +94,5 @@ module _ (before after : Record) (words : List ℕ) where
       simp can-report (w ∙ ap (λ (l : List ℕ). told_words before.own (tail_before before) l rest) log-part),
     )
       where
-        whole : take (held_length after - place_in before after) (drop (place_in before after) words) ++ tail-of (get_or after.ballots before.own off_end) ≡ path_since before after words
-        whole = ap (λ (l : List ℕ). l ++ tail-of (get_or after.ballots before.own off_end)) log-part ∙ path-part
+        whole : take (held_length after - place_in before after) (drop (place_in before after) words) ++ tail_of (get_or after.ballots before.own off_end) ≡ path_since before after words
+        whole = ap (λ (l : List ℕ). l ++ tail_of (get_or after.ballots before.own off_end)) log-part ∙ path-part

@@ -22,13 +22,13 @@ use Rattle.protocol.specs.Folding.{shorn}
 use Rattle.protocol_laws.proofs.Beginning.{⊑-append, ⊑-rest, ⊑-length}
 use Rattle.eight_ballots.proofs.Eight.{places-fine}
 use Rattle.own_entries.specs.Parts.{settled_part, kept_part, pending_part, lost_part, settled_of, pending_of, lost_of, entries_of, Stands}
-use Rattle.own_entries.specs.Told.{rest_of, has-room, told_done, told_refused, told_of, told_words}
+use Rattle.own_entries.specs.Told.{rest_of, has_room, told_done, told_refused, told_of, told_words}
 use Rattle.own_entries.proofs.Common.{common-right, common-grows}
 use Rattle.own_entries.proofs.Own.{entries-few}
 use Rattle.own_entries.proofs.Telling as T
 use Rattle.own_entries.proofs.Parts as P
 use Rattle.own_entries.proofs.Held.{lost-held}
-use Rattle.frame.specs.State.{held_length, held-by, folded_by, own_ballot, goes}
+use Rattle.frame.specs.State.{held_length, held_by, folded_by, own_ballot, goes}
 use Rattle.frame.specs.Soundness.{sound_b}
 use Rattle.folding.specs.Folding.{fold_of, fold_words}
 use Rattle.frame.specs.declared.Record.{Record}
@@ -66,7 +66,7 @@ module _ (before after : Record) (words rest : List ℕ) where
         → report_words before after words rest ≡ rest_of own t l ++ drop (length (rest_of own t l)) rest → Way
 
   way : Way
-  unfolding report_of report_words told_of told_words has-room pick
+  unfolding report_of report_words told_of told_words has_room pick
   way = go (reportable before after words) refl (leb (length (rest_of own t l)) (length rest)) refl
     where
       go : (b : Bool) → reportable before after words ≡ b → (h : Bool) → leb (length (rest_of own t l)) (length rest) ≡ h → Way
@@ -75,7 +75,7 @@ module _ (before after : Record) (words rest : List ℕ) where
       go true e true q = done e (leb-true _ _ q) (rw (e, q)) (rw (e, q))
 
   low : l ⊑ p
-  low = P.drop-⊑ (place_in before after) (held-by after words).log (path (held-by after words) own) (⊑-append (held-by after words).log (tail (held-by after words) own))
+  low = P.drop-⊑ (place_in before after) (held_by after words).log (path (held_by after words) own) (⊑-append (held_by after words).log (tail (held_by after words) own))
 
   rest-long : length (rest_of own t l) ≡ length (pending_entries before after words) + length (lost_entries before after words)
   rest-long = ap length (T.rest-parts t l p low own) ∙ length-append (pending_entries before after words) (lost_entries before after words)
@@ -161,13 +161,13 @@ module _ (before after : Record) (words rest : List ℕ) where
 module _ (r : Record) (words : List ℕ) (r' : Record) (words' : List ℕ) (M : Moved r words r' words') where
   -- without what the call dropped, and after it
   abbrev o : Office
-  o = shorn M.gone (held-by r words)
+  o = shorn M.gone (held_by r words)
 
   abbrev o' : Office
-  o' = held-by r' words'
+  o' = held_by r' words'
 
   log-long : length o.log + M.gone ≡ held_length r
-  log-long = omega (arith, length-drop M.gone (held-by r words).log, log-length r words M.was, M.held)
+  log-long = omega (arith, length-drop M.gone (held_by r words).log, log-length r words M.was, M.held)
 
   place : length o.log ≡ place_in r r'
   place = omega (arith, log-long, M.dropped, M.was.within)
@@ -223,25 +223,25 @@ module _ (r : Record) (words : List ℕ) (r' : Record) (words' : List ℕ) (M : 
     abbrev dropped : List ℕ
     dropped = former_after former r words r' words'
 
-    gone-is : goes r words (folded_by r' words') ≡ take M.gone (held-by r words).log
-    gone-is = let d : r'.kept.dropped - r.kept.dropped ≡ M.gone = omega (arith, M.dropped) in ap (λ (j : ℕ). take j (held-by r words).log) d
+    gone-is : goes r words (folded_by r' words') ≡ take M.gone (held_by r words).log
+    gone-is = let d : r'.kept.dropped - r.kept.dropped ≡ M.gone = omega (arith, M.dropped) in ap (λ (j : ℕ). take j (held_by r words).log) d
 
     -- what stood before is what is dropped now, and the rest
-    whole-log : dropped ++ o.log ≡ former ++ (held-by r words).log
+    whole-log : dropped ++ o.log ≡ former ++ (held_by r words).log
     whole-log = append_assoc former (goes r words (folded_by r' words')) o.log
-        ∙ ap (λ (x : List ℕ). former ++ x) (ap (λ (x : List ℕ). x ++ o.log) gone-is ∙ take-append-drop M.gone (held-by r words).log)
+        ∙ ap (λ (x : List ℕ). former ++ x) (ap (λ (x : List ℕ). x ++ o.log) gone-is ∙ take-append-drop M.gone (held_by r words).log)
 
     dropped-long : length dropped ≡ length former + M.gone
     dropped-long = length-append former (goes r words (folded_by r' words')) ∙ ap (λ (x : ℕ). length former + x) (ap length gone-is
-        ∙ length-take-le M.gone (held-by r words).log (omega (arith, M.held, log-length r words M.was)))
+        ∙ length-take-le M.gone (held_by r words).log (omega (arith, M.held, log-length r words M.was)))
 
     grown : (whole_of former r words).log ⊑ (whole_of dropped r' words').log
     grown = subst (λ (x : List ℕ). x ⊑ (dropped ++ o'.log)) whole-log (P.front-⊑ dropped o.log o'.log M.moves.0)
 
     lost-here : entries_of r.own (lost_of r.own (whole_of former r words) (whole_of dropped r' words')) ≡ lost_entries r r' words'
     lost-here =
-        let far : length former + length (held-by r words).log - length dropped ≡ place_in r r' = omega (arith, dropped-long, log-length r words M.was, log-long, place) in
-        ap (entries_of r.own) (lost-held r.own former dropped (held-by r words) o' (omega (arith, dropped-long, M.held, log-length r words M.was))
+        let far : length former + length (held_by r words).log - length dropped ≡ place_in r r' = omega (arith, dropped-long, log-length r words M.was, log-long, place) in
+        ap (entries_of r.own) (lost-held r.own former dropped (held_by r words) o' (omega (arith, dropped-long, M.held, log-length r words M.was))
         ∙ λ i. lost_part (own-tail i) (drop (far i) (path o' r.own)))
 
     told : (e : ℕ) → Stands (lost_entries r r' words') e ↔ ((office_of e ≡ r.own) × LostAt former r words r' words' e)
@@ -278,7 +278,7 @@ fold-loses-nothing r words rest = go (sound_b r words) refl
     go true e =
         let M = (fold_same r words e).0 in
         let s = (fold_same r words e).1 in
-        let k = shorn M.gone (held-by r words) in
+        let k = shorn M.gone (held_by r words) in
         let u = P.unchanged r.own k in (
           none-settled r r' words' rest (sym (settled_is r words r' words' M) ∙ ap (settled_of r.own k) s ∙ u.0),
           none-lost r r' words' rest (sym (lost-is r words r' words' M) ∙ ap (lost_of r.own k) s ∙ u.1),

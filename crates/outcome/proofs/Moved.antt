@@ -19,7 +19,7 @@ use Rattle.protocol_laws.proofs.Folding.{take_found}
 use Rattle.protocol_laws.proofs.FoldedLimits.{folded-take-fine}
 use Rattle.spelling.specs.Content.{as_packet}
 use Rattle.ballots.specs.Ballots.{words_with}
-use Rattle.frame.specs.State.{held_length, held-by, folded_by, holding}
+use Rattle.frame.specs.State.{held_length, held_by, folded_by, holding}
 use Rattle.frame.specs.Soundness.{sound_b, Sound}
 use Rattle.taking.specs.Taking.{take_number, take_of, take_words}
 use Rattle.frame.specs.Electing.{rule_of, elected_of, elect_of, elect_words}
@@ -43,7 +43,7 @@ pub record Moved (r : Record) (words : List ℕ) (r' : Record) (words' : List �
   pub gone : ℕ
   pub dropped : r'.kept.dropped ≡ r.kept.dropped + gone
   pub held : gone ≤ held_length r
-  pub moves : OfficeMoves r.own (shorn gone (held-by r words)) (held-by r' words')
+  pub moves : OfficeMoves r.own (shorn gone (held_by r words)) (held_by r' words')
 
 stays : (r : Record) (words : List ℕ) → Sound r words → Moved r words r words
 stays r words S = record {
@@ -55,13 +55,13 @@ stays r words S = record {
   gone = 0;
   dropped = sym (add-zero r.kept.dropped);
   held = omega arith;
-  moves = moves-refl (held-by r words).log (path (held-by r words) r.own);
+  moves = moves-refl (held_by r words).log (path (held_by r words) r.own);
 }
 
 module _ (r : Record) (words : List ℕ) where
   -- a done call leaves the office as f
   module _ (r' : Record) (words' : List ℕ) (S : Sound r words) (S' : Sound r' words') (f : F.FoldedOffice) (made : r' ≡ holding r words f) (state : folded_by r' words' ≡ f) where
-    leaves : (gone : ℕ) → f.dropped ≡ r.kept.dropped + gone → gone ≤ held_length r → OfficeMoves r.own (shorn gone (held-by r words)) f.held → Moved r words r' words'
+    leaves : (gone : ℕ) → f.dropped ≡ r.kept.dropped + gone → gone ≤ held_length r → OfficeMoves r.own (shorn gone (held_by r words)) f.held → Moved r words r' words'
     leaves gone d h m = record {
       was = S;
       is = S';
@@ -71,7 +71,7 @@ module _ (r : Record) (words : List ℕ) where
       gone = gone;
       dropped = ap (λ (x : F.FoldedOffice). x.dropped) state ∙ d;
       held = h;
-      moves = subst (λ (x : F.FoldedOffice). OfficeMoves r.own (shorn gone (held-by r words)) x.held) (sym state) m;
+      moves = subst (λ (x : F.FoldedOffice). OfficeMoves r.own (shorn gone (held_by r words)) x.held) (sym state) m;
     }
 
   -- ── take ──
@@ -122,9 +122,9 @@ module _ (r : Record) (words : List ℕ) where
           subst₂ (λ (x : Record) (l : List ℕ). Moved r words x l) (sym k.0) (sym k.1) (stays r words S)
 
   -- ── elect and fold ──
-  elected-moves : OfficeMoves r.own (shorn 0 (held-by r words)) (elected_of r words).held
+  elected-moves : OfficeMoves r.own (shorn 0 (held_by r words)) (elected_of r words).held
   unfolding with_folded_elect
-  elected-moves = elect-moves (rule_of r) (held-by r words) r.own
+  elected-moves = elect-moves (rule_of r) (held_by r words) r.own
 
   elected-dropped : (elected_of r words).dropped ≡ r.kept.dropped + 0
   unfolding with_folded_elect
@@ -136,7 +136,7 @@ module _ (r : Record) (words : List ℕ) where
       leaves (elect_of r words).«record» (elect_words r words) S (elect-sound r words q) (elected_of r words)
       (elect-done r words q).made (elect-state r words q) 0 elected-dropped (omega arith) elected-moves
 
-  folded-held : (shortened_of r words).held ≡ shorn (gone_of r words) (held-by r words)
+  folded-held : (shortened_of r words).held ≡ shorn (gone_of r words) (held_by r words)
   unfolding with_fold
   folded-held = refl
 
@@ -147,13 +147,13 @@ module _ (r : Record) (words : List ℕ) where
   fold-moved : Sound r words → sound_b r words ≡ true → Moved r words (fold_of r words).«record» (fold_words r words)
   fold-moved S e =
       let q = fold-zero r words e in
-      let o = shorn (gone_of r words) (held-by r words) in
+      let o = shorn (gone_of r words) (held_by r words) in
       leaves (fold_of r words).«record» (fold_words r words) S (fold-sound r words q) (shortened_of r words) (fold_done r words q).made (fold-state r words q) (gone_of r words) folded-dropped
       (gone-within r words S) (subst (OfficeMoves r.own o) (sym folded-held) (moves-refl o.log (path o r.own)))
 
   -- what fold holds is what was held, without what it dropped
   pub fold_same : sound_b r words ≡ true
-      → (M : Moved r words (fold_of r words).«record» (fold_words r words)) × (held-by (fold_of r words).«record» (fold_words r words) ≡ shorn M.gone (held-by r words))
+      → (M : Moved r words (fold_of r words).«record» (fold_words r words)) × (held_by (fold_of r words).«record» (fold_words r words) ≡ shorn M.gone (held_by r words))
   unfolding leaves fold-moved
   fold_same e = (fold-moved (sound r words e) e, ap (λ (f : F.FoldedOffice). f.held) (fold-state r words (fold-zero r words e)) ∙ folded-held)
 

@@ -11,7 +11,7 @@ use Rattle.protocol.specs.Entry.{office_of}
 use Rattle.protocol.specs.Beginning.{◌⊑◌}
 use Rattle.protocol.specs.Office.{Office}
 use Rattle.own_entries.specs.Parts.{settled_part, pending_part, entries_of, Loses, Stands}
-use Rattle.frame.specs.State.{held-by, folded_by, goes}
+use Rattle.frame.specs.State.{held_by, folded_by, goes}
 use Rattle.taking.specs.Taking.{take_of, take_words}
 use Rattle.frame.specs.Electing.{elect_of, elect_words}
 use Rattle.folding.specs.Folding.{fold_of, fold_words}
@@ -55,7 +55,7 @@ pub data Called (r : Record) (words : List ℕ) (r' : Record) (words' : List ℕ
 
 -- the office that a record and its log hold, with the entries before them that it had dropped
 abbrev pub whole_of : List ℕ → Record → List ℕ → Office
-whole_of former r words = record { log = former ++ (held-by r words).log; tails = (held-by r words).tails }
+whole_of former r words = record { log = former ++ (held_by r words).log; tails = (held_by r words).tails }
 
 -- those that it has dropped after the call
 abbrev pub former_after : List ℕ → Record → List ℕ → Record → List ℕ → List ℕ

@@ -3,18 +3,18 @@
 use Rattle.std.specs.Prelude.{Bool, List, ℕ, ◌-◌, eqb, leb, drop}
 use Rattle.lists.specs.Tests.{both, pick, same}
 use Rattle.protocol.specs.Office.{path}
-use Rattle.ballots.specs.Ballots.{tail-of, ballots_fine}
+use Rattle.ballots.specs.Ballots.{tail_of, ballots_fine}
 use Rattle.own_entries.specs.Parts.{settled_part, pending_part, lost_part, entries_of}
 use Rattle.own_entries.specs.Told.{told_of, told_words, told_refused}
 use Rattle.own_entries.specs.declared.Told.{Told}
-use Rattle.frame.specs.State.{held_length, held-by, own_ballot}
+use Rattle.frame.specs.State.{held_length, held_by, own_ballot}
 use Rattle.frame.specs.Soundness.{sound_b}
 use Rattle.frame.specs.declared.Record.{Record}
 use Rattle.outcome.specs.declared.Outcome.{Outcome}
 
 -- the own tail before the call
 abbrev pub tail_before : Record → List ℕ
-tail_before before = tail-of (own_ballot before)
+tail_before before = tail_of (own_ballot before)
 
 -- the place where it began, in the log without what was dropped since
 abbrev pub place_in : Record → Record → ℕ
@@ -22,10 +22,10 @@ place_in before after = before.settled - after.kept.dropped
 
 -- the settled log and the own path after the call, from there on
 abbrev pub log_since : Record → Record → List ℕ → List ℕ
-log_since before after words = drop (place_in before after) (held-by after words).log
+log_since before after words = drop (place_in before after) (held_by after words).log
 
 abbrev pub path_since : Record → Record → List ℕ → List ℕ
-path_since before after words = drop (place_in before after) (path (held-by after words) before.own)
+path_since before after words = drop (place_in before after) (path (held_by after words) before.own)
 
 -- ── of "the own office's entries that were pending" ──
 abbrev pub settled_entries : Record → Record → List ℕ → List ℕ

@@ -13,7 +13,7 @@ use Rattle.protocol.specs.Vote.{is_none}
 use Rattle.protocol.specs.Frames.{edit_after, last_edit, or_else}
 use Rattle.protocol.specs.Office.{path}
 use Rattle.protocol_laws.proofs.Frames.{edit-none, edit-some, edit-behind}
-use Rattle.frame.specs.State.{held-by, fresh_record, zero_record}
+use Rattle.frame.specs.State.{held_by, fresh_record, zero_record}
 use Rattle.frame.specs.Soundness.{sound_b}
 use Rattle.frame.specs.Founding.{found_of}
 use Rattle.shown_edits.specs.Shown.{edit_is, stored_edit}
@@ -77,21 +77,21 @@ module _ (r : Record) (words : List ℕ) (q : sound_b r words ≡ true) where
   in_frame : (line : ℕ) (p : List ℕ) → line ≤ 63 → (f : Framed) → shown_in line (kept_edit r line) p ≡ f → f.edit ≡ edit_is (edit_after line (kept_edit r line) p)
   in_frame line p h f e = sym (ap (λ (x : Framed). x.edit) (shown-done line (kept_edit r line) p h (edit_is (edit_after line (kept_edit r line) p)) refl ∙ e))
 
-  settled_is : (line : ℕ) → line ≤ 63 → settled_edit r words line ≡ edit_is (edit_after line (kept_edit r line) (held-by r words).log)
-  settled_is line h = in_frame line (held-by r words).log h _ (frame-shown r words line (held-by r words).log q)
+  settled_is : (line : ℕ) → line ≤ 63 → settled_edit r words line ≡ edit_is (edit_after line (kept_edit r line) (held_by r words).log)
+  settled_is line h = in_frame line (held_by r words).log h _ (frame-shown r words line (held_by r words).log q)
 
-  pub settled-shows : ShowsEdits (settled_edit r words) (kept_edit r) (held-by r words).log
-  settled-shows = shows (settled_edit r words) (kept_edit r) (held-by r words).log settled_is
+  pub settled-shows : ShowsEdits (settled_edit r words) (kept_edit r) (held_by r words).log
+  settled-shows = shows (settled_edit r words) (kept_edit r) (held_by r words).log settled_is
 
-  pub tentative-shows : ShowsEdits (tentative_edit r words) (kept_edit r) (path (held-by r words) r.own)
-  tentative-shows = shows (tentative_edit r words) (kept_edit r) (path (held-by r words) r.own)
-      (λ line h. in_frame line (path (held-by r words) r.own) h _ (frame-shown r words line (path (held-by r words) r.own) q))
+  pub tentative-shows : ShowsEdits (tentative_edit r words) (kept_edit r) (path (held_by r words) r.own)
+  tentative-shows = shows (tentative_edit r words) (kept_edit r) (path (held_by r words) r.own)
+      (λ line h. in_frame line (path (held_by r words) r.own) h _ (frame-shown r words line (path (held_by r words) r.own) q))
 
-  pub lines-show : ShowsEdits (line_edit r words) (kept_edit r) (held-by r words).log
-  lines-show = shows (line_edit r words) (kept_edit r) (held-by r words).log (λ line h. ap (λ (f : Framed). f.edit) (lines-frames r words line h) ∙ settled_is line h)
+  pub lines-show : ShowsEdits (line_edit r words) (kept_edit r) (held_by r words).log
+  lines-show = shows (line_edit r words) (kept_edit r) (held_by r words).log (λ line h. ap (λ (f : Framed). f.edit) (lines-frames r words line h) ∙ settled_is line h)
 
-  pub stored-shows : ShowsEdits (stored_at r) (kept_edit r) (held-by r words).log
-  stored-shows = shows (stored_at r) (kept_edit r) (held-by r words).log (stored-shown r words (sound r words q))
+  pub stored-shows : ShowsEdits (stored_at r) (kept_edit r) (held_by r words).log
+  stored-shows = shows (stored_at r) (kept_edit r) (held_by r words).log (stored-shown r words (sound r words q))
 
 -- ── every founding ──
 pub founded-none : (n own : ℕ) (ws words : List ℕ) (line : ℕ) → stored_at (found_of n own ws words).record line ≡ NotYet

@@ -20,7 +20,7 @@ use Rattle.protocol_laws.proofs.Frames.{edit-append}
 use Rattle.protocol_laws.proofs.Codes.{cell-back}
 use Rattle.protocol_laws.proofs.Folding.{least-own, least-noted}
 use Rattle.ballots.specs.Ballots.{words_with}
-use Rattle.frame.specs.State.{held-by, folded_by, with_held, holding}
+use Rattle.frame.specs.State.{held_by, folded_by, with_held, holding}
 use Rattle.frame.specs.Soundness.{sound_b, Sound}
 use Rattle.folding.specs.Folding.{shortened_of, fold_of, fold_words}
 use Rattle.shown_edits.specs.Shown.{edit_is}
@@ -116,22 +116,22 @@ module _ (r : Record) (words : List ℕ) (q : (fold_of r words).number ≡ 0) wh
       let m = D.made ∙ sym (Fold.fold-held r words S (Fold.gone_of r words) refl _ refl) in
       m ∙ ap (λ (x : Record). with_held r x.kept r.noted r.summary r.settled r.ballots) (sym m)
 
-  edit-same : (line : ℕ) → line ≤ 63 → edit_after line (kept_edit r' line) (held-by r' words').log ≡ edit_after line (kept_edit r line) (held-by r words).log
+  edit-same : (line : ℕ) → line ≤ 63 → edit_after line (kept_edit r' line) (held_by r' words').log ≡ edit_after line (kept_edit r line) (held_by r words).log
   edit-same line h =
-      sym (cell-back (edit_after line (kept_edit r' line) (held-by r' words').log)) ∙ ap of_cell (sym (stored-code r' words' S' line h)
-      ∙ ap (λ (x : Record). get_or x.summary.codes line 0) kept-changed ∙ stored-code r words S line h) ∙ cell-back (edit_after line (kept_edit r line) (held-by r words).log)
+      sym (cell-back (edit_after line (kept_edit r' line) (held_by r' words').log)) ∙ ap of_cell (sym (stored-code r' words' S' line h)
+      ∙ ap (λ (x : Record). get_or x.summary.codes line 0) kept-changed ∙ stored-code r words S line h) ∙ cell-back (edit_after line (kept_edit r line) (held_by r words).log)
 
   frames-same : (line : ℕ) (p p' : List ℕ) → (line ≤ 63 → edit_after line (kept_edit r' line) p' ≡ edit_after line (kept_edit r line) p) → frame_of r' words' line p' ≡ frame_of r words line p
   frames-same line p p' e =
       sym (frame-shown r' words' line p' (sound-true r' words' S')) ∙ shown-same line (kept_edit r line) (kept_edit r' line) p p' e ∙ frame-shown r words line p (sound-true r words S)
 
-  tail-same : tail (held-by r' words') r'.own ≡ tail (held-by r words) r.own
-  tail-same = ap (λ (x : Record). tail (held-by x words') x.own) kept-changed
+  tail-same : tail (held_by r' words') r'.own ≡ tail (held_by r words) r.own
+  tail-same = ap (λ (x : Record). tail (held_by x words') x.own) kept-changed
 
-  path-same : (line : ℕ) → line ≤ 63 → edit_after line (kept_edit r' line) (path (held-by r' words') r'.own) ≡ edit_after line (kept_edit r line) (path (held-by r words) r.own)
+  path-same : (line : ℕ) → line ≤ 63 → edit_after line (kept_edit r' line) (path (held_by r' words') r'.own) ≡ edit_after line (kept_edit r line) (path (held_by r words) r.own)
   path-same line h =
-      edit-append line (kept_edit r' line) (held-by r' words').log (tail (held-by r' words') r'.own) ∙
-      ap₂ (edit_after line) (edit-same line h) tail-same ∙ sym (edit-append line (kept_edit r line) (held-by r words).log (tail (held-by r words) r.own))
+      edit-append line (kept_edit r' line) (held_by r' words').log (tail (held_by r' words') r'.own) ∙
+      ap₂ (edit_after line) (edit-same line h) tail-same ∙ sym (edit-append line (kept_edit r line) (held_by r words).log (tail (held_by r words) r.own))
 
   lines_same : all_lines_of r' words' ≡ all_lines_of r words
   lines_same =
@@ -140,8 +140,8 @@ module _ (r : Record) (words : List ℕ) (q : (fold_of r words).number ≡ 0) wh
 
   done-shows : ShowsSame r words
   done-shows = record {
-    settled-frame = λ line. frames-same line (held-by r words).log (held-by r' words').log (edit-same line);
-    tentative-frame = λ line. frames-same line (path (held-by r words) r.own) (path (held-by r' words') r'.own) (path-same line);
+    settled-frame = λ line. frames-same line (held_by r words).log (held_by r' words').log (edit-same line);
+    tentative-frame = λ line. frames-same line (path (held_by r words) r.own) (path (held_by r' words') r'.own) (path-same line);
     all_lines = lines_same;
     settled-length = ap (λ (x : Record). x.settled) kept-changed;
   }

@@ -15,7 +15,7 @@ use Rattle.protocol.specs.Folding.{refuse_folded_issue}
 use Rattle.protocol_laws.proofs.Fair.{fair-at}
 use Rattle.protocol_laws.proofs.Limits.{tail_at}
 use Rattle.protocol_laws.proofs.Issue as Issue
-use Rattle.frame.specs.State.{held-by, folded_by}
+use Rattle.frame.specs.State.{held_by, folded_by}
 use Rattle.frame.specs.Soundness.{sound_b}
 use Rattle.issuing.specs.Issuing.{issue_number}
 use Rattle.frame.specs.declared.Record.{Record}
@@ -25,17 +25,17 @@ use Rattle.promises.specs.Parts.{WithinParts, FullHasPart, StoppedBy5}
 
 module _ (r : Record) (words : List ℕ) (q : sound_b r words ≡ true) where
   pub within-parts : WithinParts r words
-  within-parts k j h = fair-at r.n (tail (held-by r words) k) (tail_at r.n (held-by r words) (folded-fine r words (sound r words q)).held k).parts j h
+  within-parts k j h = fair-at r.n (tail (held_by r words) k) (tail_at r.n (held_by r words) (folded-fine r words (sound r words q)).held k).parts j h
 
   pub full-has-part : FullHasPart r words
   full-has-part e =
       let S = sound r words q in
-      omega (arith, within-parts r.own r.own S.head.member, Issue.never-4 r.n r.own (held-by r words) (folded-fine r words S).held S.head.member e)
+      omega (arith, within-parts r.own r.own S.head.member, Issue.never-4 r.n r.own (held_by r words) (folded-fine r words S).held S.head.member e)
 
   pub stopped-by-5 : StoppedBy5 r words
   unfolding issue_number
   stopped-by-5 line code p h =
-      let own : ℕ = length (tail (held-by r words) r.own) in
+      let own : ℕ = length (tail (held_by r words) r.own) in
       pick_true (sound_b r words) (refuse_folded_issue r.n r.own line code (folded_by r words)) 1 q ∙
       Issue.below-stopped r.n r.own line code (folded_by r words) p h ∙
       ap₂ (λ (held settled : ℕ). pick (eqb (held + own) 1024) 5 (pick (eqb (settled + own) length_limit) 5 0)) (log-length r words (sound r words q)) (whole_length r words (sound r words q))

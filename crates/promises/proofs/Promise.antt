@@ -24,7 +24,7 @@ use Rattle.protocol_laws.proofs.Frames.{edit-append}
 use Rattle.protocol_laws.proofs.Issue.{issue-done}
 use Rattle.protocol_laws.proofs.Moves.{proper-true}
 use Rattle.kept.specs.declared.Kept.{Kept}
-use Rattle.frame.specs.State.{held-by, folded_by}
+use Rattle.frame.specs.State.{held_by, folded_by}
 use Rattle.frame.specs.Soundness.{sound_b}
 use Rattle.issuing.specs.Issuing.{issue_of}
 use Rattle.both_frames.specs.Frames.{kept_edit, refused_frame, frame_of, shown_in, settled_frame_of, tentative_frame_of}
@@ -67,12 +67,12 @@ edit-shows r words line code low q =
     let e = value r.own line code in
     let r' = (issue_of r words line code).«record» in
     let own : r'.own ≡ r.own = ap (λ (x : Record). x.own) D.made in
-    let state : held-by r' words ≡ with_issue r.own e (held-by r words) = ap (λ (f : FoldedOffice). f.held) (issue-state r words line code q) ∙ held-issued r.own e (folded_by r words) in
-    let shown : path (held-by r' words) r'.own ≡ path (held-by r words) r.own ++ (e ∷ []) =
-    ap₂ path state own ∙ own-path r.own e (held-by r words) (omega (arith, F.eight, H.member, H.most)) in
-    sym (shown-done line (kept_edit r' line) (path (held-by r' words) r'.own) low (Code code)
-    (sym (ap (λ (p : List ℕ). edit_is (edit_after line (kept_edit r' line) p)) shown ∙ ap edit_is (last-issued r.own line code (kept_edit r' line) (path (held-by r words) r.own) low I.code_ok)))
-    ∙ frame-shown r' words line (path (held-by r' words) r'.own) (sound-true r' words (issue-sound r words line code q)))
+    let state : held_by r' words ≡ with_issue r.own e (held_by r words) = ap (λ (f : FoldedOffice). f.held) (issue-state r words line code q) ∙ held-issued r.own e (folded_by r words) in
+    let shown : path (held_by r' words) r'.own ≡ path (held_by r words) r.own ++ (e ∷ []) =
+    ap₂ path state own ∙ own-path r.own e (held_by r words) (omega (arith, F.eight, H.member, H.most)) in
+    sym (shown-done line (kept_edit r' line) (path (held_by r' words) r'.own) low (Code code)
+    (sym (ap (λ (p : List ℕ). edit_is (edit_after line (kept_edit r' line) p)) shown ∙ ap edit_is (last-issued r.own line code (kept_edit r' line) (path (held_by r words) r.own) low I.code_ok)))
+    ∙ frame-shown r' words line (path (held_by r' words) r'.own) (sound-true r' words (issue-sound r words line code q)))
 
 frame_same : (r r' : Record) (words : List ℕ) (line : ℕ) (p p' : List ℕ) → sound_b r' words ≡ sound_b r words → kept_edit r' line ≡ kept_edit r line → p' ≡ p
     → frame_of r' words line p' ≡ frame_of r words line p
@@ -90,10 +90,10 @@ settled-stays r words line code at = go (eqb (issue_of r words line code).number
     go true z =
         let q = eqb-true (issue_of r words line code).number 0 z in
         let D = issue-made r words line code q in
-        frame_same r (issue_of r words line code).«record» words at (held-by r words).log (held-by (issue_of r words line code).«record» words).log
+        frame_same r (issue_of r words line code).«record» words at (held_by r words).log (held_by (issue_of r words line code).«record» words).log
         (sound-true (issue_of r words line code).«record» words (issue-sound r words line code q) ∙ sym (sound-true r words D.was))
         (ap (λ (k : Kept). of_cell (get_or k.summary.codes at 0))
         (issue-kept r words line code q ∙ kept-stays r words D.was (issued_office r words line code) (dropped-same r.own (value r.own line code) (folded_by r words))))
         (ap (λ (f : FoldedOffice). f.held.log) (issue-state r words line code q)
-        ∙ ap (λ (o : Office). o.log) (held-issued r.own (value r.own line code) (folded_by r words)) ∙ log-same r.own (value r.own line code) (held-by r words))
+        ∙ ap (λ (o : Office). o.log) (held-issued r.own (value r.own line code) (folded_by r words)) ∙ log-same r.own (value r.own line code) (held_by r words))
     go false z = ap (λ (x : Record). settled_frame_of x words at) (issue-keeps r words line code (eqb-false (issue_of r words line code).number 0 z))

@@ -1,8 +1,8 @@
 -- Request (ix), a line no one has coded: what is claimed of every record, and of every founding. The theorems are in proofs/Edits:
---     settled-shows      (r : Record) (words : List ℕ) → sound_b r words ≡ true → ShowsEdits (settled_edit r words) (kept_edit r) (held-by r words).log
---     tentative-shows    (r : Record) (words : List ℕ) → sound_b r words ≡ true → ShowsEdits (tentative_edit r words) (kept_edit r) (path (held-by r words) r.own)
---     lines-show         (r : Record) (words : List ℕ) → sound_b r words ≡ true → ShowsEdits (line_edit r words) (kept_edit r) (held-by r words).log
---     stored-shows       (r : Record) (words : List ℕ) → sound_b r words ≡ true → ShowsEdits (stored_at r) (kept_edit r) (held-by r words).log
+--     settled-shows      (r : Record) (words : List ℕ) → sound_b r words ≡ true → ShowsEdits (settled_edit r words) (kept_edit r) (held_by r words).log
+--     tentative-shows    (r : Record) (words : List ℕ) → sound_b r words ≡ true → ShowsEdits (tentative_edit r words) (kept_edit r) (path (held_by r words) r.own)
+--     lines-show         (r : Record) (words : List ℕ) → sound_b r words ≡ true → ShowsEdits (line_edit r words) (kept_edit r) (held_by r words).log
+--     stored-shows       (r : Record) (words : List ℕ) → sound_b r words ≡ true → ShowsEdits (stored_at r) (kept_edit r) (held_by r words).log
 --     founded-none       (n own : ℕ) (ws words : List ℕ) (line : ℕ) → stored_at (found_of n own ws words).record line ≡ NotYet
 -- A founding that is refused is among those of the last. Assumes nothing.
 use Rattle.std.specs.Prelude.{◌≡◌, List, ◌⊎◌, ◌↔◌, ℕ, ◌≤◌, get_or}

@@ -19,7 +19,7 @@ use Rattle.protocol.specs.Limits.{is_office, is_weight, log_fine, office_fine, f
 use Rattle.numbers.specs.Numbers.{Bytes, be16, run_at}
 use Rattle.numbers.proofs.Runs.{bytes_drop, run_at-length}
 use Rattle.ballots.specs.declared.Ballot.{Ballot}
-use Rattle.ballots.specs.Ballots.{ballot_fine, ballot_of, ballot_shape, ballots_fine, tail-of}
+use Rattle.ballots.specs.Ballots.{ballot_fine, ballot_of, ballot_shape, ballots_fine, tail_of}
 use Rattle.ballots.proofs.Laws.{fine-tail, tails-of}
 use Rattle.spelling.specs.Content.{as_packet, eight_tails, valid_content}
 use Rattle.spelling.specs.Spelling.{head_size}
@@ -65,9 +65,9 @@ ballots-fine n held ts = rw (tails-of ts) (alike _ _ (λ e. both-1 (all_b ballot
     shapes : tails_fine n held ts ≡ true → all_b ballot_shape (map ballot_of ts) ≡ true
     shapes e = all_map (tail_fine n held) ballot_shape ballot_of shape ts (tails-each n held ts e)
 
-pub stored-tails : (n : ℕ) (ts : List (List ℕ)) (bs : List Ballot) → bs ≡ ballots_of n ts → map tail-of bs ≡ eight_tails n ts
+pub stored-tails : (n : ℕ) (ts : List (List ℕ)) (bs : List Ballot) → bs ≡ ballots_of n ts → map tail_of bs ≡ eight_tails n ts
 unfolding ballots_of
-stored-tails n ts bs e = ap (map tail-of) e ∙ tails-of (eight_tails n ts)
+stored-tails n ts bs e = ap (map tail_of) e ∙ tails-of (eight_tails n ts)
 
 pub stored-fine : (n held : ℕ) (ts : List (List ℕ)) (bs : List Ballot) → bs ≡ ballots_of n ts → ballots_fine n held bs ≡ tails_fine n held (eight_tails n ts)
 unfolding ballots_of

@@ -41,8 +41,8 @@ pub line-held : (l : List ℕ) → line_held (held_of l) ≡ cut l
 line-held l = take-append_seam (cut l) (replicate (129 - length (cut l)) 0)
 
 -- a struct by the bytes that it holds
-abbrev held-by : List ℕ → Held
-held-by c = record { length = length c; bytes = c ++ replicate (129 - length c) 0 }
+abbrev held_by : List ℕ → Held
+held_by c = record { length = length c; bytes = c ++ replicate (129 - length c) 0 }
 
 cut_short : (l : List ℕ) → length (cut l) ≤ 129
 cut_short l = rw length-take (omega arith)
@@ -52,10 +52,10 @@ module _ (h : Held) (l : List ℕ) (e : h ≡ held_of l) where
   line-is = ap line_held e ∙ line-held l
 
   pub held-again : h ≡ held_of (line_held h)
-  held-again = e ∙ ap held-by (sym (take_all 129 (cut l) (cut_short l)) ∙ ap cut (sym line-is))
+  held-again = e ∙ ap held_by (sym (take_all 129 (cut l) (cut_short l)) ∙ ap cut (sym line-is))
 
   pub held_more : (more : List ℕ) → held_of (line_held h ++ more) ≡ held_of (l ++ more)
-  held_more more = ap held-by (ap (λ (c : List ℕ). cut (c ++ more)) line-is ∙ cut-more l more)
+  held_more more = ap held_by (ap (λ (c : List ℕ). cut (c ++ more)) line-is ∙ cut-more l more)
 
 -- the invariant: the bytes so far and those that are left make the line that is to be held, and the cells behind are zero
 pub record HeldRest (line more bytes : List ℕ) (size i : ℕ) : Type 0 where

@@ -20,7 +20,7 @@ use Rattle.ballots.specs.declared.Ballot.{Ballot}
 use Rattle.kept.specs.declared.Kept.{Kept}
 use Rattle.summary.specs.Summary.{summary_after}
 use Rattle.frame.specs.declared.Record.{Record}
-use Rattle.frame.specs.State.{held-by, folded_by}
+use Rattle.frame.specs.State.{held_by, folded_by}
 use Rattle.taking.specs.Taking.{take_of}
 use Rattle.frame.proofs.State.{held, whole_length}
 use Rattle.agreement.specs.World.{Replica, Posted, World, Call, take, replica_at, message_at, on_some, number, taken, put, step, after}
@@ -61,10 +61,10 @@ pub record SameDesks (k : ℕ) (x y : F.Desk) : Type 0 where
 
 module _ (n : ℕ) (ws : List ℕ) (k : ℕ) (d e : Replica) (x : SoundReplica n ws k d) (y : SoundReplica n ws k e) (s : SameDesks k (desk_of d) (desk_of e)) where
   abbrev log : Replica → List ℕ
-  log r = (held-by r.held r.words).log
+  log r = (held_by r.held r.words).log
 
   abbrev tails : Replica → List (List ℕ)
-  tails r = (held-by r.held r.words).tails
+  tails r = (held_by r.held r.words).tails
 
   kept_same : d.held.kept ≡ e.held.kept
   kept_same = λ i. record { dropped = s.dropped i; summary = record { present = (s.kept i).weights; codes = (s.kept i).codes }; counts = (s.kept i).counts }

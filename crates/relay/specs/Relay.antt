@@ -13,7 +13,7 @@ use Rattle.protocol.specs.Beginning.{◌⊑◌, ◌⊏◌}
 use Rattle.protocol.specs.Office.{tail, path}
 use Rattle.ballots.specs.Ballots.{no_ballot}
 use Rattle.frame.specs.declared.Record.{Record}
-use Rattle.frame.specs.State.{held-by, with_ballots}
+use Rattle.frame.specs.State.{held_by, with_ballots}
 use Rattle.taking.specs.Taking.{take_of}
 use Rattle.frame.specs.Electing.{elect_of}
 use Rattle.agreement.specs.World.{Replica, Posted, World, replica_at, message_at, taken, elected}
@@ -52,7 +52,7 @@ pub record SameButOwn (k : ℕ) (d d' : Replica) : Type 0 where
   pub ballots : (j : ℕ) → (j ≡ k → ⊥) → tail (says d) j ≡ tail (says d') j
   -- so nothing but the own ballot differs, neither in the record (what is kept and noted included) nor in the undropped part of the log
   pub records : without k d.held ≡ without k d'.held
-  pub undropped : (held-by d.held d.words).log ≡ (held-by d'.held d'.words).log
+  pub undropped : (held_by d.held d.words).log ≡ (held_by d'.held d'.words).log
 
 -- office k, with the record and the log d, and two messages
 pub record Swapped (k : ℕ) (d : Replica) (a b : List ℕ) : Type 0 where

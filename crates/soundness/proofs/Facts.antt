@@ -17,7 +17,7 @@ use Rattle.lists.proofs.Tests.{both-0, both-1, both_true, both-comm, both-swap}
 use Rattle.protocol.specs.Entry.{is_entry}
 use Rattle.protocol.specs.Limits.{head_fine, log_fine, tails_fine, office_fine, lengths_fine, folded_fine, long_enough}
 use Rattle.protocol_laws.proofs.Limits.{head, head-true, fine}
-use Rattle.ballots.specs.Ballots.{ballot_shape, ballots_fine, tail-of, office_in}
+use Rattle.ballots.specs.Ballots.{ballot_shape, ballots_fine, tail_of, office_in}
 use Rattle.ballots.specs.declared.Ballot.{Ballot}
 use Rattle.eight_ballots.proofs.Eight.{places-fine}
 use Rattle.summary.specs.Summary.{summary_after}
@@ -41,7 +41,7 @@ module _ (n own : ℕ) (ws : List ℕ) (kept : Kept) (noted : List ℕ) (summary
 
   -- what the words and the ballots say, as the code tests it
   abbrev pub tests : Bool
-  tests = both (all_b (is_entry n) (take held words)) (both (follows kept.summary summary held words) (both (ballots_fine n held bs) (lengths_fine settled (map tail-of bs))))
+  tests = both (all_b (is_entry n) (take held words)) (both (follows kept.summary summary held words) (both (ballots_fine n held bs) (lengths_fine settled (map tail_of bs))))
 
   -- where the log has room, and the numbers and what is kept are within the limits, the words and the ballots decide
   pub sound-tests : 1024 ≤ length words → head_fine n own ws ≡ true → kept_fine n ws kept ≡ true → kept.dropped ≤ settled → noted_fine n own settled noted ≡ true → held ≤ 1024
@@ -71,7 +71,7 @@ module _ (n own : ℕ) (ws : List ℕ) (kept : Kept) (noted : List ℕ) (summary
       let there : held ≤ length words = leb-true held (length words) (both-0 _ _ (both-0 (shaped held bs words) _ e5)) in
       let long : length (take held words) ≡ held = length-take-le held words there in
       let most : held ≤ 1024 = omega (arith, F.most) in
-      let eight : length bs ≡ 8 = sym (length-map bs tail-of) ∙ F.eight in
+      let eight : length bs ≡ 8 = sym (length-map bs tail_of) ∙ F.eight in
       let decided = sym (sound-tests room (both-0 _ _ e1) (both-0 _ _ e2) within (both-0 _ _ e4) most) ∙ e in
       let behind = both-1 (all_b (is_entry n) (take held words)) _ decided in
       let cells = both-1 (follows kept.summary summary held words) _ behind in

@@ -4,7 +4,7 @@ use Rattle.std.specs.Prelude.{ℕ, ◌-◌, ◌≤◌, ◌≡◌, Bool, true, Li
 use Rattle.lists.specs.Tests.{both, all_b}
 use Rattle.protocol.specs.Entry.{is_entry}
 use Rattle.protocol.specs.Limits.{head_fine, folded_fine, lengths_fine, Head, long_enough}
-use Rattle.ballots.specs.Ballots.{ballot_shape, ballot_fine, is_no_ballot, office_in, tail-of}
+use Rattle.ballots.specs.Ballots.{ballot_shape, ballot_fine, is_no_ballot, office_in, tail_of}
 use Rattle.ballots.specs.declared.Ballot.{Ballot}
 use Rattle.summary.specs.Summary.{summary_after, same_summary}
 use Rattle.summary.specs.declared.Summary.{Summary}
@@ -47,7 +47,7 @@ pub record SoundFields (n own : ℕ) (weights : List ℕ) (k : Kept) (l : List �
   pub noted : NotedFacts n own settled l
   pub most : held_length settled k.dropped ≤ 1024
   pub entries : all_b (is_entry n) (take (held_length settled k.dropped) words) ≡ true
-  pub lengths : lengths_fine settled (map tail-of ballots) ≡ true
+  pub lengths : lengths_fine settled (map tail_of ballots) ≡ true
   pub done : summary ≡ summary_after k.summary (take (held_length settled k.dropped) words)
   pub eight : length ballots ≡ 8
   pub fine : all_b (ballot_fine n (held_length settled k.dropped)) ballots ≡ true

@@ -18,7 +18,7 @@ use Rattle.bounds.proofs.Cast.{cast-votes, cast-silent}
 use Rattle.bounds.proofs.Eight.{Silent, silent-votes}
 use Rattle.rows.specs.Rows.{rows_of, marks}
 use Rattle.rows.specs.declared.Rows.{Rows}
-use Rattle.frame.specs.State.{held_length, held-by}
+use Rattle.frame.specs.State.{held_length, held_by}
 use Rattle.frame.specs.Soundness.{sound_b, Sound}
 use Rattle.frame.specs.declared.Record.{Record}
 use Rattle.frame.proofs.Sound.{sound}
@@ -27,7 +27,7 @@ use Rattle.standing.specs.declared.Standing.{Standing}
 
 module _ (r : Record) (words : List ℕ) where
   abbrev answer : Standing
-  answer = standing_by r.n r.summary.present (votes (held-by r words))
+  answer = standing_by r.n r.summary.present (votes (held_by r words))
 
   pub standing-sound : sound_b r words ≡ true → standing_of r words ≡ answer
   unfolding standing_of
@@ -38,7 +38,7 @@ module _ (r : Record) (words : List ℕ) where
   standing-unsound e = sym (pick-false (sound_b r words) answer refused e)
 
   -- the words that the ballots cast are their votes
-  voted : Sound r words → (vs : List ℕ) → vs ≡ map cast r.ballots → votes_in vs ≡ votes (held-by r words)
+  voted : Sound r words → (vs : List ℕ) → vs ≡ map cast r.ballots → votes_in vs ≡ votes (held_by r words)
   voted S vs q = ap votes_in q ∙ cast-votes r.n (held_length r) r.ballots S.fine
 
   pub standing-done : Sound r words → sound_b r words ≡ true → (vs : List ℕ) → vs ≡ map cast r.ballots
@@ -48,7 +48,7 @@ module _ (r : Record) (words : List ℕ) where
       (λ i. standing_with (p i) ((m ∙ weight-none r.summary.present (votes_in vs) no_vote refl) i) (s i)) ∙
       ap (standing_by r.n r.summary.present) (voted S vs q) ∙ sym (standing-sound e)
 
-  pub votes-silent : Sound r words → Silent r.n (votes (held-by r words))
+  pub votes-silent : Sound r words → Silent r.n (votes (held_by r words))
   votes-silent S =
       let vs : List ℕ = map cast r.ballots in
       subst (Silent r.n) (voted S vs refl) (silent-votes r.n vs (cast-silent r.n r.ballots S.head.most S.rest))

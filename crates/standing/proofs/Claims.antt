@@ -26,11 +26,11 @@ use Rattle.protocol_laws.proofs.Elect.{elect-log, elect-none, elect-some}
 use Rattle.protocol_laws.proofs.Moves.{weights-length, weights-total, weights-zero}
 use Rattle.protocol_laws.proofs.Vote.{NamesVoted, by_log-voted}
 use Rattle.summary.specs.declared.Summary.{Summary}
-use Rattle.ballots.specs.Ballots.{tail-of, off_end, words_with}
+use Rattle.ballots.specs.Ballots.{tail_of, off_end, words_with}
 use Rattle.ballots.specs.declared.Ballot.{Ballot}
 use Rattle.lists.specs.Padded.{in_eight}
 use Rattle.rows.specs.Rows.{row_entries, rows_of, marks}
-use Rattle.frame.specs.State.{held_length, held-by}
+use Rattle.frame.specs.State.{held_length, held_by}
 use Rattle.frame.specs.Soundness.{sound_b, Sound}
 use Rattle.frame.specs.Electing.{tie_order, rule_of, elect_of, elect_words, winner_of}
 use Rattle.frame.specs.declared.Record.{Record}
@@ -51,20 +51,20 @@ module _ (r : Record) (words : List ℕ) (S : Sound r words) where
   abbrev ws : List ℕ
   ws = r.summary.present
 
-  follows : ws ≡ weights_after r.kept.summary.present (held-by r words).log
+  follows : ws ≡ weights_after r.kept.summary.present (held_by r words).log
   follows = ap (λ (x : Summary). x.present) S.done
 
   long : length ws ≡ 8
-  long = ap length follows ∙ weights-length r.kept.summary.present (held-by r words).log ∙ S.kept.eight
+  long = ap length follows ∙ weights-length r.kept.summary.present (held_by r words).log ∙ S.kept.eight
 
   same_total : total ws ≡ total r.weights
-  same_total = ap total follows ∙ weights-total r.kept.summary.present (held-by r words).log ∙ S.kept.same_total
+  same_total = ap total follows ∙ weights-total r.kept.summary.present (held_by r words).log ∙ S.kept.same_total
 
   zero-past : (k : ℕ) → r.n ≤ k → get_or ws k 0 ≡ 0
   zero-past k h =
       let at : k ≡ r.n + (k - r.n) = omega arith in
       let zero = ap (λ (us : List ℕ). all_b (eqb 0) (drop r.n us)) follows ∙
-      weights-zero r.n r.kept.summary.present (held-by r words).log S.entries S.kept.rest in
+      weights-zero r.n r.kept.summary.present (held_by r words).log S.entries S.kept.rest in
       ap (λ (j : ℕ). get_or ws j 0) at ∙ sym (get_or-drop r.n ws (k - r.n) 0) ∙
       sym (eqb-true 0 _ (all_get_d (eqb 0) 0 (drop r.n ws) (k - r.n) zero refl))
 
@@ -121,7 +121,7 @@ module _ (r : Record) (words : List ℕ) (S : Sound r words) where
   elected = elect-done r words (elect-zero r words (sound-true r words S))
 
   settles-none : winner_of r words ≡ none → (elect_of r words).count ≡ 0
-  settles-none q = omega (arith, elected.counted, ap (λ (o : Office). length o.log) (elect-none rule (held-by r words) q))
+  settles-none q = omega (arith, elected.counted, ap (λ (o : Office). length o.log) (elect-none rule (held_by r words) q))
 
   -- where an entry wins, elect settles one more than behind it
   count-some : (o : Office) (e : ℕ) → rule o.log (votes o) ≡ some e → elect_count rule o ≡ 1 + elect_count rule (settle e o)
@@ -133,12 +133,12 @@ module _ (r : Record) (words : List ℕ) (S : Sound r words) where
       omega (arith, ap (λ (r : Office). length r.log) (elect-some rule voted o e q), whole, length-append o.log (e ∷ []))
 
   settles-one : (e : ℕ) → winner_of r words ≡ some e → 1 ≤ (elect_of r words).count
-  settles-one e q = omega (arith, elected.counted, count-some (held-by r words) e q)
+  settles-one e q = omega (arith, elected.counted, count-some (held_by r words) e q)
 
   settles-first : (e : ℕ) → winner_of r words ≡ some e → get_or (elect_words r words) (held_length r) 0 ≡ e
   unfolding with_folded_elect settle
   settles-first e q =
-      let o = held-by r words in
+      let o = held_by r words in
       let g = elect-log rule (settle e o) in
       let log : (with_elect rule o).log ≡ (o.log ++ (e ∷ [])) ++ g.0 = ap (λ (x : Office). x.log) (elect-some rule voted o e q) ∙ g.1 in
       ap (λ (l : List ℕ). get_or l (held_length r) 0) (elected.written ∙ ap (λ (l : List ℕ). words_with l words) log ∙ apart o.log e g.0) ∙
@@ -231,12 +231,12 @@ one-vote-more r s words words' k e p q M =
 
 -- two records that keep the same of dropped entries and hold the same log have the same present weights
 pub same_log : (r s : Record) (words words' : List ℕ) → (standing_of r words).number ≡ 0 → (standing_of s words').number ≡ 0
-    → r.kept ≡ s.kept → (held-by r words).log ≡ (held-by s words').log → r.summary.present ≡ s.summary.present
+    → r.kept ≡ s.kept → (held_by r words).log ≡ (held_by s words').log → r.summary.present ≡ s.summary.present
 same_log r s words words' p q kept log =
     follows r words (done r words p).0 ∙ (λ i. weights_after (kept i).summary.present (log i)) ∙ sym (follows s words' (done s words' q).0)
 
 -- a ballot that is put where there was none
-pub ballot-heard : (r : Record) (words : List ℕ) (k e : ℕ) (b : Ballot) (t : List ℕ) → k < r.n → (get_or r.ballots k off_end).len ≡ 0 → tail-of b ≡ e ∷ t
+pub ballot-heard : (r : Record) (words : List ℕ) (k e : ℕ) (b : Ballot) (t : List ℕ) → k < r.n → (get_or r.ballots k off_end).len ≡ 0 → tail_of b ≡ e ∷ t
     → (standing_of r words).number ≡ 0 → (standing_of (with_ballot r k b) words).number ≡ 0
     → Adds (standing_of r words) (standing_of (with_ballot r k b) words) k e (weight_of r.summary.present k)
 ballot-heard r words k e b t h none_yet tail p q =
@@ -249,6 +249,6 @@ ballot-heard r words k e b t h none_yet tail p q =
       weights = refl;
       member = h;
       unvoted = ap first (tail_at r words k) ∙ rw none_yet;
-      voted = ap first (tail_at (with_ballot r k b) words k ∙ ap tail-of (get_or-set_same r.ballots k b off_end there) ∙ tail);
-      others = λ j n. ap first (tail_at (with_ballot r k b) words j ∙ ap tail-of (get_or-set_other r.ballots k j b off_end n) ∙ sym (tail_at r words j));
+      voted = ap first (tail_at (with_ballot r k b) words k ∙ ap tail_of (get_or-set_same r.ballots k b off_end there) ∙ tail);
+      others = λ j n. ap first (tail_at (with_ballot r k b) words j ∙ ap tail_of (get_or-set_other r.ballots k j b off_end n) ∙ sym (tail_at r words j));
     })

@@ -5,9 +5,9 @@
 --                          → standing_of r words .number ≡ 0 → standing_of s words' .number ≡ 0 → OneVoteMore r words s words' k e
 --                          → Adds (standing_of r words) (standing_of s words') k e (weight_of r.summary.present k)
 --     same-log         (r s : Record) (words words' : List ℕ) → standing_of r words .number ≡ 0 → standing_of s words' .number ≡ 0
---                          → r.kept ≡ s.kept → held-by r words .log ≡ held-by s words' .log → r.summary.present ≡ s.summary.present
+--                          → r.kept ≡ s.kept → held_by r words .log ≡ held_by s words' .log → r.summary.present ≡ s.summary.present
 --     ballot-heard     (r : Record) (words : List ℕ) (k e : ℕ) (b : Ballot) (t : List ℕ)
---                          → k < r.n → get_or r.ballots k off_end .len ≡ 0 → tail-of b ≡ e ∷ t
+--                          → k < r.n → get_or r.ballots k off_end .len ≡ 0 → tail_of b ≡ e ∷ t
 --                          → standing_of r words .number ≡ 0 → standing_of (with_ballot r k b) words .number ≡ 0
 --                          → Adds (standing_of r words) (standing_of (with_ballot r k b) words) k e (weight_of r.summary.present k)
 --     refused-zeros    (r : Record) (words : List ℕ) → ((standing_of r words).number ≡ 0 → ⊥) → standing_of r words ≡ refused
@@ -19,7 +19,7 @@ use Rattle.protocol.specs.Limits.{total}
 use Rattle.protocol.specs.Office.{votes}
 use Rattle.protocol.specs.Vote.{Votes, is_none, tally, unheard}
 use Rattle.ballots.specs.declared.Ballot.{Ballot}
-use Rattle.frame.specs.State.{held_length, held-by, with_ballots}
+use Rattle.frame.specs.State.{held_length, held_by, with_ballots}
 use Rattle.frame.specs.Electing.{tie_order, winner_of, elect_of, elect_words}
 use Rattle.frame.specs.declared.Record.{Record}
 use Rattle.standing.specs.Leader.{rows_in, entries_in, weights_in, weight_in, joint_weight, leader}
@@ -27,7 +27,7 @@ use Rattle.standing.specs.declared.Standing.{Standing}
 
 -- office k's vote: "each non-empty ballot supports its first tail entry"
 abbrev pub vote_of : Record → List ℕ → Votes
-vote_of r words = votes (held-by r words)
+vote_of r words = votes (held_by r words)
 
 -- ── "these are the T and U of the winning rule (present weights, ..)" ──
 pub record Shows (r : Record) (words : List ℕ) (s : Standing) : Type 0 where

@@ -7,7 +7,7 @@ use Rattle.protocol.specs.Office.{votes}
 use Rattle.lists.specs.Padded.{in_eight}
 use Rattle.rows.specs.Rows.{rows_of, marks}
 use Rattle.rows.specs.declared.Rows.{Rows}
-use Rattle.frame.specs.State.{held-by}
+use Rattle.frame.specs.State.{held_by}
 use Rattle.frame.specs.Soundness.{sound_b}
 use Rattle.frame.specs.declared.Record.{Record}
 use Rattle.standing.specs.declared.Standing.{Standing}
@@ -26,4 +26,4 @@ refused = record { number = 1; rows = 0; unheard = 0; entries = replicate 8 0; t
 
 -- "present weights", and the ballots' votes
 unfoldable pub standing_of : Record → List ℕ → Standing
-standing_of r words = pick (sound_b r words) (standing_by r.n r.summary.present (votes (held-by r words))) refused
+standing_of r words = pick (sound_b r words) (standing_by r.n r.summary.present (votes (held_by r words))) refused

@@ -29,7 +29,7 @@ use Rattle.ballots.specs.Ballots.{ballot_of, no_ballot}
 use Rattle.ballots.proofs.Laws.{tail-of}
 use Rattle.summary.specs.Summary.{start_with}
 use Rattle.summary.proofs.Laws.{summary-nil}
-use Rattle.frame.specs.State.{held_length, held-by, with_held, holding_behind, fresh_record}
+use Rattle.frame.specs.State.{held_length, held_by, with_held, holding_behind, fresh_record}
 use Rattle.frame.specs.Soundness.{sound_b, Sound}
 use Rattle.frame.specs.Electing.{rule_of, elect_of, elect_words}
 use Rattle.frame.specs.declared.Record.{Record}
@@ -48,7 +48,7 @@ use Rattle.table_lines.proofs.Small.{Three, three, small-two}
 
 -- ── they are few ──
 -- the tails that the record holds are the table's, and five empty ones
-tails-held : (r : Record) (t : List (List ℕ)) → Three t → (held-by (with_table r (map ballot_of t)) empty_log).tails ≡ (table_office t).tails
+tails-held : (r : Record) (t : List (List ℕ)) → Three t → (held_by (with_table r (map ballot_of t)) empty_log).tails ≡ (table_office t).tails
 tails-held r t T = rw T.are (λ i. tail-of T.x i ∷ tail-of T.y i ∷ tail-of T.z i ∷ replicate 5 [])
 
 six : (t : List (List ℕ)) → Three t → tail_entries (table_office t).tails ≤ 6
@@ -83,9 +83,9 @@ module _ (r : Record) (t : List (List ℕ)) (small : small_table t ≡ true) whe
       let held = held_length (elect_of R empty_log).«record» in
       let g = elect-grows R empty_log q in
       let within : k ≤ held =
-      omega (arith, g.2, ap length g.1, length-append (held-by R empty_log).log g.0, log-length (elect_of R empty_log).«record» (elect_words R empty_log) S) in
+      omega (arith, g.2, ap length g.1, length-append (held_by R empty_log).log g.0, log-length (elect_of R empty_log).«record» (elect_words R empty_log) S) in
       let T = three t small in
-      let count : k ≤ 6 = omega (arith, D.counted, elect-most (rule_of R) (held-by R empty_log), ap tail_entries (tails-held r t T), six t T) in
+      let count : k ≤ 6 = omega (arith, D.counted, elect-most (rule_of R) (held_by R empty_log), ap tail_entries (tails-held r t T), six t T) in
       let n = (elect_of R empty_log).«record».n in
       let front : all_b (is_entry n) (settled_from R) ≡ true =
       subst (λ (l : List ℕ). all_b (is_entry n) l ≡ true) (take-take k held (elect_words R empty_log) within) (all_take (is_entry n) k (take held (elect_words R empty_log)) S.entries) in
@@ -135,16 +135,16 @@ office-fine t T =
     })
 
 -- a sound record with an empty log settles what the protocol's election of its state settles
-module _ (R : Record) (o : Office) (S : Sound R empty_log) (held : held-by R empty_log ≡ o) (empty : o.log ≡ []) where
+module _ (R : Record) (o : Office) (S : Sound R empty_log) (held : held_by R empty_log ≡ o) (empty : o.log ≡ []) where
   elects : ((elect_of R empty_log).number ≡ 0) × (settled_from R ≡ (with_elect (rule_of R) o).log)
   unfolding with_folded_elect
   elects =
       let q = elect-zero R empty_log (sound-true R empty_log S) in
       let last = (elect_of R empty_log).«record» in
       let g = elect-grows R empty_log q in
-      let none : length (held-by R empty_log).log ≡ 0 = ap length (ap (λ (x : Office). x.log) held ∙ empty) in
+      let none : length (held_by R empty_log).log ≡ 0 = ap length (ap (λ (x : Office). x.log) held ∙ empty) in
       let all : (elect_of R empty_log).count ≡ held_length last =
-      omega (arith, g.2, ap length g.1, length-append (held-by R empty_log).log g.0, none, log-length last (elect_words R empty_log) (elect-sound R empty_log q)) in
+      omega (arith, g.2, ap length g.1, length-append (held_by R empty_log).log g.0, none, log-length last (elect_words R empty_log) (elect-sound R empty_log q)) in
       (q, ap (λ (k : ℕ). take k (elect_words R empty_log)) all ∙ ap (λ (x : FoldedOffice). x.held.log) (elect-state R empty_log q) ∙ ap (λ (x : Office). (with_elect (rule_of R) x).log) held)
 
 -- an office that holds a table, and has dropped and heard nothing

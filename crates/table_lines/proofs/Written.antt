@@ -16,7 +16,7 @@ use Rattle.lists.specs.Tests.{all_b}
 use Rattle.lists.proofs.Tests.{both-0, both-1}
 use Rattle.lists.proofs.Walk.{rest-step}
 use Rattle.lists.proofs.Stores.{Left, left-all, left-next, left-none}
-use Rattle.ballots.specs.Ballots.{ballot_of, tail-of}
+use Rattle.ballots.specs.Ballots.{ballot_of, tail_of}
 use Rattle.ballots.specs.declared.Ballot.{Ballot}
 use Rattle.ballots.proofs.Laws.{tail-of}
 use Rattle.frame.specs.declared.Record.{Record}
@@ -32,13 +32,13 @@ use Rattle.table_lines.proofs.Settled.{settled-few}
 -- a ballot of a table
 pub record Seated (b : Ballot) (t : List ℕ) : Type 0 where
   pub is : b ≡ ballot_of t
-  pub tail : tail-of b ≡ t
-  pub few-entries : few (tail-of b) ≡ true
+  pub tail : tail_of b ≡ t
+  pub few-entries : few (tail_of b) ≡ true
   pub short : b.len ≤ 32
 
 seat : (b : Ballot) (t : List ℕ) → b ≡ ballot_of t → small_tail t ≡ true → Seated b t
 seat b t e h =
-    let same : tail-of b ≡ t = ap tail-of e ∙ tail-of t in
+    let same : tail_of b ≡ t = ap tail_of e ∙ tail-of t in
     record {
       is = e;
       tail = same;
@@ -79,7 +79,7 @@ module _ (settled x y z out o1 o2 o3 o4 : List ℕ) (at n1 n2 n3 n4 : ℕ) where
 
 -- these pieces are the table's line
 pub line-written : (r R : Record) (t : List (List ℕ)) (T : Three t) (a b c : Ballot) → Seated a T.x → Seated b T.y → Seated c T.z
-    → R ≡ with_table r (a ∷ b ∷ c ∷ []) → line_with (settled_from R) (tail-of a ∷ tail-of b ∷ tail-of c ∷ []) ≡ line_of r t
+    → R ≡ with_table r (a ∷ b ∷ c ∷ []) → line_with (settled_from R) (tail_of a ∷ tail_of b ∷ tail_of c ∷ []) ≡ line_of r t
 unfolding line_of
 line-written r R t T a b c A B C e =
     ap₂ line_with (ap settled_from (seated-record r R t T a b c A B C e)) ((λ i. A.tail i ∷ B.tail i ∷ C.tail i ∷ []) ∙ sym T.are)

@@ -17,7 +17,7 @@ use Rattle.protocol.specs.Folding.{with_folded_take, refuse_folded_take}
 use Rattle.lists.proofs.Tests.{both-1, take-map, get_d_replicate}
 use Rattle.protocol_laws.proofs.Folding.{take_found, take-values}
 use Rattle.protocol_laws.proofs.FoldedLimits.{FoldedFine, PacketFine, folded-take-fine, unfolded-fine}
-use Rattle.ballots.specs.Ballots.{tail-of, ballot_of, words_with}
+use Rattle.ballots.specs.Ballots.{tail_of, ballot_of, words_with}
 use Rattle.ballots.proofs.Laws.{tails-of}
 use Rattle.lists.proofs.Same.{same_true}
 use Rattle.numbers.specs.Numbers.{Bytes}
@@ -149,7 +149,7 @@ module _ (r : Record) (words s : List ℕ) (done : (take_of r words s).number �
           dropped = c.dropped;
           log = (ap (λ (k : ℕ). take k (words_with c.log words)) l ∙ take-append_seam c.log (drop (length c.log) words)) i;
           tails = (
-              sym (take-map tail-of r.n (map ballot_of ts)) ∙ ap (take r.n) (tails-of ts)
+              sym (take-map tail_of r.n (map ballot_of ts)) ∙ ap (take r.n) (tails-of ts)
               ∙ take_at c.tails (replicate (8 - c.n) []) r.n ((valid-facts c valid).tails-length ∙ same_count r words s found)
               ) i;
         }

@@ -21,7 +21,7 @@ use Rattle.protocol.specs.Folding as F
 use Rattle.protocol.specs.Folding.{with_folded_take, refuse_folded_take}
 use Rattle.protocol_laws.proofs.FoldedLimits.{HeldFine, PacketFine, folded-facts}
 use Rattle.lists.proofs.Tests.{both-0, pick-false, zeros}
-use Rattle.ballots.specs.Ballots.{tail-of, ballot_of, words_with}
+use Rattle.ballots.specs.Ballots.{tail_of, ballot_of, words_with}
 use Rattle.lists.proofs.Same.{same_true, same_refl}
 use Rattle.ballots.proofs.Laws.{tails-of}
 use Rattle.numbers.specs.Numbers.{run_at}
@@ -159,8 +159,8 @@ log_in m s = run_at 6 record_at m.held (rest_of m s)
 log-in : (m : Reading) (s : List ℕ) (c : Content) → Says m c → reading s ≡ some c → log_in m s ≡ c.log
 log-in m s c f e = rw (rest-of-message s m.head, f.head, f.held) (reading-log s c e)
 
-pub tails-in : (m : Reading) (c : Content) → Says m c → map tail-of m.ballots ≡ (as_packet c).state.tails
-tails-in m c f = ap (map tail-of) f.ballots ∙ tails-of (as_packet c).state.tails
+pub tails-in : (m : Reading) (c : Content) → Says m c → map tail_of m.ballots ≡ (as_packet c).state.tails
+tails-in m c f = ap (map tail_of) f.ballots ∙ tails-of (as_packet c).state.tails
 
 -- what was read is the message
 pub packet-in : (m : Reading) (s : List ℕ) (c : Content) → Says m c → reading s ≡ some c → packet_in (rest_of m s) m ≡ as_packet c

@@ -32,7 +32,7 @@ use Rattle.elections.specs.declared.State.{State}
 use Rattle.summary.specs.Summary.{summary_after}
 use Rattle.kept.specs.Kept.{kept_after}
 use Rattle.kept.specs.declared.Kept.{Kept}
-use Rattle.frame.specs.State.{held_length, state_in, with_held, with_state, with_kept, with_noted, held-by, folded_by, kept_by, holding}
+use Rattle.frame.specs.State.{held_length, state_in, with_held, with_state, with_kept, with_noted, held_by, folded_by, kept_by, holding}
 use Rattle.taking.specs.Taking.{take_number, take_places, taken_office, take_of, take_words}
 use Rattle.frame.specs.declared.Record.{Record}
 use Rattle.taking.specs.declared.Taken.{Taken}
@@ -115,7 +115,7 @@ module _ (r : Record) (words s : List ℕ) (m : Reading) (e : take_number r word
     -- what is kept, and the length
     kept-is : after.kept ≡ kept_by r words next
     unfolding with_folded_take
-    kept-is = ap (λ (k : ℕ). kept_after r.kept (take k (held-by r words).log)) front
+    kept-is = ap (λ (k : ℕ). kept_after r.kept (take k (held_by r words).log)) front
 
     dropped-is : after.kept.dropped ≡ r.kept.dropped + (m.dropped - r.kept.dropped)
     dropped-is = dropped-taken words (state_in r) r.kept r.own (rest_of m s) m ready

@@ -4,7 +4,7 @@ use Rattle.std.proofs.Math.Option.{Option, none, some}
 use Rattle.lists.specs.Tests.{all_b}
 use Rattle.protocol.specs.Vote.{Votes, tally, unheard, and-also, beats_all, wins}
 use Rattle.protocol.specs.Office.{first}
-use Rattle.ballots.specs.Ballots.{tail-of}
+use Rattle.ballots.specs.Ballots.{tail_of}
 use Rattle.ballots.specs.declared.Ballot.{Ballot}
 use Rattle.tallies.specs.declared.Winner.{Winner}
 use Rattle.tallies.specs.declared.Winner.TheVariants.{Entry, Nobody}
@@ -24,7 +24,7 @@ vote_word (some e) = e
 
 -- "each non-empty ballot supports its first tail entry"
 abbrev pub cast : Ballot → ℕ
-cast b = vote_word (first (tail-of b))
+cast b = vote_word (first (tail_of b))
 
 -- the vote that a word is, and the votes that eight words are
 abbrev pub vote_in : ℕ → Option ℕ

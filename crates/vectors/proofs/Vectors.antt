@@ -22,7 +22,7 @@ use Rattle.numbers.specs.Numbers.{be64, bytes64, run}
 use Rattle.numbers.proofs.Runs.{run_length}
 use Rattle.protocol.specs.Counts.{no_counts, count_of, counts_after}
 use Rattle.protocol_laws.proofs.Counts.{counts-append, counts-at, counts-length, counts-most}
-use Rattle.ballots.specs.Ballots.{tail-of, off_end}
+use Rattle.ballots.specs.Ballots.{tail_of, off_end}
 use Rattle.ballots.specs.declared.Ballot.{Ballot}
 use Rattle.ballots.proofs.Laws.{tail_at}
 use Rattle.spelling.proofs.Items.{room_for}
@@ -71,19 +71,19 @@ paths-bytes start log (t ∷ ts) = ap₂ (λ (v rest : List ℕ). run bytes64 v 
 
 -- the tails of the first n offices
 abbrev pub tails_in : ℕ → List Ballot → List (List ℕ)
-tails_in n bs = take n (map tail-of bs)
+tails_in n bs = take n (map tail_of bs)
 
 -- n offices that have ballots
 module _ (n : ℕ) (bs : List Ballot) (some : n ≤ length bs) where
   pub tails-length : length (tails_in n bs) ≡ n
-  tails-length = length-take-le n (map tail-of bs) (omega (arith, length-map bs tail-of))
+  tails-length = length-take-le n (map tail_of bs) (omega (arith, length-map bs tail_of))
 
   pub paths-length : (log : List ℕ) → length (map (λ t. log ++ t) (tails_in n bs)) ≡ n
   paths-length log = length-map (tails_in n bs) (λ t. log ++ t) ∙ tails-length
 
-  pub tails-step : (o : ℕ) → o < n → drop o (tails_in n bs) ≡ tail-of (get_or bs o off_end) ∷ drop (o + 1) (tails_in n bs)
+  pub tails-step : (o : ℕ) → o < n → drop o (tails_in n bs) ≡ tail_of (get_or bs o off_end) ∷ drop (o + 1) (tails_in n bs)
   tails-step o h =
-      rest-step [] (tails_in n bs) o (omega (arith, tails-length)) ∙ ap (λ (t : List ℕ). t ∷ drop (o + 1) (tails_in n bs)) (get_or-take n (map tail-of bs) o [] h ∙ tail_at bs o)
+      rest-step [] (tails_in n bs) o (omega (arith, tails-length)) ∙ ap (λ (t : List ℕ). t ∷ drop (o + 1) (tails_in n bs)) (get_or-take n (map tail_of bs) o [] h ∙ tail_at bs o)
 
 -- ── the bytes: of n counts, from those in `start` on ──
 module _ (n : ℕ) (start : List ℕ) (long : length start ≡ n) where
@@ -113,7 +113,7 @@ write-begins l at n base bs = record { within = zero-le; left = left-all l at (v
 
 module _ {l₀ : List ℕ} {at n : ℕ} {base : List ℕ} {bs : List Ballot} {l : List ℕ} {p o : ℕ} (inv : ToWrite l₀ at n base bs l p o) (long : length base ≡ n) (some : n ≤ length bs) where
   abbrev next : List ℕ
-  next = tail-of (get_or bs o off_end)
+  next = tail_of (get_or bs o off_end)
 
   rest-next : o < n → versions_bytes base (drop o (tails_in n bs)) ≡ vector_bytes base next ++ versions_bytes base (drop (o + 1) (tails_in n bs))
   unfolding versions_bytes
@@ -134,7 +134,7 @@ module _ {l₀ : List ℕ} {at n : ℕ} {base : List ℕ} {bs : List Ballot} {l 
         vector-length n base long next,
       )
 
-  pub write_again : o < n → {l' : List ℕ} {p' : ℕ} (counts : List ℕ) → counts ≡ vector_of base (tail-of (get_or bs o off_end)) → p' ≡ p + 8 * n
+  pub write_again : o < n → {l' : List ℕ} {p' : ℕ} (counts : List ℕ) → counts ≡ vector_of base (tail_of (get_or bs o off_end)) → p' ≡ p + 8 * n
       → l' ≡ sets l p (run bytes64 counts) → ToWrite l₀ at n base bs l' p' (o + 1)
   write_again h counts v e q = record {
     within = omega arith;

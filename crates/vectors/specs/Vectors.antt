@@ -6,7 +6,7 @@ use Rattle.lists.specs.Tests.{all_b}
 use Rattle.numbers.specs.Numbers.{bytes64, run}
 use Rattle.protocol.specs.Counts.{count_of, counts_after}
 use Rattle.protocol.specs.Office.{Office}
-use Rattle.ballots.specs.Ballots.{ballot_shape, tail-of}
+use Rattle.ballots.specs.Ballots.{ballot_shape, tail_of}
 use Rattle.ballots.specs.declared.Ballot.{Ballot}
 
 -- the vector of a log or a path: for each office, rising, how many of its entries are that office's, the dropped ones included. `start` has one
@@ -29,7 +29,7 @@ versions_bytes start (p ∷ ps) = vector_bytes start p ++ versions_bytes start p
 
 -- the versions in a settled log and eight ballots
 abbrev pub versions_in : ℕ → List ℕ → List Ballot → List (List ℕ)
-versions_in n log ballots = versions_of n (record { log = log; tails = map tail-of ballots })
+versions_in n log ballots = versions_of n (record { log = log; tails = map tail_of ballots })
 
 -- each count is at most the number m
 abbrev pub EachAtMost : ℕ → List ℕ → Type 0

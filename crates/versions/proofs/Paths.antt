@@ -11,7 +11,7 @@ use lib.Seq.{sets}
 use Rattle.lists.proofs.Stores.{Left, left-all, left-next, left-none}
 use Rattle.numbers.proofs.Numbers.{sets-alike}
 use Rattle.protocol_laws.proofs.Counts.{counts-append}
-use Rattle.ballots.specs.Ballots.{tail-of, off_end}
+use Rattle.ballots.specs.Ballots.{tail_of, off_end}
 use Rattle.ballots.specs.declared.Ballot.{Ballot}
 use Rattle.vectors.specs.Vectors.{vector_of, versions_in}
 use Rattle.vectors.proofs.Vectors.{tails_in, tails-length, tails-step}
@@ -31,7 +31,7 @@ pub answer-begins : (cells : List ℕ) (n : ℕ) (base v : List ℕ) (bs : List 
 answer-begins cells n base v bs = record { within = zero-le; left = left-all cells 1 (answers_to base v (tails_in n bs)) }
 
 module _ {cells₀ : List ℕ} {n : ℕ} {base v : List ℕ} {bs : List Ballot} {cells : List ℕ} {o : ℕ} (inv : ToAnswer cells₀ n base v bs cells o) (some : n ≤ length bs) where
-  pub answer-again : o < n → (x : ℕ) → x ≡ compared_to (vector_of base (tail-of (get_or bs o off_end))) v → ToAnswer cells₀ n base v bs (set cells (o + 1) x) (o + 1)
+  pub answer-again : o < n → (x : ℕ) → x ≡ compared_to (vector_of base (tail_of (get_or bs o off_end))) v → ToAnswer cells₀ n base v bs (set cells (o + 1) x) (o + 1)
   answer-again h x e = record {
     within = omega arith;
     left = left-next inv.left (x ∷ [])

@@ -21,7 +21,7 @@ use Rattle.protocol.specs.Elect.{lose}
 use Rattle.protocol_laws.proofs.Moves.{proper-true}
 use Rattle.lists.proofs.Tests.{both-0, both-1, zeros}
 use Rattle.lists.proofs.Fill.{filled, front-step}
-use Rattle.ballots.specs.Ballots.{tail-of, ballot_of, ballot_shape}
+use Rattle.ballots.specs.Ballots.{tail_of, ballot_of, ballot_shape}
 use Rattle.ballots.specs.declared.Ballot.{Ballot}
 use Rattle.tallies.specs.Tallies.{no_vote, vote_word, cast, vote_in}
 
@@ -44,9 +44,9 @@ entry-no-vote n e h q =
     let most : code_of e ≡ 65535 = ap code_of q in
     omega arith
 
-pub cast-vote : (n : ℕ) (b : Ballot) → all_b (is_entry n) (tail-of b) ≡ true → vote_in (cast b) ≡ first (tail-of b)
+pub cast-vote : (n : ℕ) (b : Ballot) → all_b (is_entry n) (tail_of b) ≡ true → vote_in (cast b) ≡ first (tail_of b)
 unfolding all_b
-cast-vote n b = go (tail-of b)
+cast-vote n b = go (tail_of b)
   where
     go : (t : List ℕ) → all_b (is_entry n) t ≡ true → vote_in (vote_word (first t)) ≡ first t
     go [] p = refl
@@ -67,7 +67,7 @@ module _ (xs cs : List ℕ) (j : ℕ) (h : length xs ≡ 32) (inv : cs ≡ fille
   moved-end e = inv ∙ ap (λ (k : ℕ). filled (drop 1 xs) (replicate 32 0) k) e ∙ ap (λ (l : List ℕ). l ++ 0 ∷ []) (take_all 31 (drop 1 xs) (omega (arith, behind)))
 
 pub without-first-is : (b : Ballot) → ballot_shape b ≡ true → 1 ≤ b.len → (cs : List ℕ) → cs ≡ drop 1 b.cells ++ 0 ∷ []
-    → ◌≡◌ {A = Ballot} (record { len = b.len - 1; cells = cs }) (ballot_of (drop 1 (tail-of b)))
+    → ◌≡◌ {A = Ballot} (record { len = b.len - 1; cells = cs }) (ballot_of (drop 1 (tail_of b)))
 unfolding ballot_shape
 without-first-is b s o cs q = λ i. record { len = left i; cells = (q ∙ moved) i }
   where
@@ -77,10 +77,10 @@ without-first-is b s o cs q = λ i. record { len = left i; cells = (q ∙ moved)
     len : b.len ≤ 32
     len = leb-true b.len 32 (both-0 _ _ (both-1 _ _ s))
 
-    long : length (tail-of b) ≡ b.len
+    long : length (tail_of b) ≡ b.len
     long = length-take-le b.len b.cells (omega (arith, cells, len))
 
-    left : b.len - 1 ≡ length (drop 1 (tail-of b))
+    left : b.len - 1 ≡ length (drop 1 (tail_of b))
     left = simp (length-drop, long)
 
     unused : drop b.len b.cells ≡ replicate (32 - b.len) 0
@@ -92,19 +92,19 @@ without-first-is b s o cs q = λ i. record { len = left i; cells = (q ∙ moved)
     drop-front [] zs h = absurd (not-suc-le-zero h)
     drop-front (x ∷ t) zs h = refl
 
-    one_more : 32 - b.len + 1 ≡ 32 - length (drop 1 (tail-of b))
+    one_more : 32 - b.len + 1 ≡ 32 - length (drop 1 (tail_of b))
     one_more = omega (arith, left, len, o)
 
-    moved : drop 1 b.cells ++ 0 ∷ [] ≡ drop 1 (tail-of b) ++ replicate (32 - length (drop 1 (tail-of b))) 0
+    moved : drop 1 b.cells ++ 0 ∷ [] ≡ drop 1 (tail_of b) ++ replicate (32 - length (drop 1 (tail_of b))) 0
     moved =
-        ap (λ (l : List ℕ). l ++ 0 ∷ []) (ap (drop 1) (sym (take-append-drop b.len b.cells) ∙ ap (λ (l : List ℕ). tail-of b ++ l) unused)
-        ∙ drop-front (tail-of b) (replicate (32 - b.len) 0) (omega (arith, long, o))) ∙
-        append_assoc (drop 1 (tail-of b)) (replicate (32 - b.len) 0) (0 ∷ []) ∙
-        ap (λ (l : List ℕ). drop 1 (tail-of b) ++ l) (replicate-append-replicate (32 - b.len) 1 0 ∙ ap (λ (k : ℕ). replicate k 0) one_more)
+        ap (λ (l : List ℕ). l ++ 0 ∷ []) (ap (drop 1) (sym (take-append-drop b.len b.cells) ∙ ap (λ (l : List ℕ). tail_of b ++ l) unused)
+        ∙ drop-front (tail_of b) (replicate (32 - b.len) 0) (omega (arith, long, o))) ∙
+        append_assoc (drop 1 (tail_of b)) (replicate (32 - b.len) 0) (0 ∷ []) ∙
+        ap (λ (l : List ℕ). drop 1 (tail_of b) ++ l) (replicate-append-replicate (32 - b.len) 1 0 ∙ ap (λ (k : ℕ). replicate k 0) one_more)
 
 -- ── what is left of a ballot when e is settled ──
 module _ (e : ℕ) (b : Ballot) (h : 0 < b.len) (l : 0 < length b.cells) where
-  pub lost-for : cast b ≡ e → drop 1 (tail-of b) ≡ lose e (tail-of b)
+  pub lost-for : cast b ≡ e → drop 1 (tail_of b) ≡ lose e (tail_of b)
   lost-for = go b.len b.cells h l
     where
       go : (k : ℕ) (xs : List ℕ) → 0 < k → 0 < length xs → vote_word (first (take k xs)) ≡ e → drop 1 (take k xs) ≡ lose e (take k xs)
@@ -112,7 +112,7 @@ module _ (e : ℕ) (b : Ballot) (h : 0 < b.len) (l : 0 < length b.cells) where
       go (suc k) [] h l q = absurd (not-suc-le-zero l)
       go (suc k) (x ∷ xs) h l q = rw (eq-eqb x e q)
 
-  pub lost-other : (cast b ≡ e → ⊥) → [] ≡ lose e (tail-of b)
+  pub lost-other : (cast b ≡ e → ⊥) → [] ≡ lose e (tail_of b)
   lost-other = go b.len b.cells h l
     where
       go : (k : ℕ) (xs : List ℕ) → 0 < k → 0 < length xs → (vote_word (first (take k xs)) ≡ e → ⊥) → [] ≡ lose e (take k xs)
@@ -120,5 +120,5 @@ module _ (e : ℕ) (b : Ballot) (h : 0 < b.len) (l : 0 < length b.cells) where
       go (suc k) [] h l q = absurd (not-suc-le-zero l)
       go (suc k) (x ∷ xs) h l q = rw (ne_eqb x e q)
 
-pub lost-none : (e : ℕ) (b : Ballot) → b.len ≡ 0 → tail-of b ≡ lose e (tail-of b)
+pub lost-none : (e : ℕ) (b : Ballot) → b.len ≡ 0 → tail_of b ≡ lose e (tail_of b)
 lost-none e b q = rw q

@@ -35,7 +35,7 @@ use Rattle.frame.specs.Founding.{found_of}
 use Rattle.issuing.specs.Issuing.{issue_number, issue_of}
 use Rattle.sending.specs.Sending.{send_bytes, send_number, send_of}
 use Rattle.frame.specs.Soundness.{sound_b}
-use Rattle.frame.specs.State.{held-by}
+use Rattle.frame.specs.State.{held_by}
 use Rattle.taking.specs.Taking.{same_offices, take_number, take_of, take_words, taken_office}
 use Rattle.agreement.specs.World.{Replica, Call, issue, send, take, elect, fold, number, step, after}
 use Rattle.agreement.specs.Demand.{order}
@@ -66,7 +66,7 @@ pub record Computed : Type 0 where
   -- offices 0 and 1 have dropped a, office 1 with the message, and the order has it still
   pub folding-order : order three_offices folding ≡ a ∷ d ∷ []
   pub dropped : map (λ (r : Replica). r.former) (after three_offices folding).replicas ≡ (a ∷ []) ∷ (a ∷ []) ∷ [] ∷ []
-  pub undropped : map (λ (r : Replica). (held-by r.held r.words).log) (after three_offices folding).replicas ≡ [] ∷ (d ∷ []) ∷ (a ∷ []) ∷ []
+  pub undropped : map (λ (r : Replica). (held_by r.held r.words).log) (after three_offices folding).replicas ≡ [] ∷ (d ∷ []) ∷ (a ∷ []) ∷ []
   -- the first message ends inside that
   pub late : number (after three_offices folding) (take 1 3) ≡ 17
 

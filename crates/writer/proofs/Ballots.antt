@@ -9,7 +9,7 @@ use lib.Dec.{eqb}
 use lib.ListN.{length, get_or, take, drop, set, length-append, length-take, drop_of_length-le}
 use lib.Seq.{sets, length-take-le, drop-cons, get_or-take}
 use borrow.Author.Tests.{leb-true}
-use Rattle.ballots.specs.Ballots.{ballot_shape, tail-of}
+use Rattle.ballots.specs.Ballots.{ballot_shape, tail_of}
 use Rattle.ballots.specs.declared.Ballot.{Ballot}
 use Rattle.lists.specs.Tests.{all_b}
 use Rattle.numbers.specs.Numbers.{be32, bytes32, run}
@@ -22,30 +22,30 @@ use Rattle.numbers.proofs.Runs.{run_length}
 use Rattle.writer.specs.Written.{tails_of}
 
 module _ (o : ℕ) (b : Ballot) where
-  pub bytes-none : b.len ≡ 0 → ballot_bytes o (tail-of b) ≡ []
+  pub bytes-none : b.len ≡ 0 → ballot_bytes o (tail_of b) ≡ []
   unfolding ballot_bytes
   bytes-none e = rw e
 
   module _ (full : length b.cells ≡ 32) (fits : b.len ≤ 32) where
-    pub tail-length : length (tail-of b) ≡ b.len
+    pub tail-length : length (tail_of b) ≡ b.len
     tail-length = length-take-le b.len b.cells (omega arith)
 
     module _ (some : b.len ≡ 0 → ⊥) where
-      pub bytes-some : ballot_bytes o (tail-of b) ≡ 0x42 ∷ 0x41 ∷ o ∷ b.len ∷ run bytes32 (take b.len b.cells)
-      bytes-some = ballot-cons o (tail-of b) (omega (arith, tail-length)) ∙ rw tail-length
+      pub bytes-some : ballot_bytes o (tail_of b) ≡ 0x42 ∷ 0x41 ∷ o ∷ b.len ∷ run bytes32 (take b.len b.cells)
+      bytes-some = ballot-cons o (tail_of b) (omega (arith, tail-length)) ∙ rw tail-length
 
-      pub size-some : length (ballot_bytes o (tail-of b)) ≡ 4 + 4 * b.len
+      pub size-some : length (ballot_bytes o (tail_of b)) ≡ 4 + 4 * b.len
       size-some = rw bytes-some (omega (arith, run_length 4 bytes32 be32 (room_for 4) is_word value_item (take b.len b.cells), tail-length))
 
       pub stores_some : (l : List ℕ) (at : ℕ)
-          → sets (set (set (set (set l at 0x42) (at + 1) 0x41) (at + 2) o) (at + 3) b.len) (at + 4) (run bytes32 (take b.len b.cells)) ≡ sets l at (ballot_bytes o (tail-of b))
+          → sets (set (set (set (set l at 0x42) (at + 1) 0x41) (at + 2) o) (at + 3) b.len) (at + 4) (run bytes32 (take b.len b.cells)) ≡ sets l at (ballot_bytes o (tail_of b))
       stores_some l at = rw bytes-some (simp (add-one, add-two, add-three, add-four))
 
 -- ---- the ballots
 
 -- what is left to write from office o on
 unfoldable pub rest_bytes : ℕ → List Ballot → ℕ → List ℕ
-rest_bytes n bs o = ballots_bytes o (map tail-of (drop o (take n bs)))
+rest_bytes n bs o = ballots_bytes o (map tail_of (drop o (take n bs)))
 
 rest_all : (n : ℕ) (bs : List Ballot) → rest_bytes n bs 0 ≡ ballots_bytes 0 (tails_of n bs)
 unfolding rest_bytes tails_of
@@ -57,7 +57,7 @@ rest-none n bs o h =
     let t : length (take n bs) ≤ o = rw length-take (omega arith) in
     rw (drop_of_length-le (take n bs) t)
 
-pub rest-step : (n : ℕ) (bs : List Ballot) (o : ℕ) (d : Ballot) → o < n → n ≤ length bs → rest_bytes n bs o ≡ ballot_bytes o (tail-of (get_or bs o d)) ++ rest_bytes n bs (o + 1)
+pub rest-step : (n : ℕ) (bs : List Ballot) (o : ℕ) (d : Ballot) → o < n → n ≤ length bs → rest_bytes n bs o ≡ ballot_bytes o (tail_of (get_or bs o d)) ++ rest_bytes n bs (o + 1)
 unfolding rest_bytes ballots_bytes
 rest-step n bs o d h j =
     let t : length (take n bs) ≡ n = length-take-le n bs j in
@@ -74,12 +74,12 @@ pub record ToPut (l₀ : List ℕ) (at n : ℕ) (bs : List Ballot) (l : List ℕ
 
 module _ {l₀ : List ℕ} {at n : ℕ} {bs : List Ballot} {l : List ℕ} {p o : ℕ} (inv : ToPut l₀ at n bs l p o) where
   -- there is room for the next ballot
-  pub put-room : (d : Ballot) → o < n → n ≤ length bs → at + length (ballots_bytes 0 (tails_of n bs)) ≤ length l₀ → p + length (ballot_bytes o (tail-of (get_or bs o d))) ≤ length l
+  pub put-room : (d : Ballot) → o < n → n ≤ length bs → at + length (ballots_bytes 0 (tails_of n bs)) ≤ length l₀ → p + length (ballot_bytes o (tail_of (get_or bs o d))) ≤ length l
   put-room d h j room = omega (arith, inv.left.place, inv.left.long, simp length-append at (ap length (rest-step n bs o d h j)))
 
-  pub put-again : (d : Ballot) {l' : List ℕ} {p' : ℕ} → o < n → n ≤ length bs → p' ≡ p + length (ballot_bytes o (tail-of (get_or bs o d)))
-      → l' ≡ sets l p (ballot_bytes o (tail-of (get_or bs o d))) → ToPut l₀ at n bs l' p' (o + 1)
-  put-again d h j e q = record { within = omega arith; left = left-next inv.left (ballot_bytes o (tail-of (get_or bs o d))) (rest-step n bs o d h j) e q }
+  pub put-again : (d : Ballot) {l' : List ℕ} {p' : ℕ} → o < n → n ≤ length bs → p' ≡ p + length (ballot_bytes o (tail_of (get_or bs o d)))
+      → l' ≡ sets l p (ballot_bytes o (tail_of (get_or bs o d))) → ToPut l₀ at n bs l' p' (o + 1)
+  put-again d h j e q = record { within = omega arith; left = left-next inv.left (ballot_bytes o (tail_of (get_or bs o d))) (rest-step n bs o d h j) e q }
 
   pub put-ends : n ≤ o → (p ≡ at + length (ballots_bytes 0 (tails_of n bs))) × (l ≡ sets l₀ at (ballots_bytes 0 (tails_of n bs)))
   put-ends h = left-none inv.left (rest-none n bs o h)
@@ -96,5 +96,5 @@ pub count-begins : (base n : ℕ) (bs : List Ballot) → ToCount base n bs base 
 count-begins base n bs = (omega arith, (rw rest_all (omega arith), omega arith))
 
 pub count-again : (base n : ℕ) (bs : List Ballot) (size o : ℕ) (d : Ballot) (r : ℕ) → ToCount base n bs size o → o < n → n ≤ length bs
-    → r ≡ length (ballot_bytes o (tail-of (get_or bs o d))) → r ≤ 132 → ToCount base n bs (size + r) (o + 1)
+    → r ≡ length (ballot_bytes o (tail_of (get_or bs o d))) → r ≤ 132 → ToCount base n bs (size + r) (o + 1)
 count-again base n bs size o d r inv h j e k = omega (arith, simp length-append at (ap length (rest-step n bs o d h j)))

@@ -7,7 +7,7 @@ use mathlib.Core.Path.{◌≡◌, refl, subst, sym, ap}
 use native.Mathlib.Omega.{arith}
 use lib.ListN.{drop, length, length-drop, replicate, take-append-drop, take}
 use lib.Seq.{length-take-le}
-use Rattle.ballots.specs.Ballots.{office_in, tail-of}
+use Rattle.ballots.specs.Ballots.{office_in, tail_of}
 use Rattle.ballots.specs.declared.Ballot.{Ballot}
 use Rattle.protocol.specs.Limits.{is_empty, is_weight, office_fine, lengths_fine, folded_fine}
 use Rattle.protocol.specs.Folding.{Packet}
@@ -39,7 +39,7 @@ module _
     unfolding folded_fine
     facts = fine n (office_in log held bs) (both-0 _ _ within)
 
-    lengths : lengths_fine (dropped + length (take held log)) (map tail-of bs) ≡ true
+    lengths : lengths_fine (dropped + length (take held log)) (map tail_of bs) ≡ true
     unfolding folded_fine
     lengths = both-1 (office_fine n (office_in log held bs)) _ within
 
@@ -47,14 +47,14 @@ module _
     pub content-packet : as_packet (content_of sender n ws dropped log held bs) ≡ record { sender = sender; dropped = dropped; state = office_in log held bs }
     unfolding as_packet eight_tails content_of tails_of
     content-packet =
-        let l : length (drop n (map tail-of bs)) ≡ 8 - n = rw length-drop (omega (arith, facts.eight)) in
-        let q : map tail-of (take n bs) ++ replicate (8 - n) [] ≡ map tail-of bs =
-        rw (← l, ← empties (drop n (map tail-of bs)) facts.rest, ← take-map tail-of n bs) (take-append-drop n (map tail-of bs)) in
+        let l : length (drop n (map tail_of bs)) ≡ 8 - n = rw length-drop (omega (arith, facts.eight)) in
+        let q : map tail_of (take n bs) ++ replicate (8 - n) [] ≡ map tail_of bs =
+        rw (← l, ← empties (drop n (map tail_of bs)) facts.rest, ← take-map tail_of n bs) (take-append-drop n (map tail_of bs)) in
         ap (λ (ts : List (List ℕ)). record { sender = sender; dropped = dropped; state = record { log = take held log; tails = ts } }) q
 
     tails-length : length (tails_of n bs) ≡ n
     unfolding tails_of
-    tails-length = rw (← take-map tail-of n bs) (length-take-le n (map tail-of bs) (omega (arith, facts.eight)))
+    tails-length = rw (← take-map tail_of n bs) (length-take-le n (map tail_of bs) (omega (arith, facts.eight)))
 
     -- and its content is valid
     pub content-valid : sender < n → length ws ≡ 8 → all_b is_weight ws ≡ true → valid_content (content_of sender n ws dropped log held bs) ≡ true

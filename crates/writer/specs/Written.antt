@@ -1,6 +1,6 @@
 -- A record's fields as the content of its message, what writing it answers and leaves, and what the writer requires. Assumes nothing.
 use Rattle.std.specs.Prelude.{ℕ, ◌+◌, ◌<◌, ◌≤◌, true, List, ◌++◌, map, ◌≡◌, ltb, length, take}
-use Rattle.ballots.specs.Ballots.{tail-of, ballot_shape}
+use Rattle.ballots.specs.Ballots.{tail_of, ballot_shape}
 use Rattle.ballots.specs.declared.Ballot.{Ballot}
 use Rattle.lists.specs.Tests.{all_b, pick}
 use Rattle.lists.specs.Padded.{in_front}
@@ -11,7 +11,7 @@ use Rattle.spelling.specs.Spelling.{head_bytes, log_record, spelling}
 
 -- the tails of the first n offices
 unfoldable pub tails_of : ℕ → List Ballot → List (List ℕ)
-tails_of n ballots = map tail-of (take n ballots)
+tails_of n ballots = map tail_of (take n ballots)
 
 -- what the message of a record says: the sender, n, its n weights, its dropped count, the entries that it holds, the n offices' tails
 unfoldable pub content_of : ℕ → ℕ → List ℕ → ℕ → List ℕ → ℕ → List Ballot → Content

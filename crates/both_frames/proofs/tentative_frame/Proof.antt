@@ -10,11 +10,11 @@ use borrow.Author.Tests.{not-true, not-false}
 use borrow.Author.Rules.{rules}
 use Rattle.protocol.specs.Codes.{cell, of_cell}
 use Rattle.protocol.specs.Frames.{edit_after}
-use Rattle.ballots.specs.Ballots.{tail-of}
+use Rattle.ballots.specs.Ballots.{tail_of}
 use Rattle.ballots.specs.declared.Ballot.{Ballot}
 use Rattle.ballots.proofs.Laws.{Fine}
 use Rattle.frame.specs.Soundness.{Sound, sound_b}
-use Rattle.frame.specs.State.{held_length, held-by, own_ballot}
+use Rattle.frame.specs.State.{held_length, held_by, own_ballot}
 use Rattle.shown_edits.specs.Shown.{edit_is}
 use Rattle.both_frames.specs.Frames.{kept_edit}
 use Rattle.frame.proofs.Sound.{sound}
@@ -54,12 +54,12 @@ returns-3 c =
     let e = tested o in
     let a = (start e).args in
     let r = a.office in
-    let x = (held-by r a.log.now).log in
+    let x = (held_by r a.log.now).log in
     let before = kept_edit r a.line in
-    let tail = tail-of (own_ballot r) in
+    let tail = tail_of (own_ballot r) in
     shown-done a.line before _ (omega arith) _
     (c.stored-edit.ensures ∙ behind-shown a.line before _ _ x tail (stored-code r a.log.now (sounds e) a.line (omega arith))
-    (c.before.last-edit.ensures ∙ ap (λ (b : Ballot). cell (edit_after a.line (of_cell (get_or r.summary.codes a.line 0)) (tail-of b))) o.own-ballot.ensures) ∙
+    (c.before.last-edit.ensures ∙ ap (λ (b : Ballot). cell (edit_after a.line (of_cell (get_or r.summary.codes a.line 0)) (tail_of b))) o.own-ballot.ensures) ∙
     ap (λ (t : List ℕ). edit_is (edit_after a.line before (x ++ t))) (sym (tail_at r a.log.now r.own)))
     ∙ frame-shown _ _ a.line _ (passed e)
 

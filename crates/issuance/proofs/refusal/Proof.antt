@@ -16,14 +16,14 @@ use Rattle.protocol.specs.Fair.{part}
 use Rattle.protocol.specs.Issue.{refusal_at}
 use Rattle.protocol.specs.Limits.{length_limit}
 use Rattle.protocol_laws.proofs.Counts.{count-of}
-use Rattle.ballots.specs.Ballots.{tail-of}
+use Rattle.ballots.specs.Ballots.{tail_of}
 use Rattle.issuance.proofs.refusal.Statement.{statement}
 use Rattle.issuance.proofs.refusal.Tie as tie
 
 full : (s : tie.Start) → length s.args.b.cells ≡ 32
 full s = search rules
 
-taken : (s : tie.Start) → length (tail-of s.args.b) ≡ s.args.b.len
+taken : (s : tie.Start) → length (tail_of s.args.b) ≡ s.args.b.len
 taken s = length-take-le s.args.b.len s.args.b.cells (omega (arith, full s, s.requires.1.1.1.1.1))
 
 returns : tie.Need-returns
@@ -73,22 +73,22 @@ passed c k =
     simp (limits e.before.before, room e.before, ne_eqb (a.settled + a.b.len) 9223372036854775808 e.if3.left)
 
 -- the own office's count
-own-count : (c : tie.After-in-words) → let a = (start c).args in get_or c.in_words_lem.result a.own 0 ≡ count_in a.own (tail-of a.b)
-own-count c = let a = (start c).args in ap (λ (l : List ℕ). get_or l a.own 0) c.in_words_lem.ensures ∙ count-of 8 (tail-of a.b) a.own (start c).requires.1.1.0
+own-count : (c : tie.After-in-words) → let a = (start c).args in get_or c.in_words_lem.result a.own 0 ≡ count_in a.own (tail_of a.b)
+own-count c = let a = (start c).args in ap (λ (l : List ℕ). get_or l a.own 0) c.in_words_lem.ensures ∙ count-of 8 (tail_of a.b) a.own (start c).requires.1.1.0
 
 returns-4 : tie.Need-returns-4
 unfolding pick
 returns-4 c =
     let t = c.before in
     let a = (start t).args in
-    sym (passed t _ ∙ rw (le-leb (32 / a.n) (count_in a.own (tail-of a.b)) (omega (arith, own-count t, c.if4.true))))
+    sym (passed t _ ∙ rw (le-leb (32 / a.n) (count_in a.own (tail_of a.b)) (omega (arith, own-count t, c.if4.true))))
 
 returns-5 : tie.Need-returns-5
 unfolding pick
 returns-5 c =
     let t = c.before in
     let a = (start t).args in
-    sym (passed t _ ∙ rw (lt-leb (32 / a.n) (count_in a.own (tail-of a.b)) (omega (arith, own-count t, c.if4.false))))
+    sym (passed t _ ∙ rw (lt-leb (32 / a.n) (count_in a.own (tail_of a.b)) (omega (arith, own-count t, c.if4.false))))
 
 pub refusal-spec : {M : Type 1} → statement M
 refusal-spec =

@@ -5,7 +5,7 @@ use mathlib.Core.Path.{◌≡◌, sym, refl}
 use Prim.Native.Nat.{◌+◌, ◌-◌}
 use lib.ListN.{length}
 use lib.Seq.{length-take-le}
-use Rattle.ballots.specs.Ballots.{tail-of}
+use Rattle.ballots.specs.Ballots.{tail_of}
 use Rattle.vectors.specs.Vectors.{kept_count_limit}
 use Rattle.vectors.proofs.Paths.{Walked, path-next, path-done, path_room}
 use Rattle.vectors.proofs.path_counts.Statement.{statement}
@@ -27,14 +27,14 @@ full s = search rules
 eight : (s : tie.Start invariant-loop decreases-loop) → length s.args.t1 ≡ 8
 eight s = search rules
 
-taken : (s : tie.Start invariant-loop decreases-loop) → length (tail-of s.args.b) ≡ s.args.b.len
+taken : (s : tie.Start invariant-loop decreases-loop) → length (tail_of s.args.b) ≡ s.args.b.len
 taken s = length-take-le s.args.b.len s.args.b.cells (omega (arith, full s, s.requires.0))
 
 add-counts : tie.Need-overflow-add-counts invariant-loop decreases-loop
 add-counts c =
     let t = c.before.before in
     let s = start t in
-    omega (arith, path_room s.args.t1 (tail-of s.args.b) (kept_count_limit + 1024) s.pre.1 t.in_words_lem.result t.in_words_lem.ensures c.before.loop.k, taken s, s.pre.0)
+    omega (arith, path_room s.args.t1 (tail_of s.args.b) (kept_count_limit + 1024) s.pre.1 t.in_words_lem.result t.in_words_lem.ensures c.before.loop.k, taken s, s.pre.0)
 
 loop-again : tie.Need-loop-preserved invariant-loop decreases-loop
 loop-again c =
@@ -46,7 +46,7 @@ returns : tie.Need-returns invariant-loop decreases-loop
 returns c =
     let t = c.before.before in
     let l = c.before.loop in
-    path-done (start t).args.t1 t.in_words_lem.result (eight (start t)) l.counts l.k l.invariant (tail-of (start t).args.b) t.in_words_lem.ensures c.loop-test.false
+    path-done (start t).args.t1 t.in_words_lem.result (eight (start t)) l.counts l.k l.invariant (tail_of (start t).args.b) t.in_words_lem.ensures c.loop-test.false
 
 pub path-counts-spec : {M : Type 1} → statement M
 path-counts-spec =

@@ -6,7 +6,7 @@ use native.Mathlib.Omega.{arith}
 use lib.ListN.{length, get_or, take}
 use lib.Seq.{length-take-le}
 use borrow.Author.Rules.{rules}
-use Rattle.ballots.specs.Ballots.{off_end, tail-of}
+use Rattle.ballots.specs.Ballots.{off_end, tail_of}
 use Rattle.writer.proofs.Ballots.{len-at}
 use Rattle.writer.proofs.Whole.{refused, written}
 use Rattle.vectors.specs.Vectors.{EachAtMost, kept_count_limit, vector_of, versions_bytes, versions_in}
@@ -114,7 +114,7 @@ loop-again c =
     let s = begun l in
     let b = get_or s.args.t4 l.loop.o off_end in
     write_again l.loop.invariant (base-long (counted l)) (ballots-long s) turn.loop-test.true (take s.args.n made.path-counts.result)
-    (log-vector s.args.n (counted l).counts-after.result (all-long (counted l)) (tail-of b) made.path-counts.result made.path-counts.ensures)
+    (log-vector s.args.n (counted l).counts-after.result (all-long (counted l)) (tail_of b) made.path-counts.result made.path-counts.ensures)
     put.ensures.0 put.ensures.1
 
 same_length : tie.Need-same-length invariant-loop decreases-loop

@@ -8,7 +8,7 @@ use lib.ListN.{length, get_or, take}
 use lib.Seq.{take_at}
 use Rattle.numbers.specs.Numbers.{be64}
 use Rattle.numbers.proofs.Runs.{run_at-length}
-use Rattle.ballots.specs.Ballots.{off_end, tail-of}
+use Rattle.ballots.specs.Ballots.{off_end, tail_of}
 use Rattle.writer.proofs.Ballots.{len-at}
 use Rattle.vectors.specs.Vectors.{EachAtMost, kept_count_limit, versions_in}
 use Rattle.vectors.proofs.Vectors.{log-most, log-vector}
@@ -68,7 +68,7 @@ loop-again c =
     let counts = c.before.path-counts in
     answer-again l.loop.invariant (ballots-long s) turn.loop-test.true c.compared2.result
     (c.compared2.ensures ∙ ap (λ (v : List ℕ). compared_to v (take a.n (read l).counts-in.result))
-    (log-vector a.n (counted l).counts-after.result (base-long l) (tail-of (get_or a.t4 l.loop.o off_end)) counts.result counts.ensures))
+    (log-vector a.n (counted l).counts-after.result (base-long l) (tail_of (get_or a.t4 l.loop.o off_end)) counts.result counts.ensures))
 
 returns : tie.Need-returns invariant-loop decreases-loop
 returns c =

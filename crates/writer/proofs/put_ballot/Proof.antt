@@ -4,7 +4,7 @@ use mathlib.Core.Path.{refl, ◌∙◌, ◌≡◌}
 use native.Mathlib.Omega.{arith}
 use lib.ListN.{length-set, length}
 use borrow.Author.Rules.{rules}
-use Rattle.ballots.specs.Ballots.{tail-of}
+use Rattle.ballots.specs.Ballots.{tail_of}
 use Rattle.spelling.specs.Spelling.{ballot_bytes}
 use Rattle.writer.proofs.Ballots.{bytes-none, size-some, stores_some}
 use Rattle.writer.proofs.put_ballot.Statement.{statement}
@@ -21,7 +21,7 @@ full : (s : tie.Start) → length s.args.b.cells ≡ 32
 full s = search rules
 
 -- of a ballot that is not empty
-size : (c : tie.After-cells) → length (ballot_bytes (start c).args.o (tail-of (start c).args.b)) ≡ 4 + 4 * (start c).args.b.len
+size : (c : tie.After-cells) → length (ballot_bytes (start c).args.o (tail_of (start c).args.b)) ≡ 4 + 4 * (start c).args.b.len
 size c = let s = start c in size-some s.args.o s.args.b (full s) s.pre.0 c.before.if1.false
 
 returns-2 : tie.Need-returns-2

@@ -5,7 +5,7 @@ use Prim.Native.Nat.{◌<◌, ◌≤◌}
 use lib.ListN.{length}
 use lib.Seq.{length-take-le}
 use borrow.Author.Rules.{rules}
-use Rattle.ballots.specs.Ballots.{tail-of}
+use Rattle.ballots.specs.Ballots.{tail_of}
 use Rattle.table_lines.specs.Lines.{shown}
 use Rattle.table_lines.proofs.Shown.{shown-short, put_last}
 use Rattle.table_lines.proofs.lines.put_ballot.Statement.{statement}
@@ -23,7 +23,7 @@ room : (c : tie.After-slice-known2) → c.before.before.put_entries.result < len
 room c =
     let put = c.before.before.put_entries in
     let s = start c in
-    omega (arith, put.ensures.0, put.auto.0, shown-short (tail-of s.args.ballot) s.pre.0, s.pre.1.1)
+    omega (arith, put.ensures.0, put.auto.0, shown-short (tail_of s.args.ballot) s.pre.0, s.pre.1.1)
 
 add-result : tie.Need-overflow-add-result
 add-result c = let s = start c in omega (arith, room c, c.before.before.put_entries.auto.0, s.good.0.0)
@@ -32,7 +32,7 @@ returns : tie.Need-returns
 returns c =
     let put = c.before.before.put_entries in
     let a = (start c).args in
-    put_last a.out.now put.new.0 (shown (tail-of a.ballot)) a.at put.result 32 put.ensures.0 put.ensures.1
+    put_last a.out.now put.new.0 (shown (tail_of a.ballot)) a.at put.result 32 put.ensures.0 put.ensures.1
 
 pub put-ballot-spec : {M : Type 1} → statement M
 put-ballot-spec =

@@ -6,7 +6,7 @@ use Prim.Native.Nat.{ℕ, ◌+◌, ◌≤◌}
 use lib.ListN.{length, get_or}
 use lib.Seq.{sets}
 use borrow.Author.Rules.{rules}
-use Rattle.ballots.specs.Ballots.{tail-of, off_end}
+use Rattle.ballots.specs.Ballots.{tail_of, off_end}
 use Rattle.ballots.specs.declared.Ballot.{Ballot}
 use Rattle.frame.specs.Electing.{elect_of}
 use Rattle.frame.specs.declared.Record.{Record}
@@ -48,17 +48,17 @@ second c = c.before.before.before.before
 one : (c : tie.After-put-ballot) → let s = start (table (with c)) in (c.put-ballot.result ≤ s.args.at + 7) × (length c.put-ballot.new.0 ≡ length s.args.out.now)
 one c =
     let t = table (with c) in
-    (omega (arith, c.put-ballot.ensures.0, spaced-short (tail-of (ballot t 0)) 32 (seats t).0.few-entries), c.put-ballot.auto.0)
+    (omega (arith, c.put-ballot.ensures.0, spaced-short (tail_of (ballot t 0)) 32 (seats t).0.few-entries), c.put-ballot.auto.0)
 
 two : (c : tie.After-put-ballot2) → let s = start (table (with (first c))) in (c.put-ballot2.result ≤ s.args.at + 14) × (length c.put-ballot2.new.0 ≡ length s.args.out.now)
 two c =
     let t = table (with (first c)) in
-    (omega (arith, c.put-ballot2.ensures.0, (one (first c)).0, spaced-short (tail-of (ballot t 1)) 32 (seats t).1.0.few-entries), c.put-ballot2.auto.0 ∙ (one (first c)).1)
+    (omega (arith, c.put-ballot2.ensures.0, (one (first c)).0, spaced-short (tail_of (ballot t 1)) 32 (seats t).1.0.few-entries), c.put-ballot2.auto.0 ∙ (one (first c)).1)
 
 last : (c : tie.After-put-ballot3) → let s = start (table (with (first (second c)))) in (c.put-ballot3.result ≤ s.args.at + 21) × (length c.put-ballot3.new.0 ≡ length s.args.out.now)
 last c =
     let t = table (with (first (second c))) in
-    (omega (arith, c.put-ballot3.ensures.0, (two (second c)).0, spaced-short (tail-of (ballot t 2)) 32 (seats t).1.1.few-entries), c.put-ballot3.auto.0 ∙ (two (second c)).1)
+    (omega (arith, c.put-ballot3.ensures.0, (two (second c)).0, spaced-short (tail_of (ballot t 2)) 32 (seats t).1.1.few-entries), c.put-ballot3.auto.0 ∙ (two (second c)).1)
 
 put-ballot-requires : tie.Need-put-ballot-requires
 put-ballot-requires c κs =
