@@ -1,5 +1,6 @@
 // Version vectors for the archive: those of an office's settled log and paths written, and one read and compared with them. A library above
 // `frame`, which uses only what frame's calls promise.
+#![tactic(auto)]
 ghost use Rattle.std.specs.Prelude.{◌≡◌};
 ghost use Rattle.archive.specs.Comparison.{compare_of};
 ghost use Rattle.archive.specs.Writing.{write_of, write_bytes};
@@ -8,7 +9,7 @@ use frame::Record;
 
 // `number` is the paper's, 0 when it is done; `length` is 0 where it is refused.
 #[repr(C)]
-#[derive(Drop)]
+#[derive(Clone, Copy)]
 pub struct Written {
     pub number: u32,
     pub length: usize,
@@ -16,7 +17,7 @@ pub struct Written {
 
 // Nine answers: for the settled log, for the path of each office, and beside past the last. They are the numbers of `versions`.
 #[repr(C)]
-#[derive(Drop)]
+#[derive(Clone, Copy)]
 pub struct Compared {
     pub number: u32,
     pub answers: [u32; 9],

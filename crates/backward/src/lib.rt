@@ -1,18 +1,19 @@
 // A walk over words from their end, for up to 64 lines of the frame together, that stops when each line has its edit. Where the words have none for a
 // line, it is the one that is kept of what was before them.
+#![tactic(auto)]
 ghost use Rattle.std.specs.Prelude.{◌≡◌, length};
 ghost use Rattle.runs.specs.Runs.{Named};
 ghost use Rattle.backward.specs.Cells.{asked_of, edit_added, new_edits, or_kept, placed, cells_at, walked_of};
 
 // A cell for each number that a word's line can be: 0 if the line is named and has no edit yet, else not 0. `left` of them are 0.
-#[derive(Drop)]
+#[derive(Clone, Copy)]
 pub struct Asked {
     pub left: u32,
     pub cells: [u32; 256],
 }
 
 // The edits of the lines named, in their order, as they are stored (0 for no edit yet, else the code + 1); and how many words were read.
-#[derive(Drop)]
+#[derive(Clone, Copy)]
 pub struct Walked {
     pub words: usize,
     pub edits: [u32; 64],

@@ -1,4 +1,5 @@
 // An office's ballot in a message, read at a position by its layout alone.
+#![tactic(auto)]
 ghost use Rattle.std.specs.Prelude.{◌≡◌, ◌+◌, ◌*◌, ◌≤◌, length, drop};
 ghost use Rattle.ballots.specs.Ballots.{ballot_of};
 ghost use Rattle.numbers.specs.Numbers.{be32, run_at};
@@ -9,7 +10,7 @@ use ballots::Ballot;
 use numbers::{be32_at, wide};
 
 // An office's ballot, and the position after it.
-#[derive(Drop)]
+#[derive(Clone, Copy)]
 pub struct BallotStep {
     pub next: usize,
     pub ballot: Ballot,

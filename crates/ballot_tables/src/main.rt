@@ -1,5 +1,6 @@
 // `ballot_tables` reads three weights from standard input and prints every small ballot table of three offices, one to a line, with the entries
 // that elect settles.
+#![tactic(auto)]
 use libc::{STDIN_FILENO, STDOUT_FILENO};
 use lists::within;
 use table_lines::OUTPUT;

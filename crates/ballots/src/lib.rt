@@ -1,10 +1,11 @@
 // A ballot by value: none, and one entry more. The test of eight is in `eight_ballots`.
+#![tactic(auto)]
 ghost use Rattle.std.specs.Prelude.{◌≡◌};
 ghost use Rattle.ballots.specs.Ballots.{no_ballot, pushed};
 
 // A tail of 0 to 32 entries in the first cells. Unused cells are zero; length 0 means none.
 #[repr(C)]
-#[derive(Drop)]
+#[derive(Clone, Copy)]
 pub struct Ballot {
     pub len: usize,
     pub cells: [u32; 32],

@@ -1,4 +1,5 @@
 // Both frames: the settled and the tentative one of a line, and the settled one of all lines. Calls above `frame`, which use only what it promises.
+#![tactic(auto)]
 ghost use Rattle.std.specs.Prelude.{◌≡◌, ◌<◌};
 ghost use Rattle.frame.specs.State.{own_ballot};
 ghost use Rattle.both_frames.specs.Frames.{refused_frame, settled_frame_of, tentative_frame_of, all_lines_of};
@@ -7,7 +8,7 @@ use ballots::Ballot;
 use frame::Record;
 use shown_edits::{Edit, stored_edit};
 
-#[derive(Drop)]
+#[derive(Clone, Copy)]
 pub struct Framed {
     pub number: u32,
     pub edit: Edit,
@@ -15,7 +16,7 @@ pub struct Framed {
 
 // The settled codes as they are stored.
 #[repr(C)]
-#[derive(Drop)]
+#[derive(Clone, Copy)]
 pub struct Lines {
     pub number: u32,
     pub codes: [u32; 64],

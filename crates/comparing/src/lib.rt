@@ -1,11 +1,12 @@
 // The number of a take by the two settled logs alone, compared from their ends on the part that both still have.
+#![tactic(auto)]
 ghost use Rattle.std.specs.Prelude.{◌≡◌, ◌-◌, ◌*◌, ◌≤◌, length, take};
 ghost use Rattle.numbers.specs.Numbers.{run_at};
 ghost use Rattle.spelling.specs.Reading.{record_at};
 ghost use Rattle.comparing.specs.Checking.{checked_logs};
 
 // The number of a take, and how many places the comparison of the logs needed.
-#[derive(Drop)]
+#[derive(Clone, Copy)]
 pub struct Checked {
     pub number: u32,
     pub places: usize,

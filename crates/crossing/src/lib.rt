@@ -1,4 +1,5 @@
 // Answers that hold an enum, as they cross to C: a flag beside a number.
+#![tactic(auto)]
 ghost use Rattle.std.specs.Prelude.{◌≡◌};
 ghost use Rattle.crossing.specs.Framed.{across};
 ghost use Rattle.crossing.specs.Foreseen.{foreseen_of};
@@ -9,7 +10,7 @@ use tallies::Winner;
 
 // What a frame answers across C: an enum cannot cross, so a flag does, beside the code, which is 0 where there is no edit yet.
 #[repr(C)]
-#[derive(Drop)]
+#[derive(Clone, Copy)]
 pub struct Framed {
     pub number: u32,
     pub coded: bool,
@@ -38,7 +39,7 @@ pub fn across(framed: both_frames::Framed) -> Framed
 
 // What a forecast answers across C: an enum cannot cross, so whether an entry is named stands before it.
 #[repr(C)]
-#[derive(Drop)]
+#[derive(Clone, Copy)]
 pub struct Foreseen {
     pub number: u32,
     pub named: bool,

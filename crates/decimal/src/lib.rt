@@ -1,4 +1,5 @@
 // Decimal numbers read from a text.
+#![tactic(auto)]
 mod number;
 mod numbers;
 

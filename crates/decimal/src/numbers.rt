@@ -6,7 +6,7 @@ use crate::number::{Number, number_of};
 use text_parts::part_end;
 
 // Up to eight numbers: whether each field was one, how many there are, and their values with zeros behind them.
-#[derive(Drop)]
+#[derive(Clone, Copy)]
 pub struct Numbers {
     pub proper: bool,
     pub count: usize,

@@ -1,4 +1,5 @@
 // The frame as it stood after the first p settled entries, for up to 64 lines together.
+#![tactic(auto)]
 ghost use Rattle.std.specs.Prelude.{◌≡◌};
 ghost use Rattle.runs.specs.Runs.{of_frame};
 ghost use Rattle.earlier.specs.Earlier.{earlier_refused, earlier_of};
@@ -8,7 +9,7 @@ use frame::Record;
 // The edits of the lines named, in their order, as they are stored: 0 for no edit yet, else the code + 1; past the lines 0. `words` of the log were
 // read for them. `number` is the paper's, 0 when it is done.
 #[repr(C)]
-#[derive(Drop)]
+#[derive(Clone, Copy)]
 pub struct Earlier {
     pub number: u32,
     pub words: usize,

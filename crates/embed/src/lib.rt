@@ -1,6 +1,7 @@
 // The engine's calls as C functions, for a service to link: the record by value, log and buffers lent. Each answers what the call that it hands on
 // answers, by that call's equation; settled, the two frames of a line and the forecast cross as `Part`, and as `Framed` and `Foreseen` of `crossing`. include/joukerpan.h
 // declares them for C.
+#![tactic(auto)]
 ghost use Rattle.std.specs.Prelude.{◌≡◌};
 ghost use Rattle.frame.specs.Soundness.{sound_b};
 ghost use Rattle.frame.specs.Founding.{found_of};
@@ -38,14 +39,14 @@ use taking::Taken;
 
 // Eight weights. An array by itself cannot cross to C; a struct that holds one can.
 #[repr(C)]
-#[derive(Drop)]
+#[derive(Clone, Copy)]
 pub struct Weights {
     pub of: [u16; 8],
 }
 
 // What Settled answers across C: a part of the log cannot cross, so its length does. The part is the front of the caller's own log.
 #[repr(C)]
-#[derive(Drop)]
+#[derive(Clone, Copy)]
 pub struct Part {
     pub number: u32,
     pub length: usize,

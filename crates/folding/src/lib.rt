@@ -1,11 +1,12 @@
 // Dropping the first part of the log, which every office is known to have: a call above `frame`.
+#![tactic(auto)]
 ghost use Rattle.std.specs.Prelude.{◌≡◌};
 ghost use Rattle.folding.specs.Folding.{fold_of, fold_words};
 
 use frame::Record;
 
 #[repr(C)]
-#[derive(Drop)]
+#[derive(Clone, Copy)]
 pub struct Folded {
     pub record: Record,
     pub number: u32,

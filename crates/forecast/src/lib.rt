@@ -1,4 +1,5 @@
 // A forecast of the first election step, where next round's weights are known only within bounds.
+#![tactic(auto)]
 ghost use Rattle.std.specs.Prelude.{◌≡◌};
 ghost use Rattle.forecast.specs.Forecast.{forecast_of};
 
@@ -6,7 +7,7 @@ use frame::Record;
 use tallies::Winner;
 
 // The number, and the entry that would win whichever weights within the bounds are chosen, or that none would.
-#[derive(Drop)]
+#[derive(Clone, Copy)]
 pub struct Forecast {
     pub number: u32,
     pub winner: Winner,

@@ -8,7 +8,7 @@ use ballots::Ballot;
 use tallies::Winner;
 
 #[repr(C)]
-#[derive(Drop)]
+#[derive(Clone, Copy)]
 pub struct Elected {
     pub record: Record,
     pub number: u32,

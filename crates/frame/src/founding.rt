@@ -9,7 +9,7 @@ use kept::Kept;
 use summary::Summary;
 
 #[repr(C)]
-#[derive(Drop)]
+#[derive(Clone, Copy)]
 pub struct Founded {
     pub record: Record,
     pub number: u32,

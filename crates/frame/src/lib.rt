@@ -1,6 +1,7 @@
 // An office's record, whether it is sound, and the calls found and elect of the shared coding frame on it; issue, take, fold, send, settled and the
 // frames stand above. A call takes the record by value and its log as a lent slice; its answer has the paper's number, 0 when it is done, behind the
 // next record where there is one.
+#![tactic(auto)]
 ghost use Rattle.std.specs.Prelude.{◌≡◌, ◌≤◌};
 ghost use Rattle.frame.specs.Soundness.{sound_b};
 ghost use Rattle.frame.specs.State.{held_length};
@@ -16,7 +17,7 @@ pub mod founding;
 // each other office, what the settled log has done (the present weights, the settled codes), the settled length, dropped entries included, and each
 // office's ballot. The settled entries that are not dropped are the log's first words.
 #[repr(C)]
-#[derive(Drop)]
+#[derive(Clone, Copy)]
 pub struct Record {
     pub n: usize,
     pub own: usize,

@@ -1,4 +1,5 @@
 // Household records read strictly, and their weights summed by line.
+#![tactic(auto)]
 ghost use Rattle.std.specs.Prelude.{◌≡◌};
 ghost use Rattle.households.specs.Pools.{pools_of, no_pools};
 
@@ -14,7 +15,7 @@ const MOST: usize = 1000000;
 const LINES: usize = 64;
 
 // For each line whether some household has it, and the sum of the weights under it; all zero where the bytes are no household records.
-#[derive(Drop)]
+#[derive(Clone, Copy)]
 pub struct Pools {
     pub ok: bool,
     pub met: [bool; 64],

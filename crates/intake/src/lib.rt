@@ -1,6 +1,7 @@
 // Take's work on what a record holds, from a message that was accepted: what the sender had dropped dropped, the log caught up, the ballots brought
 // past it and offered the message's.
 // Public only for the crate above, which proves what the functions require.
+#![tactic(auto)]
 ghost use Rattle.std.specs.Prelude.{◌≡◌, ◌*◌, ◌≤◌, length};
 ghost use Rattle.numbers.specs.Numbers.{run_at};
 ghost use Rattle.spelling.specs.Reading.{record_at};
@@ -13,7 +14,7 @@ use kept::Kept;
 use readings::Reading;
 
 // What takes change of a record: the state, and what is kept of the dropped entries.
-#[derive(Drop)]
+#[derive(Clone, Copy)]
 pub struct Intaken {
     pub state: State,
     pub kept: Kept,

@@ -1,4 +1,5 @@
 // Issuing an entry: a call above `frame`.
+#![tactic(auto)]
 ghost use Rattle.std.specs.Prelude.{◌≡◌, ◌<◌};
 ghost use Rattle.issuing.specs.Issuing.{with_own, issue_of};
 
@@ -6,7 +7,7 @@ use ballots::Ballot;
 use frame::Record;
 
 #[repr(C)]
-#[derive(Drop)]
+#[derive(Clone, Copy)]
 pub struct Issued {
     pub record: Record,
     pub number: u32,

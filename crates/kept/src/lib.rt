@@ -1,4 +1,5 @@
 // What a record keeps of the entries that were dropped from the front of its log.
+#![tactic(auto)]
 ghost use Rattle.std.specs.Prelude.{◌≡◌, ◌≤◌, length, take, drop};
 ghost use Rattle.ballots.specs.Ballots.{words_with};
 ghost use Rattle.kept.specs.Kept.{Roomy, kept_nothing, kept_after};
@@ -7,7 +8,7 @@ use summary::Summary;
 
 // How many entries were dropped, what they have done, and how many of them each office had.
 #[repr(C)]
-#[derive(Drop)]
+#[derive(Clone, Copy)]
 pub struct Kept {
     pub dropped: u64,
     pub summary: Summary,

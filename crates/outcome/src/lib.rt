@@ -1,5 +1,6 @@
 // What became of an edit: of the own office's entries that were pending before a take, elect or fold, how many settled, which are pending still and
 // which are lost. A call above `frame`, `taking` and `folding`, which uses only what their calls promise.
+#![tactic(auto)]
 ghost use Rattle.std.specs.Prelude.{◌≡◌, ◌≤◌};
 ghost use Rattle.outcome.specs.Outcome.{follows, report_of, report_words};
 
@@ -8,7 +9,7 @@ use frame::Record;
 
 // `number` is 0 when it is done; the counts are 0 where it is refused.
 #[repr(C)]
-#[derive(Drop)]
+#[derive(Clone, Copy)]
 pub struct Outcome {
     pub number: u32,
     pub settled: usize,

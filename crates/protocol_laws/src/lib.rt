@@ -1,1 +1,2 @@
 // The laws of the definitions of `protocol`. No code.
+#![tactic(auto)]

@@ -1,6 +1,7 @@
 // "A reader walks the message record by record": a small struct that holds the message and a position, and thin functions that read the
 // record at it. Callers with a plain slice use the functions `read_..`, which make the reader at a position, read one
 // record through it, and answer that with the position after it.
+#![tactic(auto)]
 ghost use Rattle.std.specs.Prelude.{◌≡◌};
 ghost use Rattle.records.specs.Steps.{log_at, entry_at, end_at};
 ghost use Rattle.ballot_records.specs.BallotSteps.{ballot_at};
@@ -8,7 +9,7 @@ ghost use Rattle.ballot_records.specs.BallotSteps.{ballot_at};
 use ballot_records::{BallotStep, ballot_at};
 use records::{EndStep, LogStep, end_at, entry_at, log_at};
 
-#[derive(Drop)]
+#[derive(Clone, Copy)]
 pub struct Reader<'a> {
     pub src: &'a [u8],
     pub at: usize,

@@ -1,11 +1,12 @@
 // What a message says, as the engine holds it; and the answer for bytes that are no message.
+#![tactic(auto)]
 ghost use Rattle.std.specs.Prelude.{◌≡◌};
 ghost use Rattle.readings.specs.Read.{bad_reading};
 
 use ballots::Ballot;
 
 // What a message says. Its undropped entries, as many as are held, stay in it, six bytes each after the head.
-#[derive(Drop)]
+#[derive(Clone, Copy)]
 pub struct Reading {
     pub sender: usize,
     pub n: usize,

@@ -1,4 +1,5 @@
 // One record of a message, read at a position by its layout alone: a log record, and the end.
+#![tactic(auto)]
 ghost use Rattle.std.specs.Prelude.{◌≡◌, ◌+◌, ◌≤◌, length, drop};
 ghost use Rattle.spelling.specs.Reading.{record_here, record_at, end_ok};
 ghost use Rattle.records.specs.Steps.{bad_log, log_at, entry_at, end_at};
@@ -6,7 +7,7 @@ ghost use Rattle.records.specs.Steps.{bad_log, log_at, entry_at, end_at};
 use numbers::{be16_at, be32_at};
 
 // A log record, and the position after it.
-#[derive(Drop)]
+#[derive(Clone, Copy)]
 pub struct LogStep {
     pub ok: bool,
     pub value: u32,
@@ -14,7 +15,7 @@ pub struct LogStep {
 }
 
 // The end, and the position after it.
-#[derive(Drop)]
+#[derive(Clone, Copy)]
 pub struct EndStep {
     pub ok: bool,
     pub next: usize,

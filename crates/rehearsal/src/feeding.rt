@@ -20,7 +20,7 @@ use rehearsal_turns::{Turn, turn_at};
 use text_parts::part_end;
 
 // The rehearsal after some input, and how many bytes it printed.
-#[derive(Drop)]
+#[derive(Clone, Copy)]
 pub struct Fed {
     pub rehearsal: Rehearsal,
     pub printed: usize,

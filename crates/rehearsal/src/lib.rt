@@ -1,4 +1,5 @@
 // The rehearsal: lines of input in, lines of output out, over up to eight offices and four message slots.
+#![tactic(auto)]
 use rehearsal_answers::Answer;
 use rehearsal_lines::Held;
 use rehearsal_offices::Offices;
@@ -8,7 +9,7 @@ mod feeding;
 pub use feeding::Fed;
 
 // The offices, and the line that is held until its newline comes.
-#[derive(Drop)]
+#[derive(Clone, Copy)]
 pub struct Rehearsal {
     pub offices: Offices,
     pub held: Held,

@@ -1,11 +1,12 @@
 // Whom a line is for: all offices, one that is there, or nobody.
+#![tactic(auto)]
 ghost use Rattle.std.specs.Prelude.{◌≡◌};
 ghost use Rattle.rehearsal_addressees.specs.Addressees.{at_office, command_addressee, addressee_of};
 
 use limits::OFFICES;
 use rehearsal_commands::{Command, Parsed};
 
-#[derive(Drop)]
+#[derive(Clone, Copy)]
 pub enum Addressee {
     // a founding of so many offices
     All(usize),

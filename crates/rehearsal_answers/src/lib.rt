@@ -1,4 +1,5 @@
 // What the rehearsal prints for a line: a letter and up to three items, a number in decimal or a dash.
+#![tactic(auto)]
 ghost use Rattle.std.specs.Prelude.{◌≡◌, ◌+◌, ◌≤◌, length};
 ghost use Rattle.std.proofs.lemmas.List.Edits.{sets};
 ghost use Rattle.rehearsal_answers.specs.Answer.{spaced, dashed, spaced_item, printed_of, printed_in};
@@ -6,7 +7,7 @@ ghost use Rattle.rehearsal_answers.specs.Answer.{spaced, dashed, spaced_item, pr
 use printing::put_number;
 
 // A number, a dash where there is none to print, or no item at all.
-#[derive(Drop)]
+#[derive(Clone, Copy)]
 pub enum Item {
     Number(usize),
     Dash,
@@ -14,7 +15,7 @@ pub enum Item {
 }
 
 // A letter and the items after it.
-#[derive(Drop)]
+#[derive(Clone, Copy)]
 pub struct Answer {
     pub letter: u8,
     pub first: Item,

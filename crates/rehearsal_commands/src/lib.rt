@@ -1,4 +1,5 @@
 // The rehearsal's commands: what one line of input asks for.
+#![tactic(auto)]
 ghost use Rattle.std.specs.Prelude.{◌≡◌, ◌<◌, length, drop};
 ghost use Rattle.rehearsal_commands.specs.Command.{no_line, with_one, with_two, with_three, command_by, with_more, line_from, line_of};
 
@@ -6,7 +7,7 @@ use decimal::{Number, Numbers, number_of, numbers_from};
 use text_parts::part_end;
 
 // A command with its numbers.
-#[derive(Drop)]
+#[derive(Clone, Copy)]
 pub enum Command {
     // n; its weights stand beside it in `Line`
     Found(usize),
@@ -23,14 +24,14 @@ pub enum Command {
 }
 
 // A command, or "a line of any other form".
-#[derive(Drop)]
+#[derive(Clone, Copy)]
 pub enum Parsed {
     Says(Command),
     Other,
 }
 
 // What a line says. The weights are those of a founding, "the rest zero"; an enum cannot hold an array.
-#[derive(Drop)]
+#[derive(Clone, Copy)]
 pub struct Line {
     pub parsed: Parsed,
     pub weights: [u16; 8],

@@ -1,11 +1,12 @@
 // The line that is held until its newline comes.
+#![tactic(auto)]
 ghost use Rattle.std.specs.Prelude.{◌≡◌, ◌++◌, eqb, length};
 ghost use Rattle.rehearsal_lines.specs.Held.{line_held, held_of, nothing};
 
 use lists::within;
 
 // A line as far as it was read, or its first 129 bytes: one of 129 bytes is too long, as any longer one is.
-#[derive(Drop)]
+#[derive(Clone, Copy)]
 pub struct Held {
     pub length: usize,
     pub bytes: [u8; Held::SIZE],

@@ -12,7 +12,7 @@ use rehearsal_replies::says_one;
 pub const ALL_LOGS: usize = Record::OFFICES * Record::LOG;
 
 // The offices after a founding, done or refused, and its answer.
-#[derive(Drop)]
+#[derive(Clone, Copy)]
 pub struct Reply {
     pub offices: Offices,
     pub answer: Answer,

@@ -1,4 +1,5 @@
 // The offices of a rehearsal, and founding them.
+#![tactic(auto)]
 use frame::Record;
 
 mod founding;
@@ -6,7 +7,7 @@ mod founding;
 pub use founding::{ALL_LOGS, Reply, found_offices, no_offices};
 
 // How many offices there are, none before a done `f`; their records; the lengths of the messages in the slots.
-#[derive(Drop)]
+#[derive(Clone, Copy)]
 pub struct Offices {
     pub count: usize,
     pub records: [Record; 8],

@@ -1,4 +1,5 @@
 // One office's turn: its answer to a command, with what that leaves of its record, its log and the message slots.
+#![tactic(auto)]
 ghost use Rattle.std.specs.Prelude.{◌≡◌, ◌<◌, length};
 ghost use Rattle.frame.specs.Electing.{elect_words};
 ghost use Rattle.rehearsal_turns.specs.Turns.{stay, issue_turn, send_turn, send_slots, take_turn, take_turn_words, elect_turn, view_turn, turn_at, turn_words, turn_slots};
@@ -11,7 +12,7 @@ use rehearsal_replies::{question, says_frames, says_one, says_two};
 use rehearsal_slots::{ALL_SLOTS, SLOT, SLOTS, sent_lengths};
 
 // The record and the lengths of the slots' messages after the turn, and the answer.
-#[derive(Drop)]
+#[derive(Clone, Copy)]
 pub struct Turn {
     pub record: Record,
     pub lengths: [usize; 4],

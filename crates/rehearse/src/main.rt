@@ -1,11 +1,12 @@
 // `rehearse` reads a rehearsal from standard input and prints its answers: it reads large pieces to the input's end, and answers what it has
 // read before it reads on, so that it serves a terminal and a pipe alike.
+#![tactic(auto)]
 use libc::{STDIN_FILENO, STDOUT_FILENO};
 use lists::within;
 use rehearsal::Rehearsal;
 
 // The rehearsal after a piece of input, and whether to read on.
-#[derive(Drop)]
+#[derive(Clone, Copy)]
 struct Next {
     rehearsal: Rehearsal,
     more: bool,

@@ -1,11 +1,12 @@
 // How the next place stands, by the votes that eight ballots cast: a row for each supported entry, and which offices are silent.
+#![tactic(auto)]
 ghost use Rattle.std.specs.Prelude.{◌≡◌, cond, ◌≤◌, ◌<◌, take};
 ghost use Rattle.tallies.specs.Tallies.{vote_in, votes_in, weight_for};
 ghost use Rattle.lists.specs.Padded.{in_eight};
 ghost use Rattle.rows.specs.Rows.{is_in, with_vote, rows_of, marks};
 
 // How many entries are supported, which, and the T of each; 0 past them.
-#[derive(Drop)]
+#[derive(Clone, Copy)]
 pub struct Rows {
     pub count: usize,
     pub entries: [u32; 8],

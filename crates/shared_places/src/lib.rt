@@ -1,4 +1,5 @@
 // Request (viii): two settled logs compared from their ends, the office's own and a message's.
+#![tactic(auto)]
 ghost use Rattle.std.specs.Prelude.{◌≡◌, ◌*◌, ◌≤◌, length, take};
 ghost use Rattle.numbers.specs.Numbers.{run_at};
 ghost use Rattle.spelling.specs.Reading.{record_at};
@@ -7,7 +8,7 @@ ghost use Rattle.shared_places.specs.FromEnd.{compared_below, compared_of};
 use reader::read_entry;
 
 // Whether a shared place differs, and how many places that needed.
-#[derive(Drop)]
+#[derive(Clone, Copy)]
 pub struct Compared {
     pub differ: bool,
     pub places: usize,

@@ -1,5 +1,6 @@
 // The household sheet: household records turned into class totals by an office's settled frame. A library above `frame` and `both_frames`, which uses
 // only what their calls promise.
+#![tactic(auto)]
 ghost use Rattle.std.specs.Prelude.{◌≡◌};
 ghost use Rattle.sheet.specs.Sheet.{no_sheet, sheet_of};
 
@@ -8,7 +9,7 @@ use tabulation::Row;
 
 // The first `count` rows have the classes met, rising, and their totals; those past them are zero. `number` is the paper's, 0 when it is done.
 #[repr(C)]
-#[derive(Drop)]
+#[derive(Clone, Copy)]
 pub struct Sheet {
     pub number: u32,
     pub count: usize,

@@ -1,9 +1,10 @@
 // What a frame shows for a line: a code, or no edit yet; and what a stored code says.
+#![tactic(auto)]
 ghost use Rattle.std.specs.Prelude.{◌≡◌};
 ghost use Rattle.shown_edits.specs.Shown.{stored_edit};
 
 // What a frame shows for a line.
-#[derive(Drop)]
+#[derive(Clone, Copy)]
 pub enum Edit {
     Code(u32),
     NotYet,

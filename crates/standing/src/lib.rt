@@ -1,4 +1,5 @@
 // How the next place stands: what a record's ballots say of the next election step.
+#![tactic(auto)]
 ghost use Rattle.std.specs.Prelude.{◌≡◌};
 ghost use Rattle.standing.specs.Standing.{standing_of};
 
@@ -7,7 +8,7 @@ use frame::Record;
 // The number; the supported entries, each once, in the order of the lowest office that supports it, with their T, 0 past them; U; and 1 for
 // each of the n offices that has no ballot.
 #[repr(C)]
-#[derive(Drop)]
+#[derive(Clone, Copy)]
 pub struct Standing {
     pub number: u32,
     pub rows: usize,

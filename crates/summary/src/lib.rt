@@ -1,10 +1,11 @@
 // What the entries of a settled log have done, as a record holds it: the weights after its moves, and the last edit of each line.
+#![tactic(auto)]
 ghost use Rattle.std.specs.Prelude.{◌≡◌};
 ghost use Rattle.summary.specs.Summary.{start_with, summary_after, summary_next, same_summary};
 
 // The present weights, and the settled codes of the 64 lines: 0 for a line with no edit yet, else the code + 1.
 #[repr(C)]
-#[derive(Drop)]
+#[derive(Clone, Copy)]
 pub struct Summary {
     pub present: [u16; 8],
     pub codes: [u32; 64],

@@ -1,4 +1,5 @@
 // The 2197 ballot tables of three offices with tails of 0 to 2 entries, by their place in the list.
+#![tactic(auto)]
 ghost use Rattle.std.specs.Prelude.{◌≡◌, map, ◌<◌};
 ghost use Rattle.protocol.specs.Entry.{value};
 ghost use Rattle.ballots.specs.Ballots.{ballot_of};
@@ -15,7 +16,7 @@ const PAIRS: usize = TAILS * TAILS;
 pub const TABLES: usize = TAILS * PAIRS;
 
 // The three offices' tails.
-#[derive(Drop)]
+#[derive(Clone, Copy)]
 pub struct Table {
     pub tails: [Ballot; 3],
 }

@@ -1,4 +1,5 @@
 // Taking a message: a call above `frame`.
+#![tactic(auto)]
 ghost use Rattle.std.specs.Prelude.{◌≡◌, ◌+◌, ◌<◌, ◌≤◌};
 ghost use Rattle.frame.specs.State.{state_in, with_kept, with_noted, with_state};
 ghost use Rattle.taking.specs.Taking.{take_of, take_words};
@@ -8,7 +9,7 @@ use frame::Record;
 use kept::Kept;
 
 #[repr(C)]
-#[derive(Drop)]
+#[derive(Clone, Copy)]
 pub struct Taken {
     pub record: Record,
     pub number: u32,

@@ -1,11 +1,12 @@
 // One election step: the entry that wins by eight votes, their weights and the offices' counts of entries.
+#![tactic(auto)]
 ghost use Rattle.std.specs.Prelude.{◌≡◌, cond, ◌≤◌};
 ghost use Rattle.protocol.specs.Counts.{quieter_by};
 ghost use Rattle.protocol.specs.Vote.{tally, unheard, supported, beats_all, winner};
 ghost use Rattle.tallies.specs.Tallies.{winner_is, vote_in, votes_in, SilentFrom, weight_for, beats_vote, vote_wins};
 
 // Who wins an election step.
-#[derive(Drop)]
+#[derive(Clone, Copy)]
 pub enum Winner {
     Entry(u32),
     Nobody,

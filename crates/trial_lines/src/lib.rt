@@ -1,4 +1,5 @@
 // A line of a trial script, and its numbers written into lists. What a line may say is in docs/TRIALS.md.
+#![tactic(auto)]
 mod line;
 mod writing;
 

@@ -4,7 +4,7 @@ ghost use Rattle.trial_lines.specs.Line.{no_line, with_byte};
 
 // The numbers stand from place 1 on, as many as there are spaces. `first` and `second` are those at places 1 and 2: the program copies them once the
 // line is whole, and nothing here does.
-#[derive(Drop)]
+#[derive(Clone, Copy)]
 pub struct Line {
     pub letter: u8,
     pub count: usize,

@@ -6,7 +6,7 @@ use crate::line::Line;
 use lists::within;
 
 // Whether a line's numbers had room in a list, and where they end there.
-#[derive(Drop)]
+#[derive(Clone, Copy)]
 pub struct Put {
     pub done: bool,
     pub end: usize,

@@ -1,4 +1,5 @@
 // Answers a script of trials from standard input: any record, log, output and message, and one call at a time. docs/TRIALS.md has the language.
+#![tactic(auto)]
 mod calling;
 mod setting;
 

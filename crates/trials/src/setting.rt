@@ -4,7 +4,7 @@ use lists::within;
 use trial_lines::{Line, Put, put_bytes, put_words};
 
 // The record, and how long the log, the output and the message are.
-#[derive(Drop)]
+#[derive(Clone, Copy)]
 pub struct Trial {
     pub record: Record,
     pub words: usize,
