@@ -1,0 +1,9 @@
+-- In each arm the edit is what the pattern says.
+use borrow.Author.Rules.{rules}
+use Rattle.crossing.proofs.across.Goals as goal
+
+pub returns-in-Code : goal.returns-in-Code
+returns-in-Code c = rw c.edit-1.given.1
+
+pub returns-in-NotYet : goal.returns-in-NotYet
+returns-in-NotYet c = rw c.enum_told-1.given.1

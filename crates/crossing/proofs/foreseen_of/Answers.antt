@@ -1,0 +1,12 @@
+-- In each arm the winner is what the pattern says.
+use borrow.Author.Rules.{rules}
+use Rattle.crossing.specs.Foreseen.{foreseen_of}
+use Rattle.crossing.proofs.foreseen_of.Goals as goal
+
+pub returns-in-Nobody : goal.returns-in-Nobody
+unfolding foreseen_of
+returns-in-Nobody c = rw c.enum_told-1.given.1
+
+pub returns-in-Entry : goal.returns-in-Entry
+unfolding foreseen_of
+returns-in-Entry c = rw c.winner-1.given.1

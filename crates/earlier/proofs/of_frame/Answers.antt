@@ -1,0 +1,30 @@
+use borrow.Author.Rules.{rules}
+use borrow.Author.Tests.{leb-true, le-leb, ltb-true, lt-ltb}
+use native.Mathlib.Omega.{arith}
+use mathlib.Core.Path.{◌≡◌, refl}
+use mathlib.Core.Bool.{Bool}
+use Prim.Native.Nat.{ℕ, ◌-◌, ◌≤◌}
+use lib.Dec.{leb, ltb}
+use lib.ListN.{length, get_or}
+use Rattle.lists.specs.Tests.{both}
+use Rattle.lists.proofs.Tests.{alike}
+use Rattle.lists.proofs.Walk.{AllWith, with-next, with-done}
+use Rattle.runs.specs.Runs.{of_frame}
+use Rattle.earlier.proofs.of_frame.Invariants.{is_line}
+use Rattle.earlier.proofs.of_frame.Goals as goal
+
+below_64 : (line : ℕ) → ltb line 64 ≡ is_line line
+below_64 line = alike (ltb line 64) (leb line 63) (λ e. le-leb line 63 (omega (arith, ltb-true line 64 e))) (λ e. lt-ltb line 64 (omega (arith, leb-true line 63 e)))
+
+pub loop-i-init : goal.loop-i-init
+unfolding both
+loop-i-init c = (search rules, refl)
+
+pub loop-i-preserved : goal.loop-i-preserved
+loop-i-preserved c =
+    let l = c.loop-i in
+    let lines = c.args.lines.now in
+    (search rules, with-next is_line 0 lines l.good l.i l.invariant.1 (search rules) _ (below_64 (get_or lines l.i 0)))
+
+pub returns : goal.returns
+returns c = let l = c.loop-i in with-done is_line 0 c.args.lines.now l.good l.i l.invariant.1 (search rules)

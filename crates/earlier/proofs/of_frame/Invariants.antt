@@ -1,0 +1,21 @@
+-- A walk that makes every test, so that it runs on vectors.
+use borrow.Author.Rules.{rules}
+use borrow.Author.Tests.{leb-true, le-leb, ltb-true, lt-ltb}
+use native.Mathlib.Omega.{arith}
+use mathlib.Core.Path.{◌≡◌, refl}
+use mathlib.Core.Bool.{Bool}
+use Prim.Native.Nat.{ℕ, ◌-◌, ◌≤◌}
+use lib.Dec.{leb, ltb}
+use lib.ListN.{length, get_or}
+use Rattle.lists.specs.Tests.{both}
+use Rattle.lists.proofs.Tests.{alike}
+use Rattle.lists.proofs.Walk.{AllWith, with-next, with-done}
+use Rattle.runs.specs.Runs.{of_frame}
+use Rattle.earlier.proofs.of_frame.Given as goal
+
+-- the test of a line
+abbrev pub is_line : ℕ → Bool
+is_line line = leb line 63
+
+abbrev pub invariant-loop-i : goal.invariant-loop-i
+invariant-loop-i l = (l.i ≤ length l.lines) × AllWith (of_frame l.lines) is_line l.lines l.good l.i

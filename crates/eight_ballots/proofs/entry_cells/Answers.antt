@@ -1,0 +1,28 @@
+use borrow.Author.Rules.{rules}
+use native.Mathlib.Omega.{arith}
+use mathlib.Core.Path.{◌≡◌, refl, ◌∙◌}
+use Prim.Native.Nat.{◌-◌, ◌≤◌}
+use lib.ListN.{length}
+use Rattle.lists.specs.Tests.{all_b, both}
+use Rattle.lists.proofs.Walk.{AllWith, with-next, with-done}
+use Rattle.protocol.specs.Entry.{is_entry}
+use Rattle.eight_ballots.proofs.Fours.{all-cells}
+use Rattle.eight_ballots.proofs.entry_cells.Goals.{Start}
+use Rattle.eight_ballots.proofs.entry_cells.Goals as goal
+
+full : (s : Start) → length s.args.b.cells ≡ 32
+full s = search rules
+
+pub loop-i-init : goal.loop-i-init
+unfolding both
+loop-i-init c = (search rules, refl)
+
+pub loop-i-preserved : goal.loop-i-preserved
+loop-i-preserved c =
+    let l = c.loop-i in
+    (search rules, with-next (is_entry c.args.n) 0 c.args.b.cells l.good l.i l.invariant.1 (omega (arith, full (goal.at.loop-i-preserved c).Start)) _ c.is_entry-good.ensures)
+
+pub returns : goal.returns
+returns c =
+    let l = c.loop-i in
+    with-done (is_entry c.args.n) 0 c.args.b.cells l.good l.i l.invariant.1 (omega (arith, full (goal.at.returns c).Start)) ∙ all-cells (is_entry c.args.n) c.args.b (full (goal.at.returns c).Start)

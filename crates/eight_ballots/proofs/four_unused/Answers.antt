@@ -1,0 +1,153 @@
+use borrow.Author.Rules.{rules}
+use native.Mathlib.Omega.{arith}
+use mathlib.Core.Bool.{true}
+use mathlib.Core.Path.{◌≡◌, ap, ◌∙◌}
+use Prim.Native.Nat.{ℕ, ◌-◌, ◌≤◌}
+use lib.ListN.{length}
+use Rattle.eight_ballots.specs.Fours.{mask_words, unused_zero}
+use Rattle.eight_ballots.proofs.Fours.{Unused, four-none, four-tests, mask-length, masked-next, unused-begins, unused-ends, unused-none}
+use Rattle.eight_ballots.proofs.four_unused.Goals.{Start}
+use Rattle.eight_ballots.proofs.four_unused.Goals as goal
+
+-- the facts on numbers, away from the places of the code
+none_yet : 0 ≤ 32
+none_yet = omega arith
+
+at_most : (len : ℕ) → 32 - len ≤ 32
+at_most len = omega arith
+
+full : (s : Start) → (length s.args.a.cells ≡ 32) × ((length s.args.b.cells ≡ 32) × ((length s.args.c.cells ≡ 32) × (length s.args.d.cells ≡ 32)))
+full s = search rules
+
+pub returns-then-j-k : goal.returns-then-j-k
+returns-then-j-k c =
+    let a = c.args in
+    let f = full (goal.at.returns-then-j-k c).Start in
+    let t = four-none (32 - a.a.len) (32 - a.b.len) (32 - a.c.len) (32 - a.d.len) c.if-j-k.true in
+    four-tests unused_zero _ _ _ _ true true true true (unused-none _ f.0 t.0) (unused-none _ f.1.0 t.1.0)
+    (unused-none _ f.1.1.0 t.1.1.0) (unused-none _ f.1.1.1 t.1.1.1)
+
+-- the masks are those that the walk asks for
+masks-are : (s : Start) → s.args.masks.now ≡ mask_words
+masks-are s = s.requires.0
+
+long : (s : Start) → length s.args.masks.now ≡ 64
+long s = ap length (masks-are s) ∙ mask-length
+
+pub loop-i-preserved : goal.loop-i-preserved
+loop-i-preserved c =
+    let l = c.loop-i in
+    let f = full (goal.at.loop-i-preserved c).Start in
+    let h = c.loop-i-test.true in
+    let a = c.args in
+    let v = l.invariant.1 in (
+      omega (arith, h),
+      (
+        masked-next _ _ _ l.p l.i _ (masks-are (goal.at.loop-i-preserved c).Start) f.0 h (at_most a.a.len) v.0 c.masked-p.ensures,
+        (
+          masked-next _ _ _ l.q l.i _ (masks-are (goal.at.loop-i-preserved c).Start) f.1.0 h (at_most a.b.len) v.1.0 c.masked-q.ensures,
+          (
+            masked-next _ _ _ l.r l.i _ (masks-are (goal.at.loop-i-preserved c).Start) f.1.1.0 h (at_most a.c.len) v.1.1.0 c.masked-r.ensures,
+            masked-next _ _ _ l.s l.i _ (masks-are (goal.at.loop-i-preserved c).Start) f.1.1.1 h (at_most a.d.len) v.1.1.1 c.masked-s.ensures,
+          ),
+        ),
+      ),
+    )
+
+pub returns : goal.returns
+returns c =
+    let l = c.loop-i in
+    let f = full (goal.at.returns c).Start in
+    let few = c.requires.1 in
+    let e = c.loop-i-test.false in
+    let v = l.invariant.1 in
+    four-tests unused_zero _ _ _ _ _ _ _ _ (unused-ends _ l.p l.i f.0 few.0 v.0 e) (unused-ends _ l.q l.i f.1.0 few.1.0 v.1.0 e)
+    (unused-ends _ l.r l.i f.1.1.0 few.1.1.0 v.1.1.0 e) (unused-ends _ l.s l.i f.1.1.1 few.1.1.1 v.1.1.1 e)
+
+pub loop-i-init : goal.loop-i-init
+loop-i-init c =
+    let a = c.args in (
+      none_yet,
+      (
+        unused-begins a.a.cells (32 - a.a.len),
+        (unused-begins a.b.cells (32 - a.b.len), (unused-begins a.c.cells (32 - a.c.len), unused-begins a.d.cells (32 - a.d.len))),
+      ),
+    )
+
+pub overflow_sub-j : goal.overflow_sub-j
+overflow_sub-j c = c.requires.1.0
+
+pub overflow_sub-k : goal.overflow_sub-k
+overflow_sub-k c = c.requires.1.1.0
+
+pub overflow_sub-l : goal.overflow_sub-l
+overflow_sub-l c = c.requires.1.1.1.0
+
+pub overflow_sub-m : goal.overflow_sub-m
+overflow_sub-m c = c.requires.1.1.1.1
+
+pub offset_bounds-w-i : goal.offset_bounds-w-i
+offset_bounds-w-i c = omega (arith, c.loop-i-test.true)
+
+pub bounds-w-i : goal.bounds-w-i
+bounds-w-i c = c.loop-i-test.true
+
+pub overflow_add-j : goal.overflow_add-j
+overflow_add-j c = omega (arith, c.loop-i-test.true)
+
+pub offset_bounds-masks-j : goal.offset_bounds-masks-j
+offset_bounds-masks-j c = omega (arith, c.loop-i-test.true)
+
+pub bounds-masks-j : goal.bounds-masks-j
+bounds-masks-j c = omega (arith, c.loop-i-test.true, long (goal.at.bounds-masks-j c).Start)
+
+pub offset_bounds-x-i : goal.offset_bounds-x-i
+offset_bounds-x-i c = omega (arith, c.loop-i-test.true)
+
+pub bounds-x-i : goal.bounds-x-i
+bounds-x-i c = c.loop-i-test.true
+
+pub overflow_add-k : goal.overflow_add-k
+overflow_add-k c = omega (arith, c.loop-i-test.true)
+
+pub offset_bounds-masks-k : goal.offset_bounds-masks-k
+offset_bounds-masks-k c = omega (arith, c.loop-i-test.true)
+
+pub bounds-masks-k : goal.bounds-masks-k
+bounds-masks-k c = omega (arith, c.loop-i-test.true, long (goal.at.bounds-masks-k c).Start)
+
+pub offset_bounds-y-i : goal.offset_bounds-y-i
+offset_bounds-y-i c = omega (arith, c.loop-i-test.true)
+
+pub bounds-y-i : goal.bounds-y-i
+bounds-y-i c = c.loop-i-test.true
+
+pub overflow_add-l : goal.overflow_add-l
+overflow_add-l c = omega (arith, c.loop-i-test.true)
+
+pub offset_bounds-masks-l : goal.offset_bounds-masks-l
+offset_bounds-masks-l c = omega (arith, c.loop-i-test.true)
+
+pub bounds-masks-l : goal.bounds-masks-l
+bounds-masks-l c = omega (arith, c.loop-i-test.true, long (goal.at.bounds-masks-l c).Start)
+
+pub offset_bounds-z-i : goal.offset_bounds-z-i
+offset_bounds-z-i c = omega (arith, c.loop-i-test.true)
+
+pub bounds-z-i : goal.bounds-z-i
+bounds-z-i c = c.loop-i-test.true
+
+pub overflow_add-m : goal.overflow_add-m
+overflow_add-m c = omega (arith, c.loop-i-test.true)
+
+pub offset_bounds-masks-m : goal.offset_bounds-masks-m
+offset_bounds-masks-m c = omega (arith, c.loop-i-test.true)
+
+pub bounds-masks-m : goal.bounds-masks-m
+bounds-masks-m c = omega (arith, c.loop-i-test.true, long (goal.at.bounds-masks-m c).Start)
+
+pub overflow_step-i : goal.overflow_step-i
+overflow_step-i c = omega (arith, c.loop-i-test.true)
+
+pub loop-i-smaller : goal.loop-i-smaller
+loop-i-smaller c = omega (arith, c.loop-i-test.true)

@@ -1,0 +1,6 @@
+-- All zero.
+use borrow.Author.Rules.{rules}
+use Rattle.frame.proofs.founding.refused.Goals as goal
+
+pub returns : goal.returns
+returns c = λ i. record { number = c.args.number; «record» = c.fresh-record.ensures i }

@@ -1,0 +1,15 @@
+-- A longer log is written past the held length; any other leaves the words.
+use borrow.Author.Rules.{rules}
+use native.Mathlib.Omega.{arith}
+use mathlib.Core.Path.{◌∙◌}
+use Rattle.intake.proofs.Caught.{keeps, grows}
+use Rattle.intake.proofs.catch_up.Goals as goal
+
+pub returns-then-k-held : goal.returns-then-k-held
+returns-then-k-held c = let a = c.args in keeps a.log.now a.rest.now a.held a.k (omega arith)
+
+pub returns : goal.returns
+returns c =
+    let a = c.args in
+    let g = grows a.log.now a.rest.now a.held a.k (omega arith) in
+    (g.0, c.extend.ensures ∙ g.1)

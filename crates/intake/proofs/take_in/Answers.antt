@@ -1,0 +1,20 @@
+-- What the drop and the take at one beginning make is the protocol's folded take by `intaken`.
+use borrow.Author.Rules.{rules}
+use Rattle.intake.proofs.Dropping.{droppable, aligned, intaken}
+use Rattle.intake.proofs.take_in.Goals as goal
+
+pub drop_first-remains-requires : goal.drop_first-remains-requires
+drop_first-remains-requires c =
+    let a = c.args in
+    droppable a.log.now a.state a.kept a.own a.rest.now a.m c.requires _ _ c.later-ahead.ensures c.later-behind.ensures
+
+pub take_aligned-next-requires : goal.take_aligned-next-requires
+take_aligned-next-requires c =
+    let a = c.args in
+    aligned a.log.now a.state a.kept a.own a.rest.now a.m c.requires _ _ c.later-ahead.ensures c.later-behind.ensures _ c.drop_first-remains.ensures.1
+
+pub returns : goal.returns
+returns c =
+    let a = c.args in
+    intaken a.log.now a.state a.kept a.own a.rest.now a.m c.requires _ _ c.later-ahead.ensures c.later-behind.ensures _ c.drop_first-remains.ensures.1
+    _ c.drop_first-remains.ensures.0 _ _ c.take_aligned-next.ensures.0 c.take_aligned-next.ensures.1

@@ -1,0 +1,11 @@
+-- A walk from the front: what is known of the offices so far.
+use borrow.Author.Rules.{rules}
+use native.Mathlib.Omega.{arith}
+use mathlib.Core.Path.{◌≡◌, refl}
+use Prim.Native.Nat.{◌-◌, ◌≤◌}
+use Rattle.protocol.specs.Folding.{least_known}
+use Rattle.noting.proofs.Least.{known_next, known-done}
+use Rattle.noting.proofs.least_known.Given as goal
+
+abbrev pub invariant-loop-j : goal.invariant-loop-j
+invariant-loop-j l = (l.j ≤ l.n) × (l.least ≡ least_known l.own l.settled l.noted l.j)

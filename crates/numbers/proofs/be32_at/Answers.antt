@@ -1,0 +1,11 @@
+-- The bytes at the position are those of the list from the position on.
+use Rattle.numbers.specs.Numbers.{be32}
+use native.Mathlib.Nat.{add-zero}
+use lib.Seq.{get_or-drop}
+use native.Mathlib.Omega.{arith}
+use borrow.Author.Rules.{rules}
+use Rattle.numbers.proofs.be32_at.Goals as goal
+
+pub returns : goal.returns
+unfolding be32
+returns c = simp (get_or-drop, add-zero) (omega arith)

@@ -1,0 +1,34 @@
+use borrow.Author.Rules.{rules}
+use mathlib.Core.List.{[], ◌∷◌}
+use Prim.Native.Nat.{◌-◌, ◌≤◌}
+use native.Mathlib.Omega.{arith}
+use lib.ListN.{length, get_or, drop}
+use Rattle.lists.proofs.Stores.{Left, left-all, left-next, left-none}
+use Rattle.own_entries.specs.Parts.{entries_of}
+use Rattle.own_entries.proofs.Own.{own-next, own-done, count_next}
+use Rattle.pending.proofs.write_of.Goals as goal
+
+pub loop-i-init : goal.loop-i-init
+loop-i-init c = (search rules, left-all _ _ _)
+
+pub put-at-requires : goal.put-at-requires
+put-at-requires c =
+    let l = c.loop-i in
+    let a = c.args in
+    omega (arith, l.invariant.1.place, l.invariant.1.long, count_next a.office a.words.now l.i (search rules))
+
+pub loop-i-preserved : goal.loop-i-preserved
+loop-i-preserved c =
+    let l = c.loop-i in
+    let a = c.args in
+    let put = c.put-at in
+    (search rules, left-next l.invariant.1 (entries_of a.office (get_or a.words.now l.i 0 ∷ [])) (own-next a.office a.words.now l.i (search rules)) put.ensures.0 put.ensures.1)
+
+pub returns : goal.returns
+returns c =
+    let l = c.loop-i in
+    let a = c.args in
+    (left-none l.invariant.1 (own-done a.office a.words.now l.i (search rules))).1
+
+pub shape_of-out : goal.shape_of-out
+shape_of-out c = c.loop-i.invariant.1.long

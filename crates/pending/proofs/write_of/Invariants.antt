@@ -1,0 +1,13 @@
+-- A walk from the front: what is left to store, from the place on, gives all that is to be stored.
+use borrow.Author.Rules.{rules}
+use mathlib.Core.List.{[], ◌∷◌}
+use Prim.Native.Nat.{◌-◌, ◌≤◌}
+use native.Mathlib.Omega.{arith}
+use lib.ListN.{length, get_or, drop}
+use Rattle.lists.proofs.Stores.{Left, left-all, left-next, left-none}
+use Rattle.own_entries.specs.Parts.{entries_of}
+use Rattle.own_entries.proofs.Own.{own-next, own-done, count_next}
+use Rattle.pending.proofs.write_of.Given as goal
+
+abbrev pub invariant-loop-i : goal.invariant-loop-i
+invariant-loop-i l = (l.i ≤ length l.words) × Left l.initial.out 0 (entries_of l.office l.words) l.out l.at (entries_of l.office (drop l.i l.words))

@@ -1,0 +1,59 @@
+-- The letter, the three items and a newline, each behind the other. The buffer keeps its length, and an item takes at most 21 bytes, so that there is
+-- room for the next and for the newline.
+use native.Mathlib.Omega.{arith}
+use borrow.Author.Rules.{rules}
+use mathlib.Core.Path.{◌≡◌, ◌∙◌}
+use Prim.Native.Nat.{◌+◌, ◌<◌, ◌≤◌}
+use lib.ListN.{length, length-set}
+use Rattle.rehearsal_answers.proofs.Printing.{item-short, print-whole}
+use Rattle.rehearsal_answers.proofs.put_answer.Goals.{After-put_item-behind, After-put_item-last, After-put_item-next}
+use Rattle.rehearsal_answers.proofs.put_answer.Goals as goal
+
+one : (c : After-put_item-behind) → (length c.put_item-behind.new.0 ≡ length c.args.out.now) × (c.put_item-behind.result ≤ c.args.at + 22)
+one c =
+    let a = c.args in
+    (c.put_item-behind.auto.0 ∙ length-set a.out.now a.at a.answer.letter, omega (arith, c.put_item-behind.ensures.0, item-short a.answer.first))
+
+room-one : (c : After-put_item-behind) → c.put_item-behind.result + 21 ≤ length c.put_item-behind.new.0
+room-one c = omega (arith, one c, c.well-formed.0.0)
+
+two : (c : After-put_item-next) → (length c.put_item-next.new.0 ≡ length c.args.out.now) × (c.put_item-next.result ≤ c.args.at + 43)
+two c =
+    let a = c.args in
+    (c.put_item-next.auto.0 ∙ (one c.before.before.before.before).0, omega (arith, c.put_item-next.ensures.0, item-short a.answer.second, (one c.before.before.before.before).1))
+
+room-two : (c : After-put_item-next) → c.put_item-next.result + 21 ≤ length c.put_item-next.new.0
+room-two c = omega (arith, two c, c.well-formed.0.0)
+
+three : (c : After-put_item-last) → (length c.put_item-last.new.0 ≡ length c.args.out.now) × (c.put_item-last.result ≤ c.args.at + 64)
+three c =
+    let a = c.args in
+    (c.put_item-last.auto.0 ∙ (two c.before.before.before.before).0, omega (arith, c.put_item-last.ensures.0, item-short a.answer.third, (two c.before.before.before.before).1))
+
+room-three : (c : After-put_item-last) → c.put_item-last.result < length c.put_item-last.new.0
+room-three c = omega (arith, three c, c.well-formed.0.0)
+
+pub returns : goal.returns
+returns c =
+    let a = c.args in
+    print-whole a.answer a.at c.put_item-behind.result c.put_item-next.result c.put_item-last.result
+    a.out.now c.put_item-behind.last.0 c.put_item-next.last.0 c.put_item-last.new.0
+    c.put_item-behind.ensures.0 c.put_item-behind.ensures.1 c.put_item-next.ensures.0 c.put_item-next.ensures.1 c.put_item-last.ensures.0 c.put_item-last.ensures.1
+
+pub put_item-behind-requires : goal.put_item-behind-requires
+put_item-behind-requires c = simp length-set (omega arith)
+
+pub put_item-next-requires : goal.put_item-next-requires
+put_item-next-requires c = room-one (goal.at.put_item-next-requires c).After-put_item-behind
+
+pub put_item-last-requires : goal.put_item-last-requires
+put_item-last-requires c = room-two (goal.at.put_item-last-requires c).After-put_item-next
+
+pub bounds-out-last : goal.bounds-out-last
+bounds-out-last c = room-three (goal.at.bounds-out-last c).After-put_item-last
+
+pub overflow_add-result : goal.overflow_add-result
+overflow_add-result c = omega (arith, three (goal.at.overflow_add-result c).After-put_item-last, c.well-formed.0.0)
+
+pub shape_of-out : goal.shape_of-out
+shape_of-out c = length-set c.put_item-last.new.0 c.put_item-last.result 10 ∙ (three (goal.at.shape_of-out c).After-put_item-last).0

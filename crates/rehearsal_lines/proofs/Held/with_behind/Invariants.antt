@@ -1,0 +1,13 @@
+-- The invariant: the bytes so far and those that are left make the line that is to be held, and the cells behind are zero.
+use borrow.Author.Rules.{rules}
+use native.Mathlib.Omega.{arith}
+use mathlib.Core.Path.{◌≡◌, refl, ap, ◌∙◌}
+use mathlib.Core.List.{List, ◌++◌}
+use Prim.Native.Nat.{ℕ, ◌-◌}
+use lib.ListN.{length, take}
+use Rattle.rehearsal_lines.specs.Held.{line_held, held_of}
+use Rattle.rehearsal_lines.proofs.Holding.{HeldRest, held-begins, held_next, held-full, held-ends, take_within}
+use Rattle.rehearsal_lines.proofs.Held.with_behind.Given as goal
+
+abbrev pub invariant-loop-i : goal.invariant-loop-i
+invariant-loop-i l = (l.i-end ≡ length l.more) × HeldRest (take l.initial.length l.initial.bytes) l.more l.bytes l.length l.i

@@ -1,0 +1,11 @@
+-- In each arm the edit is what the pattern says.
+use borrow.Author.Rules.{rules}
+use mathlib.Core.Path.{ap}
+use Rattle.rehearsal_answers.specs.declared.Item.TheVariants.{Number}
+use Rattle.rehearsal_replies.proofs.item_of.Goals as goal
+
+pub returns-in-Code : goal.returns-in-Code
+returns-in-Code c = rw c.edit-1.given.1 (ap Number c.wide.ensures)
+
+pub returns-in-NotYet : goal.returns-in-NotYet
+returns-in-NotYet c = rw c.enum_told-1.given.1

@@ -1,0 +1,12 @@
+-- The call's promise and the answer's.
+use Rattle.rehearsal_turns.proofs.Turning.{elected-turn}
+use borrow.Author.Rules.{rules}
+use Rattle.rehearsal_turns.proofs.elect_turn.Goals as goal
+
+pub returns : goal.returns
+returns c =
+    let a = c.args in (
+      elected-turn a.record a.lengths a.log.now c.says_two-answer.result c.elect-elected.result
+          c.elect-elected.ensures.0 c.says_two-answer.ensures,
+      c.elect-elected.ensures.1,
+    )

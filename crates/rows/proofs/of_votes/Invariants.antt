@@ -1,0 +1,11 @@
+-- A walk over the votes: the rows so far, and those that what is left of the votes adds to them.
+use native.Mathlib.Omega.{arith}
+use mathlib.Core.Path.{◌≡◌}
+use Prim.Native.Nat.{◌-◌, ◌≤◌}
+use lib.ListN.{length}
+use borrow.Author.Rules.{rules}
+use Rattle.rows.proofs.Walks.{SoFar, rows_none, rows_few, rows_next, rows-done}
+use Rattle.rows.proofs.of_votes.Given as goal
+
+abbrev pub invariant-loop-i : goal.invariant-loop-i
+invariant-loop-i l = (l.i ≤ 8) × SoFar l.weights l.votes l.rows l.i

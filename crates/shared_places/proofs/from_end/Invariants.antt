@@ -1,0 +1,14 @@
+-- The invariant: the places passed are the same in both.
+use native.Mathlib.Omega.{arith}
+use mathlib.Core.Path.{◌≡◌, sym, ◌∙◌}
+use Prim.Native.Nat.{◌-◌, ◌*◌, ◌≤◌}
+use lib.ListN.{get_or}
+use borrow.Author.Rules.{rules}
+use Rattle.numbers.specs.Numbers.{run_at}
+use Rattle.spelling.specs.Reading.{record_at}
+use Rattle.records.proofs.Marks.{entry-step}
+use Rattle.shared_places.proofs.Walk.{Walked, walk_first, walk-next, walk-met, walk-done, record-at}
+use Rattle.shared_places.proofs.from_end.Given as goal
+
+abbrev pub invariant-loop-i : goal.invariant-loop-i
+invariant-loop-i l = (l.i ≤ l.k) × Walked l.k l.log (run_at 6 record_at l.k l.rest) l.i

@@ -1,0 +1,16 @@
+-- The invariant: the array holds the pooled rows of the lines from the turn's on.
+use Prim.Native.Nat.{ℕ, ◌+◌, ◌-◌, ◌≤◌, ◌<◌}
+use mathlib.Core.Path.{◌≡◌, ap, ◌∙◌}
+use borrow.Author.Rules.{rules}
+use native.Mathlib.Omega.{arith}
+use lib.ListN.{length}
+use Rattle.tabulation.specs.Rows.{pooled}
+use Rattle.tabulation.specs.Cells.{rows_of}
+use Rattle.tabulation.proofs.LinesFrom.{lines_from, no_lines, line-room, line-pooled, line-passed}
+use Rattle.tabulation.proofs.tabulate.Given as goal
+
+abbrev pub invariant-loop-i : goal.invariant-loop-i
+invariant-loop-i l = (l.i ≤ 64) × (l.sheet ≡ rows_of (pooled (lines_from l.codes l.met l.totals l.i)))
+
+abbrev pub decreases-loop-i : goal.decreases-loop-i
+decreases-loop-i l = l.i

@@ -1,0 +1,12 @@
+-- A walk that writes the cells behind the first over zeros, from the front.
+use native.Mathlib.Omega.{arith}
+use mathlib.Core.Path.{◌≡◌, refl}
+use Prim.Native.Nat.{◌-◌, ◌≤◌}
+use lib.ListN.{length, drop, replicate}
+use borrow.Author.Rules.{rules}
+use Rattle.lists.proofs.Fill.{filled}
+use Rattle.votes.proofs.Cells.{moved-step, moved-end, without-first-is}
+use Rattle.votes.proofs.without_first.Given as goal
+
+abbrev pub invariant-loop-j : goal.invariant-loop-j
+invariant-loop-j l = (l.j ≤ 31) × (l.cells ≡ filled (drop 1 l.old) (replicate 32 0) l.j)

@@ -1,0 +1,22 @@
+-- The log records are stored where the head ends.
+use Prim.Native.Nat.{◌≤◌}
+use mathlib.Core.Path.{◌≡◌}
+use native.Mathlib.Omega.{arith}
+use lib.ListN.{length}
+use lib.Seq.{length-take-le}
+use borrow.Author.Rules.{rules}
+use Rattle.writer.proofs.Whole.{front-stores}
+use Rattle.writer.proofs.put_front.Goals.{Start}
+use Rattle.writer.proofs.put_front.Goals as goal
+
+weights-long : (s : Start) → s.args.n ≤ length s.args.weights
+weights-long s = let e : length s.args.weights ≡ 8 = search rules in omega arith
+
+pub returns : goal.returns
+returns c =
+    let head = c.put_head-h in
+    let log = c.put_log in
+    let a = c.args in (
+      omega (arith, head.ensures.0, log.ensures.0),
+      front-stores a.sender a.n _ _ a.dropped _ a.out.now (length-take-le a.n a.weights (weights-long (goal.at.returns c).Start)) head.ensures.0 head.ensures.1 log.ensures.1,
+    )

@@ -1,0 +1,42 @@
+use Prim.Native.Nat.{◌-◌}
+use mathlib.Core.Path.{refl}
+use native.Mathlib.Omega.{arith}
+use borrow.Author.Rules.{rules}
+use Rattle.numbers.specs.Numbers.{bytes16}
+use Rattle.spelling.proofs.Items.{weight_item}
+use Rattle.numbers.proofs.Steps.{Storing, storing-again, storing-ends}
+use Rattle.writer.proofs.put_weights.Goals as goal
+
+pub loop-i-preserved : goal.loop-i-preserved
+loop-i-preserved c =
+    let l = c.loop-i in
+    let put = c.put16 in
+    storing-again 2 bytes16 weight_item.wide c.args.out.now c.args.at c.args.weights.now c.args.k l.out l.p l.i l.inv
+    put.new.0 c.loop-i-test.taken c.requires.0 put.auto.0 put.ensures
+
+pub returns : goal.returns
+returns c =
+    let a = c.args in
+    let l = c.loop-i in
+    storing-ends 2 bytes16 weight_item.wide a.out.now a.at a.weights.now a.k l.out l.p l.i l.invariant c.loop-i-test.false
+
+pub loop-i-init : goal.loop-i-init
+loop-i-init c = (search rules, (search rules, (refl, refl)))
+
+pub bounds-weights-i : goal.bounds-weights-i
+bounds-weights-i c = omega arith
+
+pub put16-requires : goal.put16-requires
+put16-requires c = omega arith
+
+pub overflow_add-p : goal.overflow_add-p
+overflow_add-p c = omega (arith, (goal.at.overflow_add-p c).Start.before)
+
+pub overflow_step-i : goal.overflow_step-i
+overflow_step-i c = omega arith
+
+pub loop-i-smaller : goal.loop-i-smaller
+loop-i-smaller c = omega arith
+
+pub shape_of-out : goal.shape_of-out
+shape_of-out c = c.loop-i.invariant.1.1.0
