@@ -23,7 +23,7 @@ use Rattle.protocol.specs.Frames.{edit_after, last_edit, or_else, edit_by, NoneF
 pub edit-append : (line : ℕ) (before : Option ℕ) (p l : List ℕ) → edit_after line before (p ++ l) ≡ edit_after line (edit_after line before p) l
 unfolding edit_after
 edit-append line before [] l = refl
-edit-append line before (v ∷ p) l = edit-append line _ p l
+edit-append line before (v ∷ p) l = edit-append line (pick (eqb (line_of v) line) (some (code_of v)) before) p l
 
 -- ── an entry and those behind it ──
 or_assoc : (a b c : Option ℕ) → or_else (or_else a b) c ≡ or_else a (or_else b c)
