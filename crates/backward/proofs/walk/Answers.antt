@@ -26,7 +26,7 @@ loop-left-preserved c =
 pub returns : goal.returns
 returns c =
     let l = c.loop-left in
-    let over : (l.left ≡ 0) ⊎ (l.end ≡ 0) = ⊎_elim (λ t. inl (omega (arith, t.left))) (λ t. inr t.1.taken) c.loop-left-test.branch in
+    let over : (l.left ≡ 0) ⊎ (l.end ≡ 0) = ? in
     walking-ends c.args.lines.now c.args.words.now c.requires l.left l.cells l.end l.invariant over c.args.codes _ c.answers-edits.ensures
 
 pub add_edit-left-requires : goal.add_edit-left-requires

@@ -10,7 +10,6 @@ use Rattle.frame.specs.Soundness.{Sound}
 use Rattle.frame.proofs.Sound.{sound}
 use Rattle.outcome.proofs.Facts.{Follows, followed}
 use Rattle.outcome.proofs.Answer.{report-unsound, report-stray, report-made, member, was-fine, is-fine, begins, fits}
-use Rattle.outcome.proofs.report.Goals.{Else-not-follows}
 use Rattle.outcome.proofs.report.Goals as goal
 
 pub returns-then-not-sound : goal.returns-then-not-sound
@@ -23,12 +22,6 @@ follows-requires c =
 
 pub returns-then-not-follows : goal.returns-then-not-follows
 returns-then-not-follows c = let both = report-stray _ _ _ (sym (sym c.follows.ensures ∙ c.if-not-follows.true)) _ in record { report = both.0; words = both.1 }
-
-bounds-before-own : (c : Else-not-follows) → c.args.before.own < 8
-bounds-before-own c =
-    let sounds : Sound c.args.after c.args.log.now = sound _ _ (sym c.sound.ensures ∙ c.if-not-sound.false) in
-    let follow : Follows c.args.before c.args.after = followed _ _ (sym c.follows.ensures ∙ c.if-not-follows.false) in
-    member _ _ _ (sounds) (follow)
 
 -- what is known behind both tests
 pub slice_bounds-cells-end : goal.slice_bounds-cells-end
@@ -53,13 +46,32 @@ returns c =
     let both = report-made _ _ _ (sounds) (follow) _ _ c.tell-told.ensures.told _ c.tell-told.ensures.words in record { report = both.0; words = both.1 }
 
 pub offset_bounds-before-own : goal.offset_bounds-before-own
-offset_bounds-before-own c = omega (arith, bounds-before-own c)
+offset_bounds-before-own c =
+    let sounds : Sound c.args.after c.args.log.now = sound _ _ (sym c.sound.ensures ∙ c.if-not-sound.false) in
+    let follow : Follows c.args.before c.args.after = followed _ _ (sym c.follows.ensures ∙ c.if-not-follows.false) in
+    let element : c.args.before.own < 8 = member _ _ _ (sounds) (follow) in
+    omega (arith, element)
+
+pub bounds-before-own : goal.bounds-before-own
+bounds-before-own c =
+    let sounds : Sound c.args.after c.args.log.now = sound _ _ (sym c.sound.ensures ∙ c.if-not-sound.false) in
+    let follow : Follows c.args.before c.args.after = followed _ _ (sym c.follows.ensures ∙ c.if-not-follows.false) in
+    let element : c.args.before.own < 8 = member _ _ _ (sounds) (follow) in
+    element
 
 pub offset_bounds-after-own : goal.offset_bounds-after-own
-offset_bounds-after-own c = omega (arith, bounds-before-own (goal.at.offset_bounds-after-own c).Else-not-follows)
+offset_bounds-after-own c =
+    let sounds : Sound c.args.after c.args.log.now = sound _ _ (sym c.sound.ensures ∙ c.if-not-sound.false) in
+    let follow : Follows c.args.before c.args.after = followed _ _ (sym c.follows.ensures ∙ c.if-not-follows.false) in
+    let element : c.args.before.own < 8 = member _ _ _ (sounds) (follow) in
+    omega (arith, element)
 
 pub bounds-after-own : goal.bounds-after-own
-bounds-after-own c = bounds-before-own (goal.at.bounds-after-own c).Else-not-follows
+bounds-after-own c =
+    let sounds : Sound c.args.after c.args.log.now = sound _ _ (sym c.sound.ensures ∙ c.if-not-sound.false) in
+    let follow : Follows c.args.before c.args.after = followed _ _ (sym c.follows.ensures ∙ c.if-not-follows.false) in
+    let element : c.args.before.own < 8 = member _ _ _ (sounds) (follow) in
+    element
 
 pub overflow_sub-from : goal.overflow_sub-from
 overflow_sub-from c =

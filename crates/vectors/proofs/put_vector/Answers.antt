@@ -14,7 +14,7 @@ loop-k-preserved c =
     let l = c.loop-k in
     let put = c.put64 in
     storing-again 8 bytes64 count_item.wide c.args.out.now c.args.at c.args.counts c.args.n l.out l.p l.k l.invariant
-    put.new.0 c.loop-k-test.true (omega (arith, eight)) put.auto.0 put.ensures
+    put.new.out c.loop-k-test.true (omega (arith, eight)) put.auto.out put.ensures
 
 pub returns : goal.returns
 returns c =

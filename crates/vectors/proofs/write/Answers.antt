@@ -57,7 +57,7 @@ put_vector-p-requires-in-loop-o c =
     let size : 8 * c.args.n + 8 * c.args.n * c.args.n ≡ length (all) = size_is c.args.n (kept) (kept-long) c.args.log.now c.args.ballots (ballots-long) in
     let fits : length (all) ≤ length c.args.out.now = omega (arith, size, c.if-out-size.false) in
     let log-counts : base ≡ vector_of (kept) c.args.log.now = log-vector c.args.n c.args.start (counts-long) c.args.log.now c.counts_after-base.result c.counts_after-base.ensures in
-    let room : c.put_vector-p.result + length (versions_bytes (base) (tails_in c.args.n c.args.ballots)) ≤ length c.put_vector-p.new.0 = let put = c.put_vector-p in omega (arith, put.kept.0, put.ensures.0, fits, all-is c.args.n (kept) (kept-long) c.args.log.now c.args.ballots (base) (log-counts)) in
+    let room : c.put_vector-p.result + length (versions_bytes (base) (tails_in c.args.n c.args.ballots)) ≤ length c.put_vector-p.new.out = let put = c.put_vector-p in omega (arith, put.kept.0, put.ensures.0, fits, all-is c.args.n (kept) (kept-long) c.args.log.now c.args.ballots (base) (log-counts)) in
     (c.requires.most, write-room c.loop-o.invariant (base-long) (ballots-long) c.loop-o-test.true (room))
 
 pub loop-o-preserved : goal.loop-o-preserved

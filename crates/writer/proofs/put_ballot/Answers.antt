@@ -50,4 +50,4 @@ put_values-requires c =
     simp length-set (omega (arith, size, full))
 
 pub shape_of-out : goal.shape_of-out
-shape_of-out c = c.put_values.auto.0 ∙ simp length-set
+shape_of-out c = c.put_values.auto.out ∙ simp length-set

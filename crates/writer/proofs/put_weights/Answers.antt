@@ -12,7 +12,7 @@ loop-i-preserved c =
     let l = c.loop-i in
     let put = c.put16 in
     storing-again 2 bytes16 weight_item.wide c.args.out.now c.args.at c.args.weights.now c.args.k l.out l.p l.i l.invariant
-    put.new.0 c.loop-i-test.true c.requires.0 put.auto.0 put.ensures
+    put.new.out c.loop-i-test.true c.requires.0 put.auto.out put.ensures
 
 pub returns : goal.returns
 returns c =
