@@ -219,7 +219,7 @@ module _ (founding : List ℕ) (n : ℕ) (pos : 0 < n) where
   unfolding H.after
   sound-start = record {
     history = [];
-    kept = λ k h. subst Keeps (sym (L.get_d_replicate n k (new_desk founding) (new_desk []) h)) (sym (kept-nil (no_effect founding)));
+    kept = λ k h. subst Keeps (sym (L.get_or-replicate n k (new_desk founding) (new_desk []) h)) (sym (kept-nil (no_effect founding)));
     reached = starts;
     desks = λ k. replicate-cases (Fit n (lengths (founded founding n))) n (new_desk founding) (new_desk []) k (new-fit _ founding) (new-fit _ []);
     sent = λ i m e. let z : ◌≡◌ {A = ℕ} 0 1 = cc in absurd (omega arith);

@@ -114,6 +114,7 @@ code64 codes line h = sym (get_or-take 64 (codes ++ replicate 64 0) line 0 h ∙
 
 all-mem : (t : Household → Bool) (hs : List Household) → all_b t hs ≡ true → (h : Household) → Memᴰ h hs → t h ≡ true
 unfolding all_b
+all-mem t [] all h m = elim m [ ]
 all-mem t (x ∷ xs) all h (Memᴰ.head q) = rw q (both-0 _ _ all)
 all-mem t (x ∷ xs) all h (Memᴰ.tail m) = all-mem t xs (both-1 _ _ all) h m
 

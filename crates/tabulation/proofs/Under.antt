@@ -205,7 +205,7 @@ under-listed c (r ∷ rows) w e = go (eqb r.class c) refl e (under-listed c rows
 -- where the rows rise, its own row's
 pub row_under : {r : Row} {rows : List Row} → Memᴰ r rows → Rising rows → under r.class rows ≡ some r.total
 unfolding under more
-row_under {r} (Memᴰ.head {x = x} {xs = xs} q) h = rw q (first_under x xs h.0)
+row_under {r} (Memᴰ.head {x = x} {xs = xs} q) h = subst (λ (y : Row). under y.class (x ∷ xs) ≡ some y.total) (sym q) (first_under x xs h.0)
 row_under {r} (Memᴰ.tail {x = x} {xs = xs} m) h =
     let own = row_under m h.1 in
     let before : x.class < r.class = ltb-true _ _ (under_all (λ d. ltb x.class d) r.class xs r.total h.0 own) in

@@ -6,11 +6,7 @@ use borrow.Author.Tests.{not-true, not-false}
 use Rattle.lists.specs.Tests.{pick}
 use Rattle.shared_places.specs.FromEnd.{compares}
 use Rattle.acceptance.proofs.Numbers.{Alike, answer-none, not-read, other-count, other-weights, own-message, by-logs}
-use Rattle.acceptance.proofs.check.Goals.{Else-not-same_eight}
 use Rattle.acceptance.proofs.check.Goals as goal
-
-alike : (c : Else-not-same_eight) → let a = c.args in Alike a.n a.weights a.m
-alike c = record { ok = c.if-not-m.false; count = c.if-m-n.false; same-weights = sym c.same_eight.ensures ∙ c.if-not-same_eight.false }
 
 -- numbers that come to no comparison
 early : (compares 7 ≡ false) × (compares 8 ≡ false) × (compares 9 ≡ false)
@@ -29,7 +25,11 @@ returns-then-not-same_eight c =
     (other-weights _ _ _ _ _ _ _ _ c.if-not-m.false c.if-m-n.false (sym c.same_eight.ensures ∙ c.if-not-same_eight.true))
 
 pub returns-then-m-own : goal.returns-then-m-own
-returns-then-m-own c = answer-none _ _ _ _ _ _ _ _ _ 9 c.refused-then-m-own.ensures early.2 (own-message _ _ _ _ _ _ _ _ (alike (goal.at.returns-then-m-own c).Else-not-same_eight) c.if-m-own.true)
+returns-then-m-own c =
+    let alike : let a = c.args in Alike a.n a.weights a.m = record { ok = c.if-not-m.false; count = c.if-m-n.false; same-weights = sym c.same_eight.ensures ∙ c.if-not-same_eight.false } in
+    answer-none _ _ _ _ _ _ _ _ _ 9 c.refused-then-m-own.ensures early.2 (own-message _ _ _ _ _ _ _ _ (alike) c.if-m-own.true)
 
 pub returns : goal.returns
-returns c = by-logs _ _ _ _ _ _ _ _ (alike (goal.at.returns c).Else-not-same_eight) c.if-m-own.false _ c.check.ensures
+returns c =
+    let alike : let a = c.args in Alike a.n a.weights a.m = record { ok = c.if-not-m.false; count = c.if-m-n.false; same-weights = sym c.same_eight.ensures ∙ c.if-not-same_eight.false } in
+    by-logs _ _ _ _ _ _ _ _ (alike) c.if-m-own.false _ c.check.ensures

@@ -4,32 +4,34 @@ use Prim.Native.Nat.{◌-◌, ◌≤◌}
 use native.Mathlib.Omega.{arith}
 use lib.ListN.{length, get_or}
 use Rattle.backward.proofs.Placed.{named-at, Placing, placing-again, placing-ends}
-use Rattle.backward.proofs.answers.Goals.{In-loop-i}
 use Rattle.backward.proofs.answers.Goals as goal
-
-line-most : (c : In-loop-i) → get_or c.args.lines.now c.loop-i.i 0 ≤ 63
-line-most c = named-at c.args.lines.now c.requires c.loop-i.i c.loop-i-test.true
 
 pub loop-i-init : goal.loop-i-init
 loop-i-init c = (search rules, refl)
 
 pub overflow_cast-line : goal.overflow_cast-line
-overflow_cast-line c = omega (arith, line-most (goal.at.overflow_cast-line c).In-loop-i)
+overflow_cast-line c =
+    let line-most : get_or c.args.lines.now c.loop-i.i 0 ≤ 63 = named-at c.args.lines.now c.requires c.loop-i.i c.loop-i-test.true in
+    omega (arith, line-most)
 
 pub bounds-cells-line : goal.bounds-cells-line
-bounds-cells-line c = omega (arith, line-most (goal.at.bounds-cells-line c).After-shared_slice_known-in-loop-i-1)
+bounds-cells-line c =
+    let line-most : get_or c.args.lines.now c.loop-i.i 0 ≤ 63 = named-at c.args.lines.now c.requires c.loop-i.i c.loop-i-test.true in
+    omega (arith, line-most)
 
 pub bounds-codes-line : goal.bounds-codes-line
-bounds-codes-line c = omega (arith, line-most (goal.at.bounds-codes-line c).After-shared_slice_known-in-loop-i-1)
+bounds-codes-line c =
+    let line-most : get_or c.args.lines.now c.loop-i.i 0 ≤ 63 = named-at c.args.lines.now c.requires c.loop-i.i c.loop-i-test.true in
+    omega (arith, line-most)
 
 pub bounds-edits-i : goal.bounds-edits-i
-bounds-edits-i c = omega (arith, c.loop-i-test.taken, c.requires.few)
+bounds-edits-i c = omega (arith, c.loop-i-test.true, c.requires.few)
 
 pub loop-i-preserved : goal.loop-i-preserved
 loop-i-preserved c =
     let a = c.args in
     let l = c.loop-i in
-    (search rules, placing-again a.codes a.cells.now a.lines.now l.edits l.i l.inv.1 c.loop-i-test.taken c.requires.few c.or_kept.result c.or_kept.ensures)
+    (search rules, placing-again a.codes a.cells.now a.lines.now l.edits l.i l.invariant.1 c.loop-i-test.true c.requires.few c.or_kept.result c.or_kept.ensures)
 
 pub returns : goal.returns
 returns c =
@@ -39,7 +41,11 @@ returns c =
     placing-ends a.codes a.cells.now a.lines.now l.edits l.i l.invariant.1 e
 
 pub offset_bounds-cells-line : goal.offset_bounds-cells-line
-offset_bounds-cells-line c = search (rules, line-most (goal.at.offset_bounds-cells-line c).In-loop-i)
+offset_bounds-cells-line c =
+    let line-most : get_or c.args.lines.now c.loop-i.i 0 ≤ 63 = named-at c.args.lines.now c.requires c.loop-i.i c.loop-i-test.true in
+    search (rules, line-most)
 
 pub offset_bounds-codes-line : goal.offset_bounds-codes-line
-offset_bounds-codes-line c = search (rules, line-most (goal.at.offset_bounds-codes-line c).After-shared_slice_known-in-loop-i-1)
+offset_bounds-codes-line c =
+    let line-most : get_or c.args.lines.now c.loop-i.i 0 ≤ 63 = named-at c.args.lines.now c.requires c.loop-i.i c.loop-i-test.true in
+    search (rules, line-most)

@@ -4,30 +4,36 @@ use native.Mathlib.Omega.{arith}
 use lib.ListN.{length, get_or}
 use Rattle.backward.proofs.Cells.{lacking-most, Asking, asking-begins, asking-again, asking-ends}
 use Rattle.backward.proofs.Placed.{named-at}
-use Rattle.backward.proofs.ask.Goals.{After-shared_slice_known-1}
 use Rattle.backward.proofs.ask.Goals as goal
 
--- the line named in this turn
-abbrev line : After-shared_slice_known-1 → ℕ
-line c = get_or c.args.lines.now c.loop-i.i 0
-
-line-most : (c : After-shared_slice_known-1) → line c ≤ 63
-line-most c = named-at c.args.lines.now c.requires c.loop-i.i c.loop-i-test.true
-
 pub overflow_cast-line : goal.overflow_cast-line
-overflow_cast-line c = omega (arith, line-most c)
+overflow_cast-line c =
+    let line : ℕ = get_or c.args.lines.now c.loop-i.i 0 in
+    let line-most : line ≤ 63 = named-at c.args.lines.now c.requires c.loop-i.i c.loop-i-test.true in
+    omega (arith, line-most)
 
 pub bounds-cells-line : goal.bounds-cells-line
-bounds-cells-line c = omega (arith, line-most c)
+bounds-cells-line c =
+    let line : ℕ = get_or c.args.lines.now c.loop-i.i 0 in
+    let line-most : line ≤ 63 = named-at c.args.lines.now c.requires c.loop-i.i c.loop-i-test.true in
+    omega (arith, line-most)
 
 pub overflow_add-left : goal.overflow_add-left
-overflow_add-left c = let a = c.loop-i.invariant in omega (arith, a.count, a.long, lacking-most c.loop-i.cells, a.most (line c))
+overflow_add-left c =
+    let line : ℕ = get_or c.args.lines.now c.loop-i.i 0 in
+    let a = c.loop-i.invariant in omega (arith, a.count, a.long, lacking-most c.loop-i.cells, a.most (line))
 
 pub bounds-cells-line-in-loop-i : goal.bounds-cells-line-in-loop-i
-bounds-cells-line-in-loop-i c = omega (arith, line-most c)
+bounds-cells-line-in-loop-i c =
+    let line : ℕ = get_or c.args.lines.now c.loop-i.i 0 in
+    let line-most : line ≤ 63 = named-at c.args.lines.now c.requires c.loop-i.i c.loop-i-test.true in
+    omega (arith, line-most)
 
 pub loop-i-preserved : goal.loop-i-preserved
-loop-i-preserved c = asking-again c.loop-i.invariant c.loop-i-test.true (omega (arith, line-most c))
+loop-i-preserved c =
+    let line : ℕ = get_or c.args.lines.now c.loop-i.i 0 in
+    let line-most : line ≤ 63 = named-at c.args.lines.now c.requires c.loop-i.i c.loop-i-test.true in
+    asking-again c.loop-i.invariant c.loop-i-test.true (omega (arith, line-most))
 
 pub returns : goal.returns
 returns c = asking-ends c.loop-i.invariant c.loop-i-test.false
@@ -36,7 +42,13 @@ pub loop-i-init : goal.loop-i-init
 loop-i-init c = asking-begins _
 
 pub offset_bounds-cells-line : goal.offset_bounds-cells-line
-offset_bounds-cells-line c = search (rules, line-most c)
+offset_bounds-cells-line c =
+    let line : ℕ = get_or c.args.lines.now c.loop-i.i 0 in
+    let line-most : line ≤ 63 = named-at c.args.lines.now c.requires c.loop-i.i c.loop-i-test.true in
+    search (rules, line-most)
 
 pub offset_bounds-cells-line-in-loop-i : goal.offset_bounds-cells-line-in-loop-i
-offset_bounds-cells-line-in-loop-i c = search (rules, line-most c)
+offset_bounds-cells-line-in-loop-i c =
+    let line : ℕ = get_or c.args.lines.now c.loop-i.i 0 in
+    let line-most : line ≤ 63 = named-at c.args.lines.now c.requires c.loop-i.i c.loop-i-test.true in
+    search (rules, line-most)

@@ -4,26 +4,24 @@ use mathlib.Core.Logic.{◌⊎◌, inl, inr, ⊎_elim}
 use Prim.Native.Nat.{suc, ◌-◌}
 use native.Mathlib.Omega.{arith}
 use Rattle.backward.proofs.Cells.{Walking, walking-begins, walking-again, new-within, walking-ends}
-use Rattle.backward.proofs.walk.Goals.{After-add_edit-left}
 use Rattle.backward.proofs.walk.Goals as goal
 
 pub loop-left-init : goal.loop-left-init
 loop-left-init c = walking-begins c.args.lines.now c.args.words.now c.requires _ c.ask-asked.ensures
 
-before_last : (c : After-add_edit-left) → c.loop-left.end ≡ suc (c.loop-left.end - 1)
-before_last c = omega (arith, c.if-end-eq0.false)
-
 pub overflow_sub-left : goal.overflow_sub-left
 overflow_sub-left c =
+    let before_last : c.loop-left.end ≡ suc (c.loop-left.end - 1) = omega (arith, c.if-end-eq0.false) in
     let l = c.loop-left in
-    new-within c.args.lines.now c.args.words.now c.requires l.left l.cells l.end l.inv (omega (arith, c.loop-left-test.true))
-    (l.end - 1) (before_last c) _ c.add_edit-left.result c.add_edit-left.ensures.0 c.add_edit-left.ensures.1
+    new-within c.args.lines.now c.args.words.now c.requires l.left l.cells l.end l.invariant (omega (arith, c.loop-left-test.true))
+    (l.end - 1) (before_last) _ c.add_edit-left.result c.add_edit-left.ensures.0 c.add_edit-left.ensures.1
 
 pub loop-left-preserved : goal.loop-left-preserved
 loop-left-preserved c =
+    let before_last : c.loop-left.end ≡ suc (c.loop-left.end - 1) = omega (arith, c.if-end-eq0.false) in
     let l = c.loop-left in
-    walking-again c.args.lines.now c.args.words.now c.requires l.left l.cells l.end l.inv (omega (arith, c.loop-left-test.true))
-    (l.end - 1) (before_last c) _ c.add_edit-left.result c.add_edit-left.ensures.0 c.add_edit-left.ensures.1
+    walking-again c.args.lines.now c.args.words.now c.requires l.left l.cells l.end l.invariant (omega (arith, c.loop-left-test.true))
+    (l.end - 1) (before_last) _ c.add_edit-left.result c.add_edit-left.ensures.0 c.add_edit-left.ensures.1
 
 pub returns : goal.returns
 returns c =

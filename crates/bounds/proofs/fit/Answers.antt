@@ -5,39 +5,46 @@ use lib.ListN.{length, take, drop}
 use borrow.Author.Rules.{rules}
 use Rattle.bounds.specs.Bounds.{fits}
 use Rattle.bounds.proofs.Walks.{fit_next, fit-stop, fit-done}
-use Rattle.bounds.proofs.fit.Goals.{Start}
 use Rattle.bounds.proofs.fit.Goals as goal
-
--- n is at most 8, the length of both arrays
-few : (s : Start) → (s.args.n ≤ 8) × (length s.args.lowest ≡ 8) × (length s.args.highest ≡ 8)
-few s = (s.requires, search rules, search rules)
 
 pub loop-i-init : goal.loop-i-init
 loop-i-init c = (search rules, refl)
 
 pub returns-then-lowest-i : goal.returns-then-lowest-i
 returns-then-lowest-i c =
+    let few : (c.args.n ≤ 8) × (length c.args.lowest ≡ 8) × (length c.args.highest ≡ 8) = (c.requires, search rules, search rules) in
     let l = c.loop-i in
-    let f = few (goal.at.returns-then-lowest-i c).Start in
+    let f = few in
     fit-stop c.args.n f.0 c.args.lowest c.args.highest f.1 f.2 _ l.i l.invariant.1 (omega arith) (omega arith)
 
 pub loop-i-preserved : goal.loop-i-preserved
 loop-i-preserved c =
+    let few : (c.args.n ≤ 8) × (length c.args.lowest ≡ 8) × (length c.args.highest ≡ 8) = (c.requires, search rules, search rules) in
     let l = c.loop-i in
-    let f = few (goal.at.loop-i-preserved c).Start in
+    let f = few in
     (omega arith, fit_next c.args.n f.0 c.args.lowest c.args.highest f.1 f.2 _ l.i l.invariant.1 (omega arith) (omega arith))
 
 pub returns : goal.returns
-returns c = let l = c.loop-i in let f = few (goal.at.returns c).Start in fit-done c.args.n f.0 c.args.lowest c.args.highest f.1 f.2 _ l.i l.invariant.1 (omega arith)
+returns c =
+    let few : (c.args.n ≤ 8) × (length c.args.lowest ≡ 8) × (length c.args.highest ≡ 8) = (c.requires, search rules, search rules) in
+    let l = c.loop-i in let f = few in fit-done c.args.n f.0 c.args.lowest c.args.highest f.1 f.2 _ l.i l.invariant.1 (omega arith)
 
 pub offset_bounds-lowest-i : goal.offset_bounds-lowest-i
-offset_bounds-lowest-i c = let f = few (goal.at.offset_bounds-lowest-i c).Start in omega arith
+offset_bounds-lowest-i c =
+    let few : (c.args.n ≤ 8) × (length c.args.lowest ≡ 8) × (length c.args.highest ≡ 8) = (c.requires, search rules, search rules) in
+    let f = few in omega arith
 
 pub bounds-lowest-i : goal.bounds-lowest-i
-bounds-lowest-i c = let f = few (goal.at.bounds-lowest-i c).Start in omega arith
+bounds-lowest-i c =
+    let few : (c.args.n ≤ 8) × (length c.args.lowest ≡ 8) × (length c.args.highest ≡ 8) = (c.requires, search rules, search rules) in
+    let f = few in omega arith
 
 pub offset_bounds-highest-i : goal.offset_bounds-highest-i
-offset_bounds-highest-i c = let f = few (goal.at.offset_bounds-highest-i c).Start in omega arith
+offset_bounds-highest-i c =
+    let few : (c.args.n ≤ 8) × (length c.args.lowest ≡ 8) × (length c.args.highest ≡ 8) = (c.requires, search rules, search rules) in
+    let f = few in omega arith
 
 pub bounds-highest-i : goal.bounds-highest-i
-bounds-highest-i c = let f = few (goal.at.bounds-highest-i c).Start in omega arith
+bounds-highest-i c =
+    let few : (c.args.n ≤ 8) × (length c.args.lowest ≡ 8) × (length c.args.highest ≡ 8) = (c.requires, search rules, search rules) in
+    let f = few in omega arith

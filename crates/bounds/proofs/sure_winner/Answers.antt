@@ -8,12 +8,7 @@ use Rattle.protocol.specs.Vote.{supported, first_that}
 use Rattle.tallies.specs.Tallies.{winner_is, votes_in}
 use Rattle.bounds.specs.Bounds.{wins_worst, sure_winner}
 use Rattle.bounds.proofs.Walks.{sure_next, sure-stop, sure-done}
-use Rattle.bounds.proofs.sure_winner.Goals.{Start}
 use Rattle.bounds.proofs.sure_winner.Goals as goal
-
--- n is at most 8, the length of every array
-few : (s : Start) → (s.args.n ≤ 8) × (length s.args.votes ≡ 8) × (length s.args.lowest ≡ 8) × (length s.args.highest ≡ 8)
-few s = (s.requires.0, search rules, search rules, search rules)
 
 pub loop-i-init : goal.loop-i-init
 unfolding sure_winner
@@ -21,30 +16,37 @@ loop-i-init c = (search rules, refl)
 
 pub returns-then-wins_worst : goal.returns-then-wins_worst
 returns-then-wins_worst c =
+    let few : (c.args.n ≤ 8) × (length c.args.votes ≡ 8) × (length c.args.lowest ≡ 8) × (length c.args.highest ≡ 8) = (c.requires.0, search rules, search rules, search rules) in
     let l = c.loop-i in
     let a = c.args in
-    let f = few (goal.at.returns-then-wins_worst c).Start in
+    let f = few in
     sure-stop a.n f.0 a.lowest a.highest f.2 f.3 a.votes f.1 _ _ l.i l.invariant.1 (omega arith) _ c.wins_worst.ensures c.if-wins_worst.true
 
 pub loop-i-preserved : goal.loop-i-preserved
 loop-i-preserved c =
+    let few : (c.args.n ≤ 8) × (length c.args.votes ≡ 8) × (length c.args.lowest ≡ 8) × (length c.args.highest ≡ 8) = (c.requires.0, search rules, search rules, search rules) in
     let l = c.loop-i in
     let a = c.args in
-    let f = few (goal.at.loop-i-preserved c).Start in
+    let f = few in
     (omega arith, sure_next a.n f.0 a.lowest a.highest f.2 f.3 a.votes f.1 _ _ l.i l.invariant.1 (omega arith) _ c.wins_worst.ensures c.if-wins_worst.false)
 
 pub returns : goal.returns
 returns c =
+    let few : (c.args.n ≤ 8) × (length c.args.votes ≡ 8) × (length c.args.lowest ≡ 8) × (length c.args.highest ≡ 8) = (c.requires.0, search rules, search rules, search rules) in
     let l = c.loop-i in
     let a = c.args in
-    let f = few (goal.at.returns c).Start in
+    let f = few in
     sure-done a.n f.0 a.lowest a.highest f.2 f.3 a.votes f.1 _ _ l.i l.invariant.1 (omega arith)
 
 pub offset_bounds-votes-i : goal.offset_bounds-votes-i
-offset_bounds-votes-i c = let f = few (goal.at.offset_bounds-votes-i c).Start in omega arith
+offset_bounds-votes-i c =
+    let few : (c.args.n ≤ 8) × (length c.args.votes ≡ 8) × (length c.args.lowest ≡ 8) × (length c.args.highest ≡ 8) = (c.requires.0, search rules, search rules, search rules) in
+    let f = few in omega arith
 
 pub bounds-votes-i : goal.bounds-votes-i
-bounds-votes-i c = let f = few (goal.at.bounds-votes-i c).Start in omega arith
+bounds-votes-i c =
+    let few : (c.args.n ≤ 8) × (length c.args.votes ≡ 8) × (length c.args.lowest ≡ 8) × (length c.args.highest ≡ 8) = (c.requires.0, search rules, search rules, search rules) in
+    let f = few in omega arith
 
 pub wins_worst-requires : goal.wins_worst-requires
 wins_worst-requires c = c.requires

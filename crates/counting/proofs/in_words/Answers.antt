@@ -9,7 +9,7 @@ pub loop-i-init : goal.loop-i-init
 loop-i-init c = (search rules, tail-first c.args.words.now)
 
 pub one_more-next-requires : goal.one_more-next-requires
-one_more-next-requires c κs k = let l = c.loop-i in omega (arith, tail-room c.args.words.now l.cells l.i l.invariant.1 k, c.requires)
+one_more-next-requires c k = let l = c.loop-i in omega (arith, tail-room c.args.words.now l.cells l.i l.invariant.1 k, c.requires)
 
 pub loop-i-preserved : goal.loop-i-preserved
 loop-i-preserved c =

@@ -7,11 +7,7 @@ use Rattle.lists.specs.Tests.{all_b, both}
 use Rattle.lists.proofs.Walk.{AllWith, with-next, with-done}
 use Rattle.ballots.specs.Ballots.{off_end}
 use Rattle.eight_ballots.specs.Fours.{entry_cells}
-use Rattle.eight_ballots.proofs.eight_entries.Goals.{Start}
 use Rattle.eight_ballots.proofs.eight_entries.Goals as goal
-
-eight : (s : Start) → length s.args.all ≡ 8
-eight s = search rules
 
 pub loop-i-init : goal.loop-i-init
 unfolding both
@@ -19,8 +15,11 @@ loop-i-init c = (search rules, refl)
 
 pub loop-i-preserved : goal.loop-i-preserved
 loop-i-preserved c =
+    let eight : length c.args.all ≡ 8 = search rules in
     let l = c.loop-i in
-    (search rules, with-next (entry_cells c.args.n) off_end c.args.all l.good l.i l.invariant.1 (omega (arith, eight (goal.at.loop-i-preserved c).Start)) _ c.entry_cells-good.ensures)
+    (search rules, with-next (entry_cells c.args.n) off_end c.args.all l.good l.i l.invariant.1 (omega (arith, eight)) _ c.entry_cells-good.ensures)
 
 pub returns : goal.returns
-returns c = let l = c.loop-i in with-done (entry_cells c.args.n) off_end c.args.all l.good l.i l.invariant.1 (omega (arith, eight (goal.at.returns c).Start))
+returns c =
+    let eight : length c.args.all ≡ 8 = search rules in
+    let l = c.loop-i in with-done (entry_cells c.args.n) off_end c.args.all l.good l.i l.invariant.1 (omega (arith, eight))

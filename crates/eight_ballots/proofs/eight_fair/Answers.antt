@@ -8,11 +8,7 @@ use Rattle.lists.proofs.Tests.{all-at}
 use Rattle.lists.proofs.Walk.{AllWith, with-next, with-done}
 use Rattle.ballots.specs.Ballots.{off_end}
 use Rattle.eight_ballots.specs.Fours.{fair_tail, padded_entries}
-use Rattle.eight_ballots.proofs.eight_fair.Goals.{Start}
 use Rattle.eight_ballots.proofs.eight_fair.Goals as goal
-
-eight : (s : Start) → length s.args.all ≡ 8
-eight s = search rules
 
 pub loop-i-init : goal.loop-i-init
 unfolding both
@@ -20,12 +16,16 @@ loop-i-init c = (search rules, refl)
 
 pub loop-i-preserved : goal.loop-i-preserved
 loop-i-preserved c =
+    let eight : length c.args.all ≡ 8 = search rules in
     let l = c.loop-i in
-    (search rules, with-next (fair_tail c.args.n) off_end c.args.all l.good l.i l.invariant.1 (omega (arith, eight (goal.at.loop-i-preserved c).Start)) _ c.fair_tail-good.ensures)
+    (search rules, with-next (fair_tail c.args.n) off_end c.args.all l.good l.i l.invariant.1 (omega (arith, eight)) _ c.fair_tail-good.ensures)
 
 pub fair_tail-good-requires : goal.fair_tail-good-requires
 fair_tail-good-requires c =
-    (c.requires.0, (c.requires.1.0, all-at (padded_entries c.args.n) off_end c.args.all c.loop-i.i c.requires.1.1 (omega (arith, eight (goal.at.fair_tail-good-requires c).Start))))
+    let eight : length c.args.all ≡ 8 = search rules in
+    (c.requires.0, (c.requires.1.0, all-at (padded_entries c.args.n) off_end c.args.all c.loop-i.i c.requires.1.1 (omega (arith, eight))))
 
 pub returns : goal.returns
-returns c = let l = c.loop-i in with-done (fair_tail c.args.n) off_end c.args.all l.good l.i l.invariant.1 (omega (arith, eight (goal.at.returns c).Start))
+returns c =
+    let eight : length c.args.all ≡ 8 = search rules in
+    let l = c.loop-i in with-done (fair_tail c.args.n) off_end c.args.all l.good l.i l.invariant.1 (omega (arith, eight))

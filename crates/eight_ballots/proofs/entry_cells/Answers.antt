@@ -7,11 +7,7 @@ use Rattle.lists.specs.Tests.{all_b, both}
 use Rattle.lists.proofs.Walk.{AllWith, with-next, with-done}
 use Rattle.protocol.specs.Entry.{is_entry}
 use Rattle.eight_ballots.proofs.Fours.{all-cells}
-use Rattle.eight_ballots.proofs.entry_cells.Goals.{Start}
 use Rattle.eight_ballots.proofs.entry_cells.Goals as goal
-
-full : (s : Start) → length s.args.b.cells ≡ 32
-full s = search rules
 
 pub loop-i-init : goal.loop-i-init
 unfolding both
@@ -19,10 +15,12 @@ loop-i-init c = (search rules, refl)
 
 pub loop-i-preserved : goal.loop-i-preserved
 loop-i-preserved c =
+    let full : length c.args.b.cells ≡ 32 = search rules in
     let l = c.loop-i in
-    (search rules, with-next (is_entry c.args.n) 0 c.args.b.cells l.good l.i l.invariant.1 (omega (arith, full (goal.at.loop-i-preserved c).Start)) _ c.is_entry-good.ensures)
+    (search rules, with-next (is_entry c.args.n) 0 c.args.b.cells l.good l.i l.invariant.1 (omega (arith, full)) _ c.is_entry-good.ensures)
 
 pub returns : goal.returns
 returns c =
+    let full : length c.args.b.cells ≡ 32 = search rules in
     let l = c.loop-i in
-    with-done (is_entry c.args.n) 0 c.args.b.cells l.good l.i l.invariant.1 (omega (arith, full (goal.at.returns c).Start)) ∙ all-cells (is_entry c.args.n) c.args.b (full (goal.at.returns c).Start)
+    with-done (is_entry c.args.n) 0 c.args.b.cells l.good l.i l.invariant.1 (omega (arith, full)) ∙ all-cells (is_entry c.args.n) c.args.b (full)

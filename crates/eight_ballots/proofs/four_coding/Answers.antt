@@ -13,7 +13,6 @@ use Rattle.eight_ballots.specs.Fours.{coding_cells}
 use Rattle.ballots.specs.declared.Ballot.{Ballot}
 use Rattle.eight_ballots.proofs.Fours.{all-cells, four-tests}
 use Rattle.eight_ballots.proofs.four_coding.Invariants.{Joined}
-use Rattle.eight_ballots.proofs.four_coding.Goals.{Start}
 use Rattle.eight_ballots.proofs.four_coding.Goals as goal
 
 none_yet : 0 ≤ 32
@@ -23,16 +22,14 @@ begins : (n : ℕ) (cells : List ℕ) → Joined n cells 0 0
 unfolding both
 begins n cells = rw no-carry-zero
 
-full : (s : Start) → (length s.args.a.cells ≡ 32) × ((length s.args.b.cells ≡ 32) × ((length s.args.c.cells ≡ 32) × (length s.args.d.cells ≡ 32)))
-full s = search rules
-
 next : (n : ℕ) (cells : List ℕ) (bits i v : ℕ) → length cells ≡ 32 → i < 32 → Joined n cells bits i → no_carry v ≡ is_coding n (get_or cells i 0) → Joined n cells (bit_or bits v) (i + 1)
 next n cells bits i v full h inv e = raised-next cells bits i v (omega arith) n inv e
 
 pub loop-i-preserved : goal.loop-i-preserved
 loop-i-preserved c =
+    let full : (length c.args.a.cells ≡ 32) × ((length c.args.b.cells ≡ 32) × ((length c.args.c.cells ≡ 32) × (length c.args.d.cells ≡ 32))) = search rules in
     let l = c.loop-i in
-    let f = full (goal.at.loop-i-preserved c).Start in
+    let f = full in
     let h = c.loop-i-test.true in
     let v = l.invariant.1 in (
       omega (arith, h),
@@ -51,8 +48,9 @@ done n b bits i h e inv = with-done (is_coding n) 0 b.cells (no_carry bits) i in
 
 pub returns : goal.returns
 returns c =
+    let full : (length c.args.a.cells ≡ 32) × ((length c.args.b.cells ≡ 32) × ((length c.args.c.cells ≡ 32) × (length c.args.d.cells ≡ 32))) = search rules in
     let l = c.loop-i in
-    let f = full (goal.at.returns c).Start in
+    let f = full in
     let v = l.invariant.1 in
     let e = c.loop-i-test.false in
     four-tests _ _ _ _ _ _ _ _ _ (c.no_carry.ensures ∙ done _ _ _ l.i f.0 e v.0) (c.no_carry-2.ensures ∙ done _ _ _ l.i f.1.0 e v.1.0)

@@ -6,7 +6,6 @@ use Prim.Native.Nat.{ℕ, ◌-◌, ◌≤◌}
 use lib.ListN.{length}
 use Rattle.eight_ballots.specs.Fours.{mask_words, unused_zero}
 use Rattle.eight_ballots.proofs.Fours.{Unused, four-none, four-tests, mask-length, masked-next, unused-begins, unused-ends, unused-none}
-use Rattle.eight_ballots.proofs.four_unused.Goals.{Start}
 use Rattle.eight_ballots.proofs.four_unused.Goals as goal
 
 -- the facts on numbers, away from the places of the code
@@ -16,39 +15,32 @@ none_yet = omega arith
 at_most : (len : ℕ) → 32 - len ≤ 32
 at_most len = omega arith
 
-full : (s : Start) → (length s.args.a.cells ≡ 32) × ((length s.args.b.cells ≡ 32) × ((length s.args.c.cells ≡ 32) × (length s.args.d.cells ≡ 32)))
-full s = search rules
-
 pub returns-then-j-k : goal.returns-then-j-k
 returns-then-j-k c =
+    let full : (length c.args.a.cells ≡ 32) × ((length c.args.b.cells ≡ 32) × ((length c.args.c.cells ≡ 32) × (length c.args.d.cells ≡ 32))) = search rules in
     let a = c.args in
-    let f = full (goal.at.returns-then-j-k c).Start in
+    let f = full in
     let t = four-none (32 - a.a.len) (32 - a.b.len) (32 - a.c.len) (32 - a.d.len) c.if-j-k.true in
     four-tests unused_zero _ _ _ _ true true true true (unused-none _ f.0 t.0) (unused-none _ f.1.0 t.1.0)
     (unused-none _ f.1.1.0 t.1.1.0) (unused-none _ f.1.1.1 t.1.1.1)
 
--- the masks are those that the walk asks for
-masks-are : (s : Start) → s.args.masks.now ≡ mask_words
-masks-are s = s.requires.0
-
-long : (s : Start) → length s.args.masks.now ≡ 64
-long s = ap length (masks-are s) ∙ mask-length
-
 pub loop-i-preserved : goal.loop-i-preserved
 loop-i-preserved c =
+    let full : (length c.args.a.cells ≡ 32) × ((length c.args.b.cells ≡ 32) × ((length c.args.c.cells ≡ 32) × (length c.args.d.cells ≡ 32))) = search rules in
+    let masks-are : c.args.masks.now ≡ mask_words = c.requires.0 in
     let l = c.loop-i in
-    let f = full (goal.at.loop-i-preserved c).Start in
+    let f = full in
     let h = c.loop-i-test.true in
     let a = c.args in
     let v = l.invariant.1 in (
       omega (arith, h),
       (
-        masked-next _ _ _ l.p l.i _ (masks-are (goal.at.loop-i-preserved c).Start) f.0 h (at_most a.a.len) v.0 c.masked-p.ensures,
+        masked-next _ _ _ l.p l.i _ (masks-are) f.0 h (at_most a.a.len) v.0 c.masked-p.ensures,
         (
-          masked-next _ _ _ l.q l.i _ (masks-are (goal.at.loop-i-preserved c).Start) f.1.0 h (at_most a.b.len) v.1.0 c.masked-q.ensures,
+          masked-next _ _ _ l.q l.i _ (masks-are) f.1.0 h (at_most a.b.len) v.1.0 c.masked-q.ensures,
           (
-            masked-next _ _ _ l.r l.i _ (masks-are (goal.at.loop-i-preserved c).Start) f.1.1.0 h (at_most a.c.len) v.1.1.0 c.masked-r.ensures,
-            masked-next _ _ _ l.s l.i _ (masks-are (goal.at.loop-i-preserved c).Start) f.1.1.1 h (at_most a.d.len) v.1.1.1 c.masked-s.ensures,
+            masked-next _ _ _ l.r l.i _ (masks-are) f.1.1.0 h (at_most a.c.len) v.1.1.0 c.masked-r.ensures,
+            masked-next _ _ _ l.s l.i _ (masks-are) f.1.1.1 h (at_most a.d.len) v.1.1.1 c.masked-s.ensures,
           ),
         ),
       ),
@@ -56,8 +48,9 @@ loop-i-preserved c =
 
 pub returns : goal.returns
 returns c =
+    let full : (length c.args.a.cells ≡ 32) × ((length c.args.b.cells ≡ 32) × ((length c.args.c.cells ≡ 32) × (length c.args.d.cells ≡ 32))) = search rules in
     let l = c.loop-i in
-    let f = full (goal.at.returns c).Start in
+    let f = full in
     let few = c.requires.1 in
     let e = c.loop-i-test.false in
     let v = l.invariant.1 in
@@ -99,7 +92,10 @@ pub offset_bounds-masks-j : goal.offset_bounds-masks-j
 offset_bounds-masks-j c = omega (arith, c.loop-i-test.true)
 
 pub bounds-masks-j : goal.bounds-masks-j
-bounds-masks-j c = omega (arith, c.loop-i-test.true, long (goal.at.bounds-masks-j c).Start)
+bounds-masks-j c =
+    let masks-are : c.args.masks.now ≡ mask_words = c.requires.0 in
+    let long : length c.args.masks.now ≡ 64 = ap length (masks-are) ∙ mask-length in
+    omega (arith, c.loop-i-test.true, long)
 
 pub offset_bounds-x-i : goal.offset_bounds-x-i
 offset_bounds-x-i c = omega (arith, c.loop-i-test.true)
@@ -114,7 +110,10 @@ pub offset_bounds-masks-k : goal.offset_bounds-masks-k
 offset_bounds-masks-k c = omega (arith, c.loop-i-test.true)
 
 pub bounds-masks-k : goal.bounds-masks-k
-bounds-masks-k c = omega (arith, c.loop-i-test.true, long (goal.at.bounds-masks-k c).Start)
+bounds-masks-k c =
+    let masks-are : c.args.masks.now ≡ mask_words = c.requires.0 in
+    let long : length c.args.masks.now ≡ 64 = ap length (masks-are) ∙ mask-length in
+    omega (arith, c.loop-i-test.true, long)
 
 pub offset_bounds-y-i : goal.offset_bounds-y-i
 offset_bounds-y-i c = omega (arith, c.loop-i-test.true)
@@ -129,7 +128,10 @@ pub offset_bounds-masks-l : goal.offset_bounds-masks-l
 offset_bounds-masks-l c = omega (arith, c.loop-i-test.true)
 
 pub bounds-masks-l : goal.bounds-masks-l
-bounds-masks-l c = omega (arith, c.loop-i-test.true, long (goal.at.bounds-masks-l c).Start)
+bounds-masks-l c =
+    let masks-are : c.args.masks.now ≡ mask_words = c.requires.0 in
+    let long : length c.args.masks.now ≡ 64 = ap length (masks-are) ∙ mask-length in
+    omega (arith, c.loop-i-test.true, long)
 
 pub offset_bounds-z-i : goal.offset_bounds-z-i
 offset_bounds-z-i c = omega (arith, c.loop-i-test.true)
@@ -144,7 +146,10 @@ pub offset_bounds-masks-m : goal.offset_bounds-masks-m
 offset_bounds-masks-m c = omega (arith, c.loop-i-test.true)
 
 pub bounds-masks-m : goal.bounds-masks-m
-bounds-masks-m c = omega (arith, c.loop-i-test.true, long (goal.at.bounds-masks-m c).Start)
+bounds-masks-m c =
+    let masks-are : c.args.masks.now ≡ mask_words = c.requires.0 in
+    let long : length c.args.masks.now ≡ 64 = ap length (masks-are) ∙ mask-length in
+    omega (arith, c.loop-i-test.true, long)
 
 pub overflow_step-i : goal.overflow_step-i
 overflow_step-i c = omega (arith, c.loop-i-test.true)

@@ -6,11 +6,7 @@ use lib.ListN.{length}
 use Rattle.lists.specs.Tests.{all_b, both}
 use Rattle.lists.proofs.Walk.{AllWith, with-next, with-done}
 use Rattle.ballots.specs.Ballots.{empty_ballot, off_end}
-use Rattle.eight_ballots.proofs.no_ballots.Goals.{Start}
 use Rattle.eight_ballots.proofs.no_ballots.Goals as goal
-
-eight : (s : Start) → length s.args.all ≡ 8
-eight s = search rules
 
 pub loop-i-init : goal.loop-i-init
 unfolding both
@@ -18,8 +14,11 @@ loop-i-init c = (search rules, refl)
 
 pub loop-i-preserved : goal.loop-i-preserved
 loop-i-preserved c =
+    let eight : length c.args.all ≡ 8 = search rules in
     let l = c.loop-i in
-    (search rules, with-next empty_ballot off_end c.args.all l.none l.i l.invariant.1 (omega (arith, eight (goal.at.loop-i-preserved c).Start)) _ c.is_none-none.ensures)
+    (search rules, with-next empty_ballot off_end c.args.all l.none l.i l.invariant.1 (omega (arith, eight)) _ c.is_none-none.ensures)
 
 pub returns : goal.returns
-returns c = let l = c.loop-i in with-done empty_ballot off_end c.args.all l.none l.i l.invariant.1 (omega (arith, eight (goal.at.returns c).Start))
+returns c =
+    let eight : length c.args.all ≡ 8 = search rules in
+    let l = c.loop-i in with-done empty_ballot off_end c.args.all l.none l.i l.invariant.1 (omega (arith, eight))

@@ -20,7 +20,7 @@ loop-i-preserved c =
     let l = c.loop-i in
     let a = c.args in
     let e = entry-step l.at a.rest.now c.read_entry-step.result (omega arith) c.read_entry-step.ensures in
-    (omega arith, (omega arith, (simp length-set l.inv.1.1.0, fill-turn l.part _ _ l.at a.rest.now _ _ c.loop-i-test.true e.0 e.1 ∙ l.inv.1.1.1)))
+    (omega arith, (omega arith, (simp length-set l.invariant.1.1.0, fill-turn l.part _ _ l.at a.rest.now _ _ c.loop-i-test.true e.0 e.1 ∙ l.invariant.1.1.1)))
 
 pub shape_of-part : goal.shape_of-part
 shape_of-part c = c.loop-i.invariant.1.1.0

@@ -11,10 +11,10 @@ drop_first-remains-requires c =
 pub take_aligned-next-requires : goal.take_aligned-next-requires
 take_aligned-next-requires c =
     let a = c.args in
-    aligned a.log.now a.state a.kept a.own a.rest.now a.m c.requires _ _ c.later-ahead.ensures c.later-behind.ensures _ c.drop_first-remains.ensures.1
+    aligned a.log.now a.state a.kept a.own a.rest.now a.m c.requires _ _ c.later-ahead.ensures c.later-behind.ensures _ c.drop_first-remains.ensures.words
 
 pub returns : goal.returns
 returns c =
-    let a = c.args in
-    intaken a.log.now a.state a.kept a.own a.rest.now a.m c.requires _ _ c.later-ahead.ensures c.later-behind.ensures _ c.drop_first-remains.ensures.1
-    _ c.drop_first-remains.ensures.0 _ _ c.take_aligned-next.ensures.0 c.take_aligned-next.ensures.1
+    let both = let a = c.args in
+    intaken a.log.now a.state a.kept a.own a.rest.now a.m c.requires _ _ c.later-ahead.ensures c.later-behind.ensures _ c.drop_first-remains.ensures.words
+    _ c.drop_first-remains.ensures.kept _ _ c.take_aligned-next.ensures.state c.take_aligned-next.ensures.words in record { made = both.0; words = both.1 }

@@ -17,32 +17,18 @@ use Rattle.protocol.specs.Issue.{refusal_at}
 use Rattle.protocol.specs.Limits.{length_limit}
 use Rattle.protocol_laws.proofs.Counts.{count-of}
 use Rattle.ballots.specs.Ballots.{tail_of}
-use Rattle.issuance.proofs.refusal.Goals.{After-in_words-counts, Else-held-len-eq-PATH, Else-not-proper, Start}
 use Rattle.issuance.proofs.refusal.Goals as goal
-
-full : (s : Start) → length s.args.b.cells ≡ 32
-full s = search rules
-
-taken : (s : Start) → length (tail_of s.args.b) ≡ s.args.b.len
-taken s = length-take-le s.args.b.len s.args.b.cells (omega (arith, full s, s.requires.1.1.1.1.1))
 
 pub returns-then-not-proper : goal.returns-then-not-proper
 unfolding refusal_at pick
 returns-then-not-proper c = simp (sym c.proper.ensures ∙ c.if-not-proper.true)
 
--- the test of the line and the code that was passed
-limits : (c : Else-not-proper) → let a = c.args in proper a.n a.line a.code ≡ true
-limits c = sym c.proper.ensures ∙ c.if-not-proper.false
-
 pub returns-then-held-len-eq-PATH : goal.returns-then-held-len-eq-PATH
 unfolding refusal_at pick
 returns-then-held-len-eq-PATH c =
+    let limits : let a = c.args in proper a.n a.line a.code ≡ true = sym c.proper.ensures ∙ c.if-not-proper.false in
     let a = c.args in
-    simp (limits (goal.at.returns-then-held-len-eq-PATH c).Else-not-proper, eq-eqb (a.held + a.b.len) 1024 c.if-held-len-eq-PATH.true)
-
--- room for the held part's path
-room : (c : Else-held-len-eq-PATH) → let a = c.args in eqb (a.held + a.b.len) 1024 ≡ false
-room c = let a = c.args in ne_eqb (a.held + a.b.len) 1024 c.if-held-len-eq-PATH.false
+    simp (limits, eq-eqb (a.held + a.b.len) 1024 c.if-held-len-eq-PATH.true)
 
 -- the settled length is at most 2^63, so the sum fits 64 bits
 pub overflow_add-settled : goal.overflow_add-settled
@@ -52,40 +38,47 @@ overflow_add-settled c = omega (arith, c.requires)
 pub returns-then-settled-len : goal.returns-then-settled-len
 unfolding refusal_at length_limit pick
 returns-then-settled-len c =
+    let limits : let a = c.args in proper a.n a.line a.code ≡ true = sym c.proper.ensures ∙ c.if-not-proper.false in
+    let room : let a = c.args in eqb (a.held + a.b.len) 1024 ≡ false = let a = c.args in ne_eqb (a.held + a.b.len) 1024 c.if-held-len-eq-PATH.false in
     let a = c.args in
-    simp (limits (goal.at.returns-then-settled-len c).Else-not-proper, room (goal.at.returns-then-settled-len c).Else-held-len-eq-PATH, eq-eqb (a.settled + a.b.len) 9223372036854775808 c.if-settled-len.true)
-
--- what the first tests found
-passed : (c : After-in_words-counts) → let a = c.args in (k : ℕ) → refusal_at a.n a.line a.code a.settled a.held a.b.len k ≡ pick (leb (part a.n) k) 11 0
-unfolding refusal_at length_limit pick
-passed c k =
-    let a = c.args in
-    simp (limits c.before.before.before.before.before, room c.before.before.before.before, ne_eqb (a.settled + a.b.len) 9223372036854775808 c.if-settled-len.left)
-
--- the own office's count
-own-count : (c : After-in_words-counts) → let a = c.args in get_or c.in_words-counts.result a.own 0 ≡ count_in a.own (tail_of a.b)
-own-count c = let a = c.args in ap (λ (l : List ℕ). get_or l a.own 0) c.in_words-counts.ensures ∙ count-of 8 (tail_of a.b) a.own c.requires.1.1.0
+    simp (limits, room, eq-eqb (a.settled + a.b.len) 9223372036854775808 c.if-settled-len.true)
 
 pub returns-then-counts-own : goal.returns-then-counts-own
-unfolding pick
+unfolding pick refusal_at length_limit
 returns-then-counts-own c =
+    let limits : let a = c.args in proper a.n a.line a.code ≡ true = sym c.proper.ensures ∙ c.if-not-proper.false in
+    let room : let a = c.args in eqb (a.held + a.b.len) 1024 ≡ false = let a = c.args in ne_eqb (a.held + a.b.len) 1024 c.if-held-len-eq-PATH.false in
+    let passed : let a = c.args in (k : ℕ) → refusal_at a.n a.line a.code a.settled a.held a.b.len k ≡ pick (leb (part a.n) k) 11 0 = λ k. let a = c.args in simp (limits, room, ne_eqb (a.settled + a.b.len) 9223372036854775808 c.if-settled-len.false) in
+    let own-count : let a = c.args in get_or c.in_words-counts.result a.own 0 ≡ count_in a.own (tail_of a.b) = let a = c.args in ap (λ (l : List ℕ). get_or l a.own 0) c.in_words-counts.ensures ∙ count-of 8 (tail_of a.b) a.own c.requires.1.1.0 in
     let a = c.args in
-    sym (passed (goal.at.returns-then-counts-own c).After-in_words-counts _ ∙ rw (le-leb (32 / a.n) (count_in a.own (tail_of a.b)) (omega (arith, own-count (goal.at.returns-then-counts-own c).After-in_words-counts, c.if-counts-own.true))))
+    sym (passed _ ∙ rw (le-leb (32 / a.n) (count_in a.own (tail_of a.b)) (omega (arith, own-count, c.if-counts-own.true))))
 
 pub returns : goal.returns
-unfolding pick
+unfolding pick refusal_at length_limit
 returns c =
+    let limits : let a = c.args in proper a.n a.line a.code ≡ true = sym c.proper.ensures ∙ c.if-not-proper.false in
+    let room : let a = c.args in eqb (a.held + a.b.len) 1024 ≡ false = let a = c.args in ne_eqb (a.held + a.b.len) 1024 c.if-held-len-eq-PATH.false in
+    let passed : let a = c.args in (k : ℕ) → refusal_at a.n a.line a.code a.settled a.held a.b.len k ≡ pick (leb (part a.n) k) 11 0 = λ k. let a = c.args in simp (limits, room, ne_eqb (a.settled + a.b.len) 9223372036854775808 c.if-settled-len.false) in
+    let own-count : let a = c.args in get_or c.in_words-counts.result a.own 0 ≡ count_in a.own (tail_of a.b) = let a = c.args in ap (λ (l : List ℕ). get_or l a.own 0) c.in_words-counts.ensures ∙ count-of 8 (tail_of a.b) a.own c.requires.1.1.0 in
     let a = c.args in
-    sym (passed (goal.at.returns c).After-in_words-counts _ ∙ rw (lt-leb (32 / a.n) (count_in a.own (tail_of a.b)) (omega (arith, own-count (goal.at.returns c).After-in_words-counts, c.if-counts-own.false))))
+    sym (passed _ ∙ rw (lt-leb (32 / a.n) (count_in a.own (tail_of a.b)) (omega (arith, own-count, c.if-counts-own.false))))
 
 pub overflow_cast-n : goal.overflow_cast-n
 overflow_cast-n c = omega (arith, c.requires.1.0)
 
 pub slice_bounds-cells-end : goal.slice_bounds-cells-end
-slice_bounds-cells-end c = omega (arith, full (goal.at.slice_bounds-cells-end c).Start, c.requires.1.1.1.1.1)
+slice_bounds-cells-end c =
+    let full : length c.args.b.cells ≡ 32 = search rules in
+    omega (arith, full, c.requires.1.1.1.1.1)
 
 pub slice_bounds-in_words-end : goal.slice_bounds-in_words-end
-slice_bounds-in_words-end c = sym (taken (goal.at.slice_bounds-in_words-end c).Start)
+slice_bounds-in_words-end c =
+    let full : length c.args.b.cells ≡ 32 = search rules in
+    let taken : length (tail_of c.args.b) ≡ c.args.b.len = length-take-le c.args.b.len c.args.b.cells (omega (arith, full, c.requires.1.1.1.1.1)) in
+    sym (taken)
 
 pub in_words-counts-requires : goal.in_words-counts-requires
-in_words-counts-requires c = omega (arith, taken (goal.at.in_words-counts-requires c).Start, c.requires.1.1.1.1.1)
+in_words-counts-requires c =
+    let full : length c.args.b.cells ≡ 32 = search rules in
+    let taken : length (tail_of c.args.b) ≡ c.args.b.len = length-take-le c.args.b.len c.args.b.cells (omega (arith, full, c.requires.1.1.1.1.1)) in
+    omega (arith, taken, c.requires.1.1.1.1.1)

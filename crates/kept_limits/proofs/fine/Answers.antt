@@ -14,56 +14,43 @@ use Rattle.lists.proofs.Tests.{all_of}
 use Rattle.protocol.specs.Limits.{is_weight, total}
 use Rattle.summary.specs.Summary.{same_summary}
 use Rattle.kept.proofs.Facts.{kept-not, fine-nothing, fine-some}
-use Rattle.kept_limits.proofs.fine.Goals.{Else-not-zero_from, Start}
 use Rattle.kept_limits.proofs.fine.Goals as goal
 
-weighed : (s : Start) → all_b is_weight s.args.kept.summary.present ≡ true
-unfolding is_weight
-weighed s =
-    let ws = s.args.kept.summary.present in
-    all_of is_weight 0 ws (λ i h. let f : Fits w16 (get_or ws i 0) = search rules in lt-ltb (get_or ws i 0) 65536 (omega arith))
-
-eight : (s : Start) → length s.args.kept.summary.present ≡ 8
-eight s = search rules
-
-lines : (s : Start) → length s.args.kept.summary.codes ≡ 64
-lines s = search rules
-
-offices : (s : Start) → length s.args.kept.counts ≡ 8
-offices s = search rules
-
 pub returns-then-not-add_up : goal.returns-then-not-add_up
-returns-then-not-add_up c =
-    kept-not c.args.n c.args.founding c.args.kept (λ F. true≢false (sym (eq-eqb _ _ F.add-up) ∙ sym c.add_up.ensures ∙ c.if-not-add_up.true))
+returns-then-not-add_up c = kept-not c.args.n c.args.founding c.args.kept (λ F. true≢false (sym (eq-eqb _ _ F.add-up) ∙ sym c.add_up.ensures ∙ c.if-not-add_up.true))
 
 pub returns-then-not-no_counts_from : goal.returns-then-not-no_counts_from
-returns-then-not-no_counts_from c =
-    kept-not c.args.n c.args.founding c.args.kept (λ F. true≢false (sym F.rest-counts ∙ sym c.no_counts_from.ensures ∙ c.if-not-no_counts_from.true))
+returns-then-not-no_counts_from c = kept-not c.args.n c.args.founding c.args.kept (λ F. true≢false (sym F.rest-counts ∙ sym c.no_counts_from.ensures ∙ c.if-not-no_counts_from.true))
 
 pub returns-then-not-zero_from : goal.returns-then-not-zero_from
-returns-then-not-zero_from c =
-    kept-not c.args.n c.args.founding c.args.kept (λ F. true≢false (sym F.rest ∙ sym c.zero_from.ensures ∙ c.if-not-zero_from.true))
-
-add-up : (c : Else-not-zero_from) → let k = c.args.kept in total k.counts ≡ k.dropped
-add-up c = eqb-true _ _ (sym c.add_up.ensures ∙ c.if-not-add_up.false)
-
-rest-counts : (c : Else-not-zero_from) → let a = c.args in all_b (eqb 0) (drop a.n a.kept.counts) ≡ true
-rest-counts c = sym c.no_counts_from.ensures ∙ c.if-not-no_counts_from.false
-
-rest : (c : Else-not-zero_from) → let a = c.args in all_b (eqb 0) (drop a.n a.kept.summary.present) ≡ true
-rest c = sym c.zero_from.ensures ∙ c.if-not-zero_from.false
+returns-then-not-zero_from c = kept-not c.args.n c.args.founding c.args.kept (λ F. true≢false (sym F.rest ∙ sym c.zero_from.ensures ∙ c.if-not-zero_from.true))
 
 pub returns-then-dropped-eq0 : goal.returns-then-dropped-eq0
+unfolding is_weight
 returns-then-dropped-eq0 c =
+    let weighed : all_b is_weight c.args.kept.summary.present ≡ true = let ws = c.args.kept.summary.present in all_of is_weight 0 ws (λ i h. let f : Fits w16 (get_or ws i 0) = search rules in lt-ltb (get_or ws i 0) 65536 (omega arith)) in
+    let eight : length c.args.kept.summary.present ≡ 8 = search rules in
+    let lines : length c.args.kept.summary.codes ≡ 64 = search rules in
+    let offices : length c.args.kept.counts ≡ 8 = search rules in
+    let add-up : let k = c.args.kept in total k.counts ≡ k.dropped = eqb-true _ _ (sym c.add_up.ensures ∙ c.if-not-add_up.false) in
+    let rest-counts : let a = c.args in all_b (eqb 0) (drop a.n a.kept.counts) ≡ true = sym c.no_counts_from.ensures ∙ c.if-not-no_counts_from.false in
+    let rest : let a = c.args in all_b (eqb 0) (drop a.n a.kept.summary.present) ≡ true = sym c.zero_from.ensures ∙ c.if-not-zero_from.false in
     c.same.ensures ∙ ap (same_summary c.args.kept.summary) c.start-start.ensures ∙
-    fine-nothing c.args.n c.args.founding c.args.kept (eight (goal.at.returns-then-dropped-eq0 c).Start) (weighed (goal.at.returns-then-dropped-eq0 c).Start) (lines (goal.at.returns-then-dropped-eq0 c).Start) (offices (goal.at.returns-then-dropped-eq0 c).Start) (add-up (goal.at.returns-then-dropped-eq0 c).Else-not-zero_from) (rest-counts (goal.at.returns-then-dropped-eq0 c).Else-not-zero_from) (rest (goal.at.returns-then-dropped-eq0 c).Else-not-zero_from) c.if-dropped-eq0.true
+    fine-nothing c.args.n c.args.founding c.args.kept (eight) (weighed) (lines) (offices) (add-up) (rest-counts) (rest) c.if-dropped-eq0.true
 
 pub returns-then-total : goal.returns-then-total
-returns-then-total c =
-    kept-not c.args.n c.args.founding c.args.kept (λ F. c.if-total.true (c.total.ensures ∙ F.same_total ∙ sym c.total-2.ensures))
+returns-then-total c = kept-not c.args.n c.args.founding c.args.kept (λ F. c.if-total.true (c.total.ensures ∙ F.same_total ∙ sym c.total-2.ensures))
 
 pub returns : goal.returns
+unfolding is_weight
 returns c =
+    let weighed : all_b is_weight c.args.kept.summary.present ≡ true = let ws = c.args.kept.summary.present in all_of is_weight 0 ws (λ i h. let f : Fits w16 (get_or ws i 0) = search rules in lt-ltb (get_or ws i 0) 65536 (omega arith)) in
+    let eight : length c.args.kept.summary.present ≡ 8 = search rules in
+    let lines : length c.args.kept.summary.codes ≡ 64 = search rules in
+    let offices : length c.args.kept.counts ≡ 8 = search rules in
+    let add-up : let k = c.args.kept in total k.counts ≡ k.dropped = eqb-true _ _ (sym c.add_up.ensures ∙ c.if-not-add_up.false) in
+    let rest-counts : let a = c.args in all_b (eqb 0) (drop a.n a.kept.counts) ≡ true = sym c.no_counts_from.ensures ∙ c.if-not-no_counts_from.false in
+    let rest : let a = c.args in all_b (eqb 0) (drop a.n a.kept.summary.present) ≡ true = sym c.zero_from.ensures ∙ c.if-not-zero_from.false in
     let same = sym c.total.ensures ∙ c.if-total.false ∙ c.total-2.ensures in
     c.codes_fine.ensures ∙
-    fine-some c.args.n c.args.founding c.args.kept (eight (goal.at.returns c).Start) (weighed (goal.at.returns c).Start) (lines (goal.at.returns c).Start) (offices (goal.at.returns c).Start) (add-up (goal.at.returns c).Else-not-zero_from) (rest-counts (goal.at.returns c).Else-not-zero_from) (rest (goal.at.returns c).Else-not-zero_from) c.if-dropped-eq0.false same
+    fine-some c.args.n c.args.founding c.args.kept (eight) (weighed) (lines) (offices) (add-up) (rest-counts) (rest) c.if-dropped-eq0.false same

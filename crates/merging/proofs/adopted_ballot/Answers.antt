@@ -5,11 +5,7 @@ use lib.ListN.{length}
 use lib.Seq.{length-take-le}
 use Rattle.merging.proofs.Walks.{adopted-yes, adopted-no}
 use borrow.Author.Rules.{rules}
-use Rattle.merging.proofs.adopted_ballot.Goals.{Start}
 use Rattle.merging.proofs.adopted_ballot.Goals as goal
-
-full : (s : Start) → (length s.args.b.cells ≡ 32) × (length s.args.offer.cells ≡ 32)
-full s = (search rules, search rules)
 
 pub returns-then-extends : goal.returns-then-extends
 returns-then-extends c =
@@ -22,13 +18,21 @@ returns c =
     adopted-no a.b a.offer _ _ c.tail_len-own_len.ensures.0 c.tail_len-offer_len.ensures.0 (sym c.extends.ensures ∙ c.if-extends.false)
 
 pub slice_bounds-offered-end : goal.slice_bounds-offered-end
-slice_bounds-offered-end c = let h = full (goal.at.slice_bounds-offered-end c).Start in omega arith
+slice_bounds-offered-end c =
+    let full : (length c.args.b.cells ≡ 32) × (length c.args.offer.cells ≡ 32) = (search rules, search rules) in
+    let h = full in omega arith
 
 pub slice_bounds-extends-end : goal.slice_bounds-extends-end
-slice_bounds-extends-end c = let h = full (goal.at.slice_bounds-extends-end c).Start in sym (length-take-le _ _ (omega arith))
+slice_bounds-extends-end c =
+    let full : (length c.args.b.cells ≡ 32) × (length c.args.offer.cells ≡ 32) = (search rules, search rules) in
+    let h = full in sym (length-take-le _ _ (omega arith))
 
 pub slice_bounds-own-end : goal.slice_bounds-own-end
-slice_bounds-own-end c = let h = full (goal.at.slice_bounds-own-end c).Start in omega arith
+slice_bounds-own-end c =
+    let full : (length c.args.b.cells ≡ 32) × (length c.args.offer.cells ≡ 32) = (search rules, search rules) in
+    let h = full in omega arith
 
 pub slice_bounds-extends-end-2 : goal.slice_bounds-extends-end-2
-slice_bounds-extends-end-2 c = let h = full (goal.at.slice_bounds-extends-end-2 c).Start in sym (length-take-le _ _ (omega arith))
+slice_bounds-extends-end-2 c =
+    let full : (length c.args.b.cells ≡ 32) × (length c.args.offer.cells ≡ 32) = (search rules, search rules) in
+    let h = full in sym (length-take-le _ _ (omega arith))

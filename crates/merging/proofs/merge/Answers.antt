@@ -8,7 +8,6 @@ use Rattle.lists.proofs.Fill.{filled}
 use Rattle.ballots.specs.Ballots.{off_end}
 use Rattle.merging.specs.Merging.{past_ballot, adopted_ballot}
 use Rattle.merging.proofs.Turn.{merged, all-merged, left-past, left-offer, next-merged}
-use Rattle.merging.proofs.merge.Goals.{Joined-len-grown, Start}
 use Rattle.merging.proofs.merge.Goals as goal
 
 none_yet : 0 ≤ 8
@@ -17,34 +16,19 @@ none_yet = omega arith
 pub loop-i-init : goal.loop-i-init
 loop-i-init c = (none_yet, refl)
 
--- the length of the ballots and of the offers
-eight : (s : Start) → (length s.args.ballots ≡ 8) × (length s.args.offers ≡ 8)
-eight s = (search rules, search rules)
-
--- a turn's first store
-brought : (c : Joined-len-grown)
-    → let l = c.loop-i in let a = c.args in c.if-len-grown.next ≡ set l.next l.i (past_ballot a.grown.now (get_or l.next l.i off_end))
-brought c =
-    let l = c.loop-i in
-    let a = c.args in
-    let full = eight c.before.before.before.before.before in
-    let left = left-past a.grown.now a.between.now a.ballots a.offers a.own a.sender l.i (omega (arith, full, c.loop-i-test.true)) l.next l.invariant.1 c.requires.1 in
-    ⊎_elim {C = c.if-len-grown.next ≡ set l.next l.i (past_ballot a.grown.now (get_or l.next l.i off_end))}
-    (λ w. w.3 ∙ ap (set l.next l.i) w.2.ensures)
-    (λ w. w.1 ∙ left w.0.left)
-    c.if-len-grown.branch
-
 pub loop-i-preserved : goal.loop-i-preserved
 loop-i-preserved c =
+    let eight : (length c.args.ballots ≡ 8) × (length c.args.offers ≡ 8) = (search rules, search rules) in
+    let brought : let l = c.loop-i in let a = c.args in c.if-len-grown.next ≡ set l.next l.i (past_ballot a.grown.now (get_or l.next l.i off_end)) = let l = c.loop-i in let a = c.args in let full = eight in let left = left-past a.grown.now a.between.now a.ballots a.offers a.own a.sender l.i (omega (arith, full, c.loop-i-test.true)) l.next l.invariant.1 c.requires.1 in ⊎_elim {C = c.if-len-grown.next ≡ set l.next l.i (past_ballot a.grown.now (get_or l.next l.i off_end))} (λ w. w.3 ∙ ap (set l.next l.i) w.2.ensures) (λ w. w.1 ∙ left w.0.left) c.if-len-grown.branch in
     let l = c.loop-i in
     let a = c.args in
     let g = c.giver-giver in
     let first = c.if-len-grown.next in
-    let full = eight (goal.at.loop-i-preserved c).Start in
+    let full = eight in
     let here = c.loop-i-test.true in (
       omega (arith, here),
       next-merged a.grown.now a.between.now a.ballots a.offers a.own a.sender l.i (omega (arith, full, here)) l.next l.invariant.1
-          (omega (arith, full, here)) g.result g.ensures.0 first c.if-offer_len-between.next (brought (goal.at.loop-i-preserved c).Joined-len-grown)
+          (omega (arith, full, here)) g.result g.ensures.0 first c.if-offer_len-between.next (brought)
           (⊎_elim {C = c.if-offer_len-between.next ≡ set first l.i (adopted_ballot (get_or first l.i off_end) (past_ballot a.between.now (get_or a.offers g.result off_end)))}
           (λ w. w.4 ∙ ap (set first l.i) w.3.ensures)
           (λ w. w.1 ∙ left-offer a.between.now first l.i (get_or a.offers g.result off_end) (omega (arith, w.0.left)))
@@ -53,9 +37,10 @@ loop-i-preserved c =
 
 pub returns : goal.returns
 returns c =
+    let eight : (length c.args.ballots ≡ 8) × (length c.args.offers ≡ 8) = (search rules, search rules) in
     let l = c.loop-i in
     let a = c.args in
-    let full = eight (goal.at.returns c).Start in
+    let full = eight in
     l.invariant.1 ∙ all-merged a.grown.now a.between.now a.ballots a.offers a.own a.sender l.i (omega (arith, full, c.loop-i-test.false))
 
 pub offset_bounds-next-i : goal.offset_bounds-next-i

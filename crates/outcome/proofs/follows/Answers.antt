@@ -34,4 +34,4 @@ fine-requires c = (omega arith, (omega arith, omega arith))
 pub returns : goal.returns
 returns c =
     follows-last _ _ _ c.fine.ensures (omega arith) (omega arith)
-    (same_true _ _ (sym c.same_eight.ensures ∙ not-false _ c.if-not-same_eight.left)) (omega arith) (omega arith) (omega arith) (omega arith)
+    (same_true _ _ (sym c.same_eight.ensures ∙ c.if-not-same_eight.false)) (omega arith) (omega arith) (omega arith) (omega arith)

@@ -6,12 +6,12 @@ use Rattle.printing.proofs.Digits.{printed-all, printed-none}
 use Rattle.printing.proofs.put_number.Goals as goal
 
 pub returns-then-at-out : goal.returns-then-at-out
-returns-then-at-out c = let a = c.args in let e = printed-none a.out.now a.at a.n (omega arith) in (rw (e, add-zero), rw e)
+returns-then-at-out c = let a = c.args in let e = printed-none a.out.now a.at a.n (omega arith) in record { end = rw (e, add-zero); output = rw e }
 
 pub returns-then-out-at-lt-PLACES : goal.returns-then-out-at-lt-PLACES
-returns-then-out-at-lt-PLACES c = let a = c.args in let e = printed-none a.out.now a.at a.n (omega arith) in (rw (e, add-zero), rw e)
+returns-then-out-at-lt-PLACES c = let a = c.args in let e = printed-none a.out.now a.at a.n (omega arith) in record { end = rw (e, add-zero); output = rw e }
 
 pub returns : goal.returns
 returns c =
-    let a = c.args in
-    rw (printed-all a.out.now a.at a.n (omega arith)) c.put_digits.ensures
+    let both = let a = c.args in
+    rw (printed-all a.out.now a.at a.n (omega arith)) c.put_digits.ensures in record { end = both.0; output = both.1 }

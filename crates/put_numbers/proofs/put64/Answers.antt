@@ -15,4 +15,4 @@ halves l l1 l2 at v e1 e2 = rw (e2, e1) (sym (sets-append l at (bytes32 (v / 429
 pub returns : goal.returns
 returns c =
     let a = c.args in
-    halves a.out.now c.put32.new.0 c.put32-2.new.0 a.at a.v c.put32.ensures c.put32-2.ensures
+    halves a.out.now c.put32.new.out c.put32-2.new.out a.at a.v c.put32.ensures c.put32-2.ensures

@@ -11,8 +11,7 @@ pub loop-i-init : goal.loop-i-init
 loop-i-init c = (search rules, log-begins _ _ _)
 
 pub returns-then-not-ok : goal.returns-then-not-ok
-returns-then-not-ok c =
-    log-fails _ _ _ _ _ _ c.loop-i-test.true c.read_log-step.ensures c.if-not-ok.true ∙ c.loop-i.invariant.1
+returns-then-not-ok c = log-fails _ _ _ _ _ _ c.loop-i-test.true c.read_log-step.ensures c.if-not-ok.true ∙ c.loop-i.invariant.1
 
 pub returns-then-not-is_entry : goal.returns-then-not-is_entry
 returns-then-not-is_entry c =

@@ -35,4 +35,4 @@ abbrev pub head : Else-not-m → Reading
 head c = c.read_head-m.result
 
 abbrev pub rest : Else-not-m → List ℕ
-rest c = take (length (msg c) - (head c).head) (drop (head c).head (msg c))
+rest c = take (length (msg) - (head).head) (drop (head).head (msg))

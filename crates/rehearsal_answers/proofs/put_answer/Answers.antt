@@ -6,32 +6,7 @@ use mathlib.Core.Path.{◌≡◌, ◌∙◌}
 use Prim.Native.Nat.{◌+◌, ◌<◌, ◌≤◌}
 use lib.ListN.{length, length-set}
 use Rattle.rehearsal_answers.proofs.Printing.{item-short, print-whole}
-use Rattle.rehearsal_answers.proofs.put_answer.Goals.{After-put_item-behind, After-put_item-last, After-put_item-next}
 use Rattle.rehearsal_answers.proofs.put_answer.Goals as goal
-
-one : (c : After-put_item-behind) → (length c.put_item-behind.new.0 ≡ length c.args.out.now) × (c.put_item-behind.result ≤ c.args.at + 22)
-one c =
-    let a = c.args in
-    (c.put_item-behind.auto.0 ∙ length-set a.out.now a.at a.answer.letter, omega (arith, c.put_item-behind.ensures.0, item-short a.answer.first))
-
-room-one : (c : After-put_item-behind) → c.put_item-behind.result + 21 ≤ length c.put_item-behind.new.0
-room-one c = omega (arith, one c, c.well-formed.0.0)
-
-two : (c : After-put_item-next) → (length c.put_item-next.new.0 ≡ length c.args.out.now) × (c.put_item-next.result ≤ c.args.at + 43)
-two c =
-    let a = c.args in
-    (c.put_item-next.auto.0 ∙ (one c.before.before.before.before).0, omega (arith, c.put_item-next.ensures.0, item-short a.answer.second, (one c.before.before.before.before).1))
-
-room-two : (c : After-put_item-next) → c.put_item-next.result + 21 ≤ length c.put_item-next.new.0
-room-two c = omega (arith, two c, c.well-formed.0.0)
-
-three : (c : After-put_item-last) → (length c.put_item-last.new.0 ≡ length c.args.out.now) × (c.put_item-last.result ≤ c.args.at + 64)
-three c =
-    let a = c.args in
-    (c.put_item-last.auto.0 ∙ (two c.before.before.before.before).0, omega (arith, c.put_item-last.ensures.0, item-short a.answer.third, (two c.before.before.before.before).1))
-
-room-three : (c : After-put_item-last) → c.put_item-last.result < length c.put_item-last.new.0
-room-three c = omega (arith, three c, c.well-formed.0.0)
 
 pub returns : goal.returns
 returns c =
@@ -44,16 +19,36 @@ pub put_item-behind-requires : goal.put_item-behind-requires
 put_item-behind-requires c = simp length-set (omega arith)
 
 pub put_item-next-requires : goal.put_item-next-requires
-put_item-next-requires c = room-one (goal.at.put_item-next-requires c).After-put_item-behind
+put_item-next-requires c =
+    let one : (length c.put_item-behind.new.0 ≡ length c.args.out.now) × (c.put_item-behind.result ≤ c.args.at + 22) = let a = c.args in (c.put_item-behind.auto.0 ∙ length-set a.out.now a.at a.answer.letter, omega (arith, c.put_item-behind.ensures.0, item-short a.answer.first)) in
+    let room-one : c.put_item-behind.result + 21 ≤ length c.put_item-behind.new.0 = omega (arith, one, c.well-formed.0.0) in
+    room-one
 
 pub put_item-last-requires : goal.put_item-last-requires
-put_item-last-requires c = room-two (goal.at.put_item-last-requires c).After-put_item-next
+put_item-last-requires c =
+    let one : (length c.put_item-behind.new.0 ≡ length c.args.out.now) × (c.put_item-behind.result ≤ c.args.at + 22) = let a = c.args in (c.put_item-behind.auto.0 ∙ length-set a.out.now a.at a.answer.letter, omega (arith, c.put_item-behind.ensures.0, item-short a.answer.first)) in
+    let two : (length c.put_item-next.new.0 ≡ length c.args.out.now) × (c.put_item-next.result ≤ c.args.at + 43) = let a = c.args in (c.put_item-next.auto.0 ∙ (one).0, omega (arith, c.put_item-next.ensures.0, item-short a.answer.second, (one).1)) in
+    let room-two : c.put_item-next.result + 21 ≤ length c.put_item-next.new.0 = omega (arith, two, c.well-formed.0.0) in
+    room-two
 
 pub bounds-out-last : goal.bounds-out-last
-bounds-out-last c = room-three (goal.at.bounds-out-last c).After-put_item-last
+bounds-out-last c =
+    let one : (length c.put_item-behind.new.0 ≡ length c.args.out.now) × (c.put_item-behind.result ≤ c.args.at + 22) = let a = c.args in (c.put_item-behind.auto.0 ∙ length-set a.out.now a.at a.answer.letter, omega (arith, c.put_item-behind.ensures.0, item-short a.answer.first)) in
+    let two : (length c.put_item-next.new.0 ≡ length c.args.out.now) × (c.put_item-next.result ≤ c.args.at + 43) = let a = c.args in (c.put_item-next.auto.0 ∙ (one).0, omega (arith, c.put_item-next.ensures.0, item-short a.answer.second, (one).1)) in
+    let three : (length c.put_item-last.new.0 ≡ length c.args.out.now) × (c.put_item-last.result ≤ c.args.at + 64) = let a = c.args in (c.put_item-last.auto.0 ∙ (two).0, omega (arith, c.put_item-last.ensures.0, item-short a.answer.third, (two).1)) in
+    let room-three : c.put_item-last.result < length c.put_item-last.new.0 = omega (arith, three, c.well-formed.0.0) in
+    room-three
 
 pub overflow_add-result : goal.overflow_add-result
-overflow_add-result c = omega (arith, three (goal.at.overflow_add-result c).After-put_item-last, c.well-formed.0.0)
+overflow_add-result c =
+    let one : (length c.put_item-behind.new.0 ≡ length c.args.out.now) × (c.put_item-behind.result ≤ c.args.at + 22) = let a = c.args in (c.put_item-behind.auto.0 ∙ length-set a.out.now a.at a.answer.letter, omega (arith, c.put_item-behind.ensures.0, item-short a.answer.first)) in
+    let two : (length c.put_item-next.new.0 ≡ length c.args.out.now) × (c.put_item-next.result ≤ c.args.at + 43) = let a = c.args in (c.put_item-next.auto.0 ∙ (one).0, omega (arith, c.put_item-next.ensures.0, item-short a.answer.second, (one).1)) in
+    let three : (length c.put_item-last.new.0 ≡ length c.args.out.now) × (c.put_item-last.result ≤ c.args.at + 64) = let a = c.args in (c.put_item-last.auto.0 ∙ (two).0, omega (arith, c.put_item-last.ensures.0, item-short a.answer.third, (two).1)) in
+    omega (arith, three, c.well-formed.0.0)
 
 pub shape_of-out : goal.shape_of-out
-shape_of-out c = length-set c.put_item-last.new.0 c.put_item-last.result 10 ∙ (three (goal.at.shape_of-out c).After-put_item-last).0
+shape_of-out c =
+    let one : (length c.put_item-behind.new.0 ≡ length c.args.out.now) × (c.put_item-behind.result ≤ c.args.at + 22) = let a = c.args in (c.put_item-behind.auto.0 ∙ length-set a.out.now a.at a.answer.letter, omega (arith, c.put_item-behind.ensures.0, item-short a.answer.first)) in
+    let two : (length c.put_item-next.new.0 ≡ length c.args.out.now) × (c.put_item-next.result ≤ c.args.at + 43) = let a = c.args in (c.put_item-next.auto.0 ∙ (one).0, omega (arith, c.put_item-next.ensures.0, item-short a.answer.second, (one).1)) in
+    let three : (length c.put_item-last.new.0 ≡ length c.args.out.now) × (c.put_item-last.result ≤ c.args.at + 64) = let a = c.args in (c.put_item-last.auto.0 ∙ (two).0, omega (arith, c.put_item-last.ensures.0, item-short a.answer.third, (two).1)) in
+    length-set c.put_item-last.new.0 c.put_item-last.result 10 ∙ (three).0

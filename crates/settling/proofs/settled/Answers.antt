@@ -9,26 +9,26 @@ use Rattle.lists.specs.Tests.{pick}
 use Rattle.frame.proofs.Sound.{sound}
 use Rattle.frame.specs.Soundness.{sound_b}
 use Rattle.settling.specs.Settling.{settled_of, settled_number}
-use Rattle.settling.proofs.settled.Goals.{Else-not-sound}
 use Rattle.settling.proofs.settled.Goals as goal
 
 pub returns-then-not-sound : goal.returns-then-not-sound
 unfolding settled_of settled_number pick
 returns-then-not-sound c = let q = sym c.sound.ensures ∙ c.if-not-sound.true in (simp q, simp q)
 
-passed : (c : Else-not-sound) → let a = c.args in sound_b a.office a.log.now ≡ true
-passed c = sym c.sound.ensures ∙ c.if-not-sound.false
-
 pub slice_bounds-result-end-2 : goal.slice_bounds-result-end-2
 slice_bounds-result-end-2 c =
-    let S = sound _ _ (passed (goal.at.slice_bounds-result-end-2 c).After-sound) in
+    let passed : let a = c.args in sound_b a.office a.log.now ≡ true = sym c.sound.ensures ∙ c.if-not-sound.false in
+    let S = sound _ _ (passed) in
     sym (length-take-le _ _ (omega (arith, S.most, S.room)))
 
 pub returns : goal.returns
 unfolding settled_of settled_number pick
 returns c =
-    let q = passed (goal.at.returns c).After-sound in
+    let passed : let a = c.args in sound_b a.office a.log.now ≡ true = sym c.sound.ensures ∙ c.if-not-sound.false in
+    let q = passed in
     (simp q, simp q)
 
 pub overflow_sub-held : goal.overflow_sub-held
-overflow_sub-held c = omega (arith, (sound _ _ (passed (goal.at.overflow_sub-held c).Else-not-sound)).within)
+overflow_sub-held c =
+    let passed : let a = c.args in sound_b a.office a.log.now ≡ true = sym c.sound.ensures ∙ c.if-not-sound.false in
+    omega (arith, (sound _ _ (passed)).within)

@@ -7,31 +7,24 @@ use Rattle.numbers.specs.Numbers.{run_at}
 use Rattle.spelling.specs.Reading.{record_at}
 use Rattle.records.proofs.Marks.{entry-step}
 use Rattle.shared_places.proofs.Walk.{Walked, walk_first, walk-next, walk-met, walk-done, record-at}
-use Rattle.shared_places.proofs.from_end.Goals.{After-read_entry-step}
 use Rattle.shared_places.proofs.from_end.Goals as goal
 
 pub loop-i-init : goal.loop-i-init
 loop-i-init c = let a = c.args in (omega arith, walk_first a.k a.log.now (run_at 6 record_at a.k a.rest.now))
 
--- the record at place j has its value
-value : (x : After-read_entry-step)
-    → let a = x.args in let i = x.loop-i.i in x.read_entry-step.result.value ≡ get_or (run_at 6 record_at a.k a.rest.now) (a.k - 1 - i) 0
-value x =
-    let a = x.args in
-    let j = a.k - 1 - x.loop-i.i in
-    (entry-step (6 * j) a.rest.now x.read_entry-step.result (omega arith) x.read_entry-step.ensures).0 ∙ sym (record-at a.k j a.rest.now (omega arith))
-
 pub returns-then-log-j : goal.returns-then-log-j
 returns-then-log-j c =
+    let value : let a = c.args in let i = c.loop-i.i in c.read_entry-step.result.value ≡ get_or (run_at 6 record_at a.k a.rest.now) (a.k - 1 - i) 0 = let a = c.args in let j = a.k - 1 - c.loop-i.i in (entry-step (6 * j) a.rest.now c.read_entry-step.result (omega arith) c.read_entry-step.ensures).0 ∙ sym (record-at a.k j a.rest.now (omega arith)) in
     let l = c.loop-i in
     let a = c.args in
-    walk-met a.k a.log.now (run_at 6 record_at a.k a.rest.now) l.i l.inv.1 (omega arith) (λ q. c.if-log-j.true (q ∙ sym (value (goal.at.returns-then-log-j c).After-read_entry-step)))
+    walk-met a.k a.log.now (run_at 6 record_at a.k a.rest.now) l.i l.invariant.1 (omega arith) (λ q. c.if-log-j.true (q ∙ sym (value)))
 
 pub loop-i-preserved : goal.loop-i-preserved
 loop-i-preserved c =
+    let value : let a = c.args in let i = c.loop-i.i in c.read_entry-step.result.value ≡ get_or (run_at 6 record_at a.k a.rest.now) (a.k - 1 - i) 0 = let a = c.args in let j = a.k - 1 - c.loop-i.i in (entry-step (6 * j) a.rest.now c.read_entry-step.result (omega arith) c.read_entry-step.ensures).0 ∙ sym (record-at a.k j a.rest.now (omega arith)) in
     let l = c.loop-i in
     let a = c.args in
-    (omega arith, walk-next a.k a.log.now (run_at 6 record_at a.k a.rest.now) l.i l.inv.1 (omega arith) (c.if-log-j.false ∙ value (goal.at.loop-i-preserved c).After-read_entry-step))
+    (omega arith, walk-next a.k a.log.now (run_at 6 record_at a.k a.rest.now) l.i l.invariant.1 (omega arith) (c.if-log-j.false ∙ value))
 
 pub returns : goal.returns
 returns c =

@@ -20,7 +20,7 @@ use Rattle.soundness.specs.Noted.{noted_fine}
 use Rattle.soundness.specs.Soundness.{held_length, follows, sound_fields}
 use Rattle.soundness.proofs.Noted.{noted-true}
 use Rattle.soundness.proofs.Facts.{tests, sound-tests, sound-not, follows_of}
-use Rattle.soundness.proofs.sound.Goals.{After-same, Else-not-fine, Else-not-fine-2, Else-not-numbers_fine}
+use Rattle.soundness.proofs.sound.Goals.{Else-not-fine, Else-not-numbers_fine}
 use Rattle.soundness.proofs.sound.Goals as goal
 
 pub returns-then-log-lt-PATH : goal.returns-then-log-lt-PATH
@@ -74,13 +74,11 @@ module _ (c : Else-not-fine) where
 pub returns-then-not-all_entries : goal.returns-then-not-all_entries
 returns-then-not-all_entries c = sound-not _ _ _ _ _ _ _ _ _ (λ S. true≢false (sym S.entries ∙ sym c.all_entries.ensures ∙ c.if-not-all_entries.true))
 
--- whether the record's summary is that of its log
-same-is : (c : After-same) → let a = c.args in c.same.result ≡ follows a.kept.summary a.summary (held c.before.before.before.before.before) a.log.now
-unfolding follows
-same-is c = let a = c.args in c.same.ensures ∙ ap (same_summary a.summary) c.after-follows.ensures
-
 pub returns-then-not-same : goal.returns-then-not-same
-returns-then-not-same c = sound-not _ _ _ _ _ _ _ _ _ (λ S. true≢false (sym (follows_of _ _ _ _ S.done) ∙ sym (same-is (goal.at.returns-then-not-same c).After-same) ∙ c.if-not-same.true))
+unfolding follows
+returns-then-not-same c =
+    let same-is : let a = c.args in c.same.result ≡ follows a.kept.summary a.summary (held c.before.before.before.before.before) a.log.now = let a = c.args in c.same.ensures ∙ ap (same_summary a.summary) c.after-follows.ensures in
+    sound-not _ _ _ _ _ _ _ _ _ (λ S. true≢false (sym (follows_of _ _ _ _ S.done) ∙ sym (same-is) ∙ c.if-not-same.true))
 
 pub fine-requires-2 : goal.fine-requires-2
 fine-requires-2 c = let h = head _ _ _ (headed (goal.at.fine-requires-2 c).Else-not-numbers_fine) in (h.some, (h.most, omega arith))
@@ -90,18 +88,18 @@ returns-then-not-fine-2 c =
     sound-not _ _ _ _ _ _ _ _ _
     (λ S. true≢false (sym (places-fine _ _ _ S.eight ∙ both_true _ _ S.fine S.rest) ∙ sym c.fine-2.ensures ∙ c.if-not-fine-2.true))
 
--- the ballots are within the limits, and so in shape
-balloted : (c : Else-not-fine-2) → ballots_fine c.args.n (held c.before.before.before.before.before.before.before.before) c.args.ballots ≡ true
-balloted c = sym c.fine-2.ensures ∙ c.if-not-fine-2.false
-
 pub within-requires : goal.within-requires
 unfolding ballots_fine
-within-requires c = both-0 (all_b ballot_shape _) _ (balloted c)
+within-requires c =
+    let balloted : ballots_fine c.args.n (held c.before.before.before.before.before.before.before.before) c.args.ballots ≡ true = sym c.fine-2.ensures ∙ c.if-not-fine-2.false in
+    both-0 (all_b ballot_shape _) _ (balloted)
 
 pub returns : goal.returns
-unfolding both
+unfolding both follows
 returns c =
-    c.within.ensures ∙ sym (decided (goal.at.returns c).Else-not-fine ∙ rw (sym c.all_entries.ensures ∙ not-false _ c.if-not-all_entries.left, sym (same-is (goal.at.returns c).After-same) ∙ c.if-not-same.false, balloted (goal.at.returns c).Else-not-fine-2))
+    let same-is : let a = c.args in c.same.result ≡ follows a.kept.summary a.summary (held c.before.before.before.before.before) a.log.now = let a = c.args in c.same.ensures ∙ ap (same_summary a.summary) c.after-follows.ensures in
+    let balloted : ballots_fine c.args.n (held c.before.before.before.before.before.before.before.before) c.args.ballots ≡ true = sym c.fine-2.ensures ∙ c.if-not-fine-2.false in
+    c.within.ensures ∙ sym (decided (goal.at.returns c).Else-not-fine ∙ rw (sym c.all_entries.ensures ∙ c.if-not-all_entries.false, sym (same-is) ∙ c.if-not-same.false, balloted))
 
 pub slice_bounds-all_entries-end : goal.slice_bounds-all_entries-end
 slice_bounds-all_entries-end c = there (goal.at.slice_bounds-all_entries-end c).After-fine

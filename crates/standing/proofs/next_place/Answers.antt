@@ -6,14 +6,7 @@ use borrow.Author.Rules.{rules}
 use Rattle.frame.specs.Soundness.{sound_b, Sound}
 use Rattle.frame.proofs.Sound.{sound}
 use Rattle.standing.proofs.Answer.{standing-unsound, standing-done}
-use Rattle.standing.proofs.next_place.Goals.{Else-not-sound}
 use Rattle.standing.proofs.next_place.Goals as goal
-
-passed : (c : Else-not-sound) → sound_b c.args.office c.args.log.now ≡ true
-passed c = sym c.sound.ensures ∙ c.if-not-sound.false
-
-sounds : (c : Else-not-sound) → Sound c.args.office c.args.log.now
-sounds c = sound _ _ (passed c)
 
 pub returns-then-not-sound : goal.returns-then-not-sound
 returns-then-not-sound c =
@@ -22,9 +15,14 @@ returns-then-not-sound c =
 
 pub returns : goal.returns
 returns c =
+    let passed : sound_b c.args.office c.args.log.now ≡ true = sym c.sound.ensures ∙ c.if-not-sound.false in
+    let sounds : Sound c.args.office c.args.log.now = sound _ _ (passed) in
     let a = c.args in
-    standing-done a.office a.log.now (sounds (goal.at.returns c).Else-not-sound) (passed (goal.at.returns c).Else-not-sound) _ c.of_ballots-votes.ensures _ c.of_votes-rows.ensures
+    standing-done a.office a.log.now (sounds) (passed) _ c.of_ballots-votes.ensures _ c.of_votes-rows.ensures
     _ c.weight_for-unheard.ensures.0 _ c.silent-silent.ensures
 
 pub silent-silent-requires : goal.silent-silent-requires
-silent-silent-requires c = (sounds (goal.at.silent-silent-requires c).Else-not-sound).head.most
+silent-silent-requires c =
+    let passed : sound_b c.args.office c.args.log.now ≡ true = sym c.sound.ensures ∙ c.if-not-sound.false in
+    let sounds : Sound c.args.office c.args.log.now = sound _ _ (passed) in
+    (sounds).head.most

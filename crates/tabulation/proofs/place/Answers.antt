@@ -8,30 +8,23 @@ use Rattle.lists.proofs.Tests.{length-mapped}
 use Rattle.tabulation.specs.Cells.{place_of, no_row}
 use Rattle.tabulation.specs.declared.Row.{Row}
 use Rattle.tabulation.proofs.Cells.{place-next, place-stop, place_end}
-use Rattle.tabulation.proofs.place.Goals.{In-loop-i}
 use Rattle.tabulation.proofs.place.Goals as goal
-
--- a turn's row is the row of the first `count`
-there : (c : In-loop-i)
-    → let a = c.args in let i = c.loop-i.i in (length (take a.count a.rows) ≡ a.count) × (get_or (take a.count a.rows) i no_row ≡ get_or a.rows i no_row)
-there c =
-    let a = c.args in
-    let full : length a.rows ≡ 64 = search (rules, length-mapped) in
-    (length-take-le a.count a.rows (omega arith), get_or-take a.count a.rows c.loop-i.i no_row c.loop-i-test.true)
 
 pub returns-then-row-class : goal.returns-then-row-class
 returns-then-row-class c =
+    let there : let a = c.args in let i = c.loop-i.i in (length (take a.count a.rows) ≡ a.count) × (get_or (take a.count a.rows) i no_row ≡ get_or a.rows i no_row) = let a = c.args in let full : length a.rows ≡ 64 = search (rules, length-mapped) in (length-take-le a.count a.rows (omega arith), get_or-take a.count a.rows c.loop-i.i no_row c.loop-i-test.true) in
     let a = c.args in
     let l = c.loop-i in
-    let t = there (goal.at.returns-then-row-class c).In-loop-i in
+    let t = there in
     let e : (get_or (take a.count a.rows) l.i no_row).class ≡ (get_or a.rows l.i no_row).class = ap (λ (y : Row). y.class) t.1 in
     (omega (arith, l.invariant.1, place-stop a.class (take a.count a.rows) l.i (omega arith) (omega (arith, c.if-row-class.true))), omega arith)
 
 pub loop-i-preserved : goal.loop-i-preserved
 loop-i-preserved c =
+    let there : let a = c.args in let i = c.loop-i.i in (length (take a.count a.rows) ≡ a.count) × (get_or (take a.count a.rows) i no_row ≡ get_or a.rows i no_row) = let a = c.args in let full : length a.rows ≡ 64 = search (rules, length-mapped) in (length-take-le a.count a.rows (omega arith), get_or-take a.count a.rows c.loop-i.i no_row c.loop-i-test.true) in
     let a = c.args in
     let l = c.loop-i in
-    let t = there (goal.at.loop-i-preserved c).In-loop-i in
+    let t = there in
     let e : (get_or (take a.count a.rows) l.i no_row).class ≡ (get_or a.rows l.i no_row).class = ap (λ (y : Row). y.class) t.1 in
     (omega arith, omega (arith, l.invariant.1, place-next a.class (take a.count a.rows) l.i (omega arith) (omega (arith, c.if-row-class.false))))
 

@@ -32,5 +32,6 @@ pub overflow_add-result : goal.overflow_add-result
 overflow_add-result c = omega (arith, c.requires.room)
 
 pub returns : goal.returns
-returns c = into_new _ _ c.requires _ c.place-at.ensures.0 _ c.place-at.ensures.1
+returns c =
+    into_new _ _ c.requires _ c.place-at.ensures.0 _ c.place-at.ensures.1
     (⊎_elim (λ w b d. w.3.left d) (λ w b d. omega (arith, w.left)) c.if-at-count.branch) c.insert-next.ensures

@@ -6,39 +6,39 @@ use lib.ListN.{length}
 use Rattle.tabulation.specs.Rows.{pooled}
 use Rattle.tabulation.specs.Cells.{rows_of}
 use Rattle.tabulation.proofs.LinesFrom.{lines_from, no_lines, line-room, line-pooled, line-passed}
-use Rattle.tabulation.proofs.tabulate.Goals.{In-loop-i, Start}
 use Rattle.tabulation.proofs.tabulate.Goals as goal
 
-lengths : (s : Start) → (length s.args.codes ≡ 64) × ((length s.args.met ≡ 64) × (length s.args.totals ≡ 64))
-lengths s = (search rules, (search rules, search rules))
-
 pub loop-i-init : goal.loop-i-init
-loop-i-init c = (search rules, c.no_rows-sheet.ensures ∙ no_lines c.args.codes c.args.met c.args.totals (lengths (goal.at.loop-i-init c).Start).0)
-
--- the line before the turn's
-down : (c : In-loop-i) → let i = c.loop-i.i in (i ≡ i - 1 + 1) × (i - 1 < 64)
-down c = (omega arith, omega arith)
+loop-i-init c =
+    let lengths : (length c.args.codes ≡ 64) × ((length c.args.met ≡ 64) × (length c.args.totals ≡ 64)) = (search rules, (search rules, search rules)) in
+    (search rules, c.no_rows-sheet.ensures ∙ no_lines c.args.codes c.args.met c.args.totals (lengths).0)
 
 pub pool-sheet-requires : goal.pool-sheet-requires
 pool-sheet-requires c =
+    let lengths : (length c.args.codes ≡ 64) × ((length c.args.met ≡ 64) × (length c.args.totals ≡ 64)) = (search rules, (search rules, search rules)) in
+    let down : let i = c.loop-i.i in (i ≡ i - 1 + 1) × (i - 1 < 64) = (omega arith, omega arith) in
     let l = c.loop-i in
-    let n = lengths (goal.at.pool-sheet-requires c).Start in
-    line-room c.args.codes c.args.met c.args.totals n.0 n.1.0 n.1.1 (l.i - 1) l.sheet l.i (down (goal.at.pool-sheet-requires c).In-loop-i).0 (down (goal.at.pool-sheet-requires c).In-loop-i).1 l.invariant.1 c.if-met-i.true c.requires
+    let n = lengths in
+    line-room c.args.codes c.args.met c.args.totals n.0 n.1.0 n.1.1 (l.i - 1) l.sheet l.i (down).0 (down).1 l.invariant.1 c.if-met-i.true c.requires
 
 pub loop-i-preserved-then-met-i : goal.loop-i-preserved-then-met-i
 loop-i-preserved-then-met-i c =
+    let lengths : (length c.args.codes ≡ 64) × ((length c.args.met ≡ 64) × (length c.args.totals ≡ 64)) = (search rules, (search rules, search rules)) in
+    let down : let i = c.loop-i.i in (i ≡ i - 1 + 1) × (i - 1 < 64) = (omega arith, omega arith) in
     let l = c.loop-i in
-    let n = lengths (goal.at.loop-i-preserved-then-met-i c).Start in (
+    let n = lengths in (
       omega arith,
       c.pool-sheet.ensures ∙ line-pooled c.args.codes c.args.met c.args.totals n.0 n.1.0
-          n.1.1 (l.i - 1) l.sheet l.i (down (goal.at.loop-i-preserved-then-met-i c).In-loop-i).0 (down (goal.at.loop-i-preserved-then-met-i c).In-loop-i).1 l.invariant.1 c.if-met-i.true,
+          n.1.1 (l.i - 1) l.sheet l.i (down).0 (down).1 l.invariant.1 c.if-met-i.true,
     )
 
 pub loop-i-preserved : goal.loop-i-preserved
 loop-i-preserved c =
+    let lengths : (length c.args.codes ≡ 64) × ((length c.args.met ≡ 64) × (length c.args.totals ≡ 64)) = (search rules, (search rules, search rules)) in
+    let down : let i = c.loop-i.i in (i ≡ i - 1 + 1) × (i - 1 < 64) = (omega arith, omega arith) in
     let l = c.loop-i in
-    let n = lengths (goal.at.loop-i-preserved c).Start in
-    (omega arith, line-passed c.args.codes c.args.met c.args.totals n.0 n.1.0 n.1.1 (l.i - 1) l.sheet l.i (down (goal.at.loop-i-preserved c).In-loop-i).0 (down (goal.at.loop-i-preserved c).In-loop-i).1 l.invariant.1 c.if-met-i.false)
+    let n = lengths in
+    (omega arith, line-passed c.args.codes c.args.met c.args.totals n.0 n.1.0 n.1.1 (l.i - 1) l.sheet l.i (down).0 (down).1 l.invariant.1 c.if-met-i.false)
 
 pub returns : goal.returns
 returns c =

@@ -6,5 +6,4 @@ use Rattle.trial_digests.specs.Digest.{digest_from}
 use Rattle.trial_digests.proofs.with_ballot.Goals as goal
 
 pub returns : goal.returns
-returns c =
-    c.with_words.ensures ∙ ap (λ (n : ℕ). digest_from n c.args.ballot.cells) c.with.ensures
+returns c = c.with_words.ensures ∙ ap (λ (n : ℕ). digest_from n c.args.ballot.cells) c.with.ensures

@@ -5,18 +5,17 @@ use Prim.Native.Nat.{◌-◌}
 use lib.ListN.{length}
 use Rattle.lists.proofs.Tests.{length-mapped}
 use Rattle.trial_digests.proofs.Digests.{BallotsLeft, ballots-next, ballots-done}
-use Rattle.trial_digests.proofs.with_ballots.Goals.{Start}
 use Rattle.trial_digests.proofs.with_ballots.Goals as goal
-
-eight : (c : Start) → length c.args.ballots ≡ 8
-eight c = search (rules, length-mapped)
 
 pub loop-k-preserved : goal.loop-k-preserved
 loop-k-preserved c =
-    ballots-next _ _ c.loop-k.h c.loop-k.k c.loop-k.invariant (omega (arith, eight (goal.at.loop-k-preserved c).Start)) c.with_ballot-h.result c.with_ballot-h.ensures
+    let eight : length c.args.ballots ≡ 8 = search (rules, length-mapped) in
+    ballots-next _ _ c.loop-k.h c.loop-k.k c.loop-k.invariant (omega (arith, eight)) c.with_ballot-h.result c.with_ballot-h.ensures
 
 pub returns : goal.returns
-returns c = ballots-done _ _ c.loop-k.h c.loop-k.k c.loop-k.invariant (omega (arith, eight (goal.at.returns c).Start))
+returns c =
+    let eight : length c.args.ballots ≡ 8 = search (rules, length-mapped) in
+    ballots-done _ _ c.loop-k.h c.loop-k.k c.loop-k.invariant (omega (arith, eight))
 
 pub loop-k-init : goal.loop-k-init
 loop-k-init c = refl

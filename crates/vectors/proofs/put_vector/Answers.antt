@@ -6,18 +6,15 @@ use borrow.Author.Rules.{rules}
 use Rattle.numbers.specs.Numbers.{bytes64}
 use Rattle.numbers.proofs.Steps.{Storing, storing-again, storing-ends}
 use Rattle.vectors.proofs.Items.{count_item}
-use Rattle.vectors.proofs.put_vector.Goals.{Start}
 use Rattle.vectors.proofs.put_vector.Goals as goal
-
-eight : (s : Start) → length s.args.counts ≡ 8
-eight s = search rules
 
 pub loop-k-preserved : goal.loop-k-preserved
 loop-k-preserved c =
+    let eight : length c.args.counts ≡ 8 = search rules in
     let l = c.loop-k in
     let put = c.put64 in
-    storing-again 8 bytes64 count_item.wide c.args.out.now c.args.at c.args.counts c.args.n l.out l.p l.k l.inv
-    put.new.0 c.loop-k-test.taken (omega (arith, eight (goal.at.loop-k-preserved c).Start)) put.auto.0 put.ensures
+    storing-again 8 bytes64 count_item.wide c.args.out.now c.args.at c.args.counts c.args.n l.out l.p l.k l.invariant
+    put.new.0 c.loop-k-test.true (omega (arith, eight)) put.auto.0 put.ensures
 
 pub returns : goal.returns
 returns c =

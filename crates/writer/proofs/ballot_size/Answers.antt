@@ -4,14 +4,12 @@ use native.Mathlib.Omega.{arith}
 use lib.ListN.{length}
 use borrow.Author.Rules.{rules}
 use Rattle.writer.proofs.Ballots.{bytes-none, size-some}
-use Rattle.writer.proofs.ballot_size.Goals.{Start}
 use Rattle.writer.proofs.ballot_size.Goals as goal
-
-full : (c : Start) → length c.args.b.cells ≡ 32
-full c = search rules
 
 pub returns-then-len-eq0 : goal.returns-then-len-eq0
 returns-then-len-eq0 c = rw (bytes-none c.args.o c.args.b c.if-len-eq0.true) (omega arith)
 
 pub returns : goal.returns
-returns c = omega (arith, size-some c.args.o c.args.b (full (goal.at.returns c).Start) c.requires c.if-len-eq0.false)
+returns c =
+    let full : length c.args.b.cells ≡ 32 = search rules in
+    omega (arith, size-some c.args.o c.args.b (full) c.requires c.if-len-eq0.false)

@@ -11,8 +11,8 @@ pub loop-i-preserved : goal.loop-i-preserved
 loop-i-preserved c =
     let l = c.loop-i in
     let put = c.put16 in
-    storing-again 2 bytes16 weight_item.wide c.args.out.now c.args.at c.args.weights.now c.args.k l.out l.p l.i l.inv
-    put.new.0 c.loop-i-test.taken c.requires.0 put.auto.0 put.ensures
+    storing-again 2 bytes16 weight_item.wide c.args.out.now c.args.at c.args.weights.now c.args.k l.out l.p l.i l.invariant
+    put.new.0 c.loop-i-test.true c.requires.0 put.auto.0 put.ensures
 
 pub returns : goal.returns
 returns c =

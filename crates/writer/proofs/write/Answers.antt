@@ -10,64 +10,48 @@ use Rattle.spelling.specs.Spelling.{ballots_bytes, head_size}
 use Rattle.writer.specs.Written.{message_of, tails_of}
 use Rattle.writer.proofs.Ballots.{ToCount, ToPut, count-again, count-begins, len-at, put-again, put-begins, put-ends, put-room}
 use Rattle.writer.proofs.Whole.{counted, message-length, refused, whole-written, written}
-use Rattle.writer.proofs.write.Goals.{After-loop-o, After-loop-o-2, After-put_front-arg-1, At-loop-o, At-loop-o-2, In-loop-o, In-loop-o-2, Start}
+use Rattle.writer.proofs.write.Goals.{In-loop-o, In-loop-o-2}
 use Rattle.writer.proofs.write.Goals as goal
 
 abbrev none : Ballot
 none = record { len = 0; cells = [] }
 
--- a record's weights and ballots are eight, and n is at most 8
-weights-long : (s : Start) → s.args.n ≤ length s.args.weights
-weights-long s = let e : length s.args.weights ≡ 8 = search rules in omega (arith, e, s.requires.few-offices)
-
-ballots-long : (s : Start) → s.args.n ≤ length s.args.ballots
-ballots-long s = let e : length s.args.ballots ≡ 8 = search rules in omega (arith, e, s.requires.few-offices)
-
 pub ballot_size-size-requires : goal.ballot_size-size-requires
-ballot_size-size-requires c = len-at c.args.ballots _ _ c.requires.shapes (omega (arith, c.loop-o-test.true, ballots-long (goal.at.ballot_size-size-requires c).Start))
+ballot_size-size-requires c =
+    let ballots-long : c.args.n ≤ length c.args.ballots = let e : length c.args.ballots ≡ 8 = search rules in omega (arith, e, c.requires.few-offices) in
+    len-at c.args.ballots _ _ c.requires.shapes (omega (arith, c.loop-o-test.true, ballots-long))
 
 pub loop-o-preserved : goal.loop-o-preserved
 loop-o-preserved c =
-    count-again _ _ _ _ _ none _ c.loop-o.invariant c.loop-o-test.true (ballots-long (goal.at.loop-o-preserved c).Start) c.ballot_size-size.ensures.0 c.ballot_size-size.ensures.1
-
--- the message that is to be written
-abbrev message : Start → List ℕ
-message s = message_of s.args.sender s.args.n s.args.weights s.args.dropped s.args.log.now s.args.held s.args.ballots
-
--- what the first walk has counted is the message's length
-size-counted : (c : After-loop-o) → c.loop-o.size ≡ length (message c.before.before.before.before.before)
-size-counted c =
-    counted c.args.sender c.args.n c.args.weights c.args.dropped c.args.log.now c.args.held c.args.ballots (weights-long c.before.before.before.before.before) c.requires.log-long
-    _ _ _ (omega (arith, c.head_size.ensures)) c.loop-o.invariant c.loop-o-test.false
+    let ballots-long : c.args.n ≤ length c.args.ballots = let e : length c.args.ballots ≡ 8 = search rules in omega (arith, e, c.requires.few-offices) in
+    count-again _ _ _ _ _ none _ c.loop-o.invariant c.loop-o-test.true (ballots-long) c.ballot_size-size.ensures.0 c.ballot_size-size.ensures.1
 
 pub returns-then-out-size : goal.returns-then-out-size
-returns-then-out-size c = refused (message (goal.at.returns-then-out-size c).Start) _ _ (size-counted (goal.at.returns-then-out-size c).After-loop-o) c.if-out-size.true
-
--- past the test the buffer has room for the message: the head, the log records and the end, and the ballots
-fits : (c : After-put_front-arg-1)
-    → let a = c.args in head_size a.n + 6 * a.held + 2 + length (ballots_bytes 0 (tails_of a.n a.ballots)) ≤ length a.out.now
-fits c =
-    omega (
-      arith,
-      size-counted c.before.before,
-      c.if-out-size.false,
-      message-length c.args.sender c.args.n c.args.weights c.args.dropped c.args.log.now c.args.held c.args.ballots (weights-long c.before.before.before.before.before.before.before) c.requires.log-long,
-    )
+returns-then-out-size c =
+    let message : 2 decreases-loop2 → List ℕ = message_of c.args.sender c.args.n c.args.weights c.args.dropped c.args.log.now c.args.held c.args.ballots in
+    let weights-long : c.args.n ≤ length c.args.weights = let e : length c.args.weights ≡ 8 = search rules in omega (arith, e, c.requires.few-offices) in
+    let size-counted : c.loop-o.size ≡ length (message) = counted c.args.sender c.args.n c.args.weights c.args.dropped c.args.log.now c.args.held c.args.ballots (weights-long) c.requires.log-long _ _ _ (omega (arith, c.head_size.ensures)) c.loop-o.invariant c.loop-o-test.false in
+    refused (message) _ _ (size-counted) c.if-out-size.true
 
 pub put_front-p-requires : goal.put_front-p-requires
 unfolding length_limit
-put_front-p-requires c = omega (arith, fits c, c.requires)
-
--- behind the log records there is room for the ballots and the end
-room : (c : At-loop-o-2)
-    → let a = c.before.before.before.before.before.before.before.before.before.before.before.before.args in c.put_front-p.result + (length (ballots_bytes 0 (tails_of a.n a.ballots)) + 2) ≤ length c.put_front-p.new.0
-room c = let front = c.put_front-p in omega (arith, fits c.before.before.before.before, front.kept.0, front.ensures.0)
+put_front-p-requires c =
+    let weights-long : c.args.n ≤ length c.args.weights = let e : length c.args.weights ≡ 8 = search rules in omega (arith, e, c.requires.few-offices) in
+    let message : 2 decreases-loop2 → List ℕ = message_of c.args.sender c.args.n c.args.weights c.args.dropped c.args.log.now c.args.held c.args.ballots in
+    let size-counted : c.loop-o.size ≡ length (message) = counted c.args.sender c.args.n c.args.weights c.args.dropped c.args.log.now c.args.held c.args.ballots (weights-long) c.requires.log-long _ _ _ (omega (arith, c.head_size.ensures)) c.loop-o.invariant c.loop-o-test.false in
+    let fits : let a = c.args in head_size a.n + 6 * a.held + 2 + length (ballots_bytes 0 (tails_of a.n a.ballots)) ≤ length a.out.now = omega ( arith, size-counted, c.if-out-size.false, message-length c.args.sender c.args.n c.args.weights c.args.dropped c.args.log.now c.args.held c.args.ballots (weights-long) c.requires.log-long, ) in
+    omega (arith, fits, c.requires)
 
 pub put_ballot-p-requires : goal.put_ballot-p-requires
 put_ballot-p-requires c =
+    let weights-long : c.args.n ≤ length c.args.weights = let e : length c.args.weights ≡ 8 = search rules in omega (arith, e, c.requires.few-offices) in
+    let message : 2 decreases-loop2 → List ℕ = message_of c.args.sender c.args.n c.args.weights c.args.dropped c.args.log.now c.args.held c.args.ballots in
+    let size-counted : c.loop-o.size ≡ length (message) = counted c.args.sender c.args.n c.args.weights c.args.dropped c.args.log.now c.args.held c.args.ballots (weights-long) c.requires.log-long _ _ _ (omega (arith, c.head_size.ensures)) c.loop-o.invariant c.loop-o-test.false in
+    let fits : let a = c.args in head_size a.n + 6 * a.held + 2 + length (ballots_bytes 0 (tails_of a.n a.ballots)) ≤ length a.out.now = omega ( arith, size-counted, c.if-out-size.false, message-length c.args.sender c.args.n c.args.weights c.args.dropped c.args.log.now c.args.held c.args.ballots (weights-long) c.requires.log-long, ) in
+    let room : let a = c.before.before.before.before.before.before.before.before.before.before.before.before.args in c.put_front-p.result + (length (ballots_bytes 0 (tails_of a.n a.ballots)) + 2) ≤ length c.put_front-p.new.0 = let front = c.put_front-p in omega (arith, fits, front.kept.0, front.ensures.0) in
     let s = (goal.at.put_ballot-p-requires c).Start.before in (
       len-at s.args.ballots _ _ s.pre.shapes (omega (arith, c.loop-o-2-test.true, ballots-long s)),
-      (omega (arith, c.loop-o-2-test.true, s.pre.few-offices), put-room c.loop-o-2.invariant none c.loop-o-2-test.true (ballots-long s) (omega (arith, room (goal.at.put_ballot-p-requires c).At-loop-o-2))),
+      (omega (arith, c.loop-o-2-test.true, s.pre.few-offices), put-room c.loop-o-2.invariant none c.loop-o-2-test.true (ballots-long s) (omega (arith, room))),
     )
 
 pub loop-o-2-preserved : goal.loop-o-2-preserved
@@ -75,23 +59,20 @@ loop-o-2-preserved c =
     let put = c.put_ballot-p in
     put-again c.loop-o-2.invariant none c.loop-o-2-test.true (ballots-long ((goal.at.loop-o-2-preserved c).Start.before)) put.ensures.0 put.ensures.1
 
--- and behind the ballots for the end
-end-room : (c : After-loop-o-2) → c.loop-o-2.p + 2 ≤ length c.loop-o-2.out
-end-room c =
-    let inv = c.loop-o-2.invariant in
-    omega (arith, room c.before, inv.left.long, (put-ends inv c.loop-o-2-test.false).0)
-
 pub shape_of-out : goal.shape_of-out
-shape_of-out c = c.put_end.auto.0 ∙ (c.loop-o-2.inv.left.long ∙ c.put_front-p.kept.0)
+shape_of-out c = c.put_end.auto.0 ∙ (c.loop-o-2.invariant.false.long ∙ c.put_front-p.kept.0)
 
 pub returns : goal.returns
 returns c =
+    let weights-long : c.args.n ≤ length c.args.weights = let e : length c.args.weights ≡ 8 = search rules in omega (arith, e, c.requires.few-offices) in
+    let message : 2 decreases-loop2 → List ℕ = message_of c.args.sender c.args.n c.args.weights c.args.dropped c.args.log.now c.args.held c.args.ballots in
+    let size-counted : c.loop-o.size ≡ length (message) = counted c.args.sender c.args.n c.args.weights c.args.dropped c.args.log.now c.args.held c.args.ballots (weights-long) c.requires.log-long _ _ _ (omega (arith, c.head_size.ensures)) c.loop-o.invariant c.loop-o-test.false in
     let front = c.put_front-p in
     let s = (goal.at.returns c).Start.before in
     let a = s.args in
-    let ballots = put-ends c.loop-o-2.inv c.loop-o-2-test.false in
-    let size = size-counted (goal.at.returns c).At-loop-o in
-    let long = c.if-out-size.left in
+    let ballots = put-ends c.loop-o-2.invariant c.loop-o-2-test.false in
+    let size = size-counted in
+    let long = c.if-out-size.false in
     let w = written (message s) a.out.now _ size (omega (arith, long)) in (
       w.0,
       whole-written a.sender a.n a.weights a.dropped a.log.now a.held a.ballots (weights-long s) s.pre.log-long
@@ -102,9 +83,6 @@ returns c =
 -- a turn of the walk that counts: the office is below n, and what was counted is small
 bounds-ballots-o : (c : In-loop-o) → c.loop-o.o < 8
 bounds-ballots-o c = omega (arith, c.loop-o-test.true, c.requires.few-offices)
-
-small : (c : At-loop-o) → c.loop-o.size ≤ 6182 + 132 * c.loop-o.o
-small c = omega (arith, c.loop-o.invariant.1.1, c.head_size.ensures, c.requires.few-offices, c.requires.held-few)
 
 -- and of the walk that puts ballots
 bounds-ballots-o-in-loop-o-2 : (c : In-loop-o-2) → c.loop-o-2.o < 8
@@ -129,7 +107,9 @@ pub offset_bounds-ballots-o : goal.offset_bounds-ballots-o
 offset_bounds-ballots-o c = omega (arith, bounds-ballots-o c)
 
 pub overflow_add-size-in-loop-o : goal.overflow_add-size-in-loop-o
-overflow_add-size-in-loop-o c = omega (arith, bounds-ballots-o (goal.at.overflow_add-size-in-loop-o c).In-loop-o, small (goal.at.overflow_add-size-in-loop-o c).At-loop-o, c.ballot_size-size.ensures.1)
+overflow_add-size-in-loop-o c =
+    let small : c.loop-o.size ≤ 6182 + 132 * c.loop-o.o = omega (arith, c.loop-o.invariant.1.1, c.head_size.ensures, c.requires.few-offices, c.requires.held-few) in
+    omega (arith, bounds-ballots-o (goal.at.overflow_add-size-in-loop-o c).In-loop-o, small, c.ballot_size-size.ensures.1)
 
 pub overflow_step-o : goal.overflow_step-o
 overflow_step-o c = omega (arith, bounds-ballots-o (goal.at.overflow_step-o c).In-loop-o)
@@ -150,4 +130,11 @@ pub loop-o-2-smaller : goal.loop-o-2-smaller
 loop-o-2-smaller c = omega (arith, c.loop-o-2-test.true)
 
 pub put_end-requires : goal.put_end-requires
-put_end-requires c = end-room (goal.at.put_end-requires c).After-loop-o-2
+put_end-requires c =
+    let weights-long : c.args.n ≤ length c.args.weights = let e : length c.args.weights ≡ 8 = search rules in omega (arith, e, c.requires.few-offices) in
+    let message : 2 decreases-loop2 → List ℕ = message_of c.args.sender c.args.n c.args.weights c.args.dropped c.args.log.now c.args.held c.args.ballots in
+    let size-counted : c.loop-o.size ≡ length (message) = counted c.args.sender c.args.n c.args.weights c.args.dropped c.args.log.now c.args.held c.args.ballots (weights-long) c.requires.log-long _ _ _ (omega (arith, c.head_size.ensures)) c.loop-o.invariant c.loop-o-test.false in
+    let fits : let a = c.args in head_size a.n + 6 * a.held + 2 + length (ballots_bytes 0 (tails_of a.n a.ballots)) ≤ length a.out.now = omega ( arith, size-counted, c.if-out-size.false, message-length c.args.sender c.args.n c.args.weights c.args.dropped c.args.log.now c.args.held c.args.ballots (weights-long) c.requires.log-long, ) in
+    let room : let a = c.before.before.before.before.before.before.before.before.before.before.before.before.args in c.put_front-p.result + (length (ballots_bytes 0 (tails_of a.n a.ballots)) + 2) ≤ length c.put_front-p.new.0 = let front = c.put_front-p in omega (arith, fits, front.kept.0, front.ensures.0) in
+    let end-room : c.loop-o-2.p + 2 ≤ length c.loop-o-2.out = let inv = c.loop-o-2.invariant in omega (arith, room, inv.left.long, (put-ends inv c.loop-o-2-test.false).0) in
+    end-room

@@ -12,14 +12,14 @@ unfolding by_number
 returns-in_default c =
     let l = c.loop-i in
     let a = c.args in
-    sym (sym l.invariant.2 ∙ digits_step a.most l.so_far a.field.now l.i (omega arith) ∙ rw (sym c.digit_of.ensures, c.enum_told-1.given.1))
+    sym (sym l.invariant.2 ∙ digits_step a.most l.so_far a.field.now l.i (omega arith) ∙ rw (sym c.in_default.ensures))
 
 pub loop-i-preserved : goal.loop-i-preserved
 unfolding by_number
 loop-i-preserved c =
     let l = c.loop-i in
     let a = c.args in
-    (search rules, omega arith, sym (sym l.invariant.2 ∙ digits_step a.most l.so_far a.field.now l.i (omega arith) ∙ rw (sym c.digit_of.ensures, c.next-1.given.1)))
+    (search rules, omega arith, sym (sym l.invariant.2 ∙ digits_step a.most l.so_far a.field.now l.i (omega arith) ∙ rw (sym c.in-Value.ensures)))
 
 pub returns : goal.returns
 returns c =

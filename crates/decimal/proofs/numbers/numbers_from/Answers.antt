@@ -29,7 +29,7 @@ overflow_add-at c =
 pub returns-in_default : goal.returns-in_default
 unfolding pick by_number
 returns-in_default c =
-    let e = sym c.number_of.ensures ∙ c.enum_told-1.given.1 in
+    let e = sym c.in_default.ensures in
     c.no_numbers-in_default.ensures ∙ sym (sym c.loop-at.invariant.1
     ∙ numbers-step c.args.bytes.now c.loop-at.cells c.loop-at.count c.loop-at.at _ (omega arith) c.part_end-end.ensures
     ∙ rw (ne_eqb c.loop-at.count 8 c.if-count-eq8.false, e))
@@ -37,7 +37,7 @@ returns-in_default c =
 pub loop-at-preserved : goal.loop-at-preserved
 unfolding pick by_number
 loop-at-preserved c =
-    let e = sym c.number_of.ensures ∙ c.value-1.given.1 in (
+    let e = sym c.in-Value.ensures in (
       omega arith,
       sym (sym c.loop-at.invariant.1 ∙ numbers-step c.args.bytes.now c.loop-at.cells c.loop-at.count
           c.loop-at.at _ (omega arith) c.part_end-end.ensures ∙ rw (ne_eqb c.loop-at.count 8 c.if-count-eq8.false, e)),
@@ -50,4 +50,4 @@ pub loop-at-init : goal.loop-at-init
 loop-at-init c = (search rules, refl)
 
 pub overflow_cast-cells : goal.overflow_cast-cells
-overflow_cast-cells c = omega (arith, number-within 65535 _ _ (sym c.number_of.ensures ∙ c.value-1.given.1))
+overflow_cast-cells c = omega (arith, number-within 65535 _ _ (sym c.in-Value.ensures))

@@ -10,37 +10,25 @@ use Rattle.elections.proofs.Run.{winning}
 use Rattle.elections.proofs.Steps.{Gathered, Settling, votes-step, votes-silent, won-by, won-nobody, shape-here, lost-first, lost-rival, lost-keep, lost-end}
 use Rattle.frame.specs.State.{state_in, with_held, with_ballots}
 use Rattle.frame.proofs.Steps.{next-turn, settled_is, step-won, step-nobody}
-use Rattle.frame.proofs.Record.step.Goals.{After-loop-i, In-Entry-2, In-loop-i, In-loop-i-2}
 use Rattle.frame.proofs.Record.step.Goals as goal
-
-early : (c : In-loop-i) → c.args.self.n ≤ 8
-early c = c.requires.limits.few
-
-few : (c : In-loop-i-2) → c.args.self.n ≤ 8
-few c = c.requires.limits.few
-
--- the votes are gathered, and have a winner
-gathered : (c : After-loop-i) → let r = c.args.self in Gathered r.ballots c.loop-i.votes r.n
-gathered c =
-    let l = c.loop-i in
-    let end : l.i ≡ c.args.self.n = omega arith in
-    subst (Gathered c.args.self.ballots l.votes) end l.invariant.1
-
-won : (c : In-Entry-2) → let a = c.args in winner_in a.counts (state_in a.self) a.log.now ≡ some c.w-1.given.0.0
-won c = won-by _ _ _ c.requires.limits _ _ (gathered c.before.before.before) _ c.find_winner-w.ensures _ c.w-1.given.1
 
 pub loop-i-preserved : goal.loop-i-preserved
 loop-i-preserved c =
+    let early : c.args.self.n ≤ 8 = c.requires.limits.few in
     let l = c.loop-i in
-    (omega arith, votes-step c.args.self.ballots c.requires.limits.eight l.votes l.i l.invariant.1 (omega (arith, early (goal.at.loop-i-preserved c).In-loop-i)) _ c.vote.ensures)
+    (omega arith, votes-step c.args.self.ballots c.requires.limits.eight l.votes l.i l.invariant.1 (omega (arith, early)) _ c.vote.ensures)
 
 pub find_winner-w-requires : goal.find_winner-w-requires
-find_winner-w-requires c = votes-silent _ _ _ c.requires.limits _ (gathered c)
+find_winner-w-requires c =
+    let gathered : let r = c.args.self in Gathered r.ballots c.loop-i.votes r.n = let l = c.loop-i in let end : l.i ≡ c.args.self.n = omega arith in subst (Gathered c.args.self.ballots l.votes) end l.invariant.1 in
+    votes-silent _ _ _ c.requires.limits _ (gathered)
 
 pub bounds-log-held : goal.bounds-log-held
 bounds-log-held c =
+    let gathered : let r = c.args.self in Gathered r.ballots c.loop-i.votes r.n = let l = c.loop-i in let end : l.i ≡ c.args.self.n = omega arith in subst (Gathered c.args.self.ballots l.votes) end l.invariant.1 in
+    let won : let a = c.args in winner_in a.counts (state_in a.self) a.log.now ≡ some c.w-1.given.0.0 = won-by _ _ _ c.requires.limits _ _ (gathered) _ c.find_winner-w.ensures _ c.w-1.given.1 in
     let S = c.requires.limits in
-    omega (arith, S.room, (winning _ _ _ S _ _ (won (goal.at.bounds-log-held c).In-Entry-2)).1, c.held-held.ensures)
+    omega (arith, S.room, (winning _ _ _ S _ _ (won)).1, c.held-held.ensures)
 
 pub without_first-requires : goal.without_first-requires
 without_first-requires c =
@@ -67,14 +55,17 @@ loop-i-2-preserved c =
 
 pub returns-in-Nobody : goal.returns-in-Nobody
 returns-in-Nobody c =
-    step-nobody _ _ _ c.requires (won-nobody _ _ _ c.requires.limits _ _ (gathered (goal.at.returns-in-Nobody c).After-loop-i) _ c.find_winner-w.ensures c.enum_told-1.given.1)
+    let gathered : let r = c.args.self in Gathered r.ballots c.loop-i.votes r.n = let l = c.loop-i in let end : l.i ≡ c.args.self.n = omega arith in subst (Gathered c.args.self.ballots l.votes) end l.invariant.1 in
+    step-nobody _ _ _ c.requires (won-nobody _ _ _ c.requires.limits _ _ (gathered) _ c.find_winner-w.ensures c.enum_told-1.given.1)
 
 pub returns-after-loop-i-2 : goal.returns-after-loop-i-2
 returns-after-loop-i-2 c =
+    let gathered : let r = c.args.self in Gathered r.ballots c.loop-i.votes r.n = let l = c.loop-i in let end : l.i ≡ c.args.self.n = omega arith in subst (Gathered c.args.self.ballots l.votes) end l.invariant.1 in
+    let won : let a = c.args in winner_in a.counts (state_in a.self) a.log.now ≡ some c.w-1.given.0.0 = won-by _ _ _ c.requires.limits _ _ (gathered) _ c.find_winner-w.ensures _ c.w-1.given.1 in
     let a = c.args in
     let e = c.w-1.given.0.0 in
     let l = c.loop-i-2 in
-    let m = step-won _ _ _ c.requires e (won (goal.at.returns-after-loop-i-2 c).In-Entry-2) in (
+    let m = step-won _ _ _ c.requires e (won) in (
       l.invariant.1 ∙ settled_is _ _ c.requires e l.next.ballots (lost-end _ _ _ c.requires.limits _ l.next.ballots l.i l.invariant.2 (omega arith)) _ c.next-after.ensures ∙ m.0,
       ap (λ (k : ℕ). set a.log.now k e) c.held-held.ensures ∙ m.1,
     )
@@ -86,16 +77,24 @@ pub loop-i-init : goal.loop-i-init
 loop-i-init c = (omega arith, refl)
 
 pub offset_bounds-next-i : goal.offset_bounds-next-i
-offset_bounds-next-i c = omega (arith, early c)
+offset_bounds-next-i c =
+    let early : c.args.self.n ≤ 8 = c.requires.limits.few in
+    omega (arith, early)
 
 pub bounds-next-i : goal.bounds-next-i
-bounds-next-i c = omega (arith, early c)
+bounds-next-i c =
+    let early : c.args.self.n ≤ 8 = c.requires.limits.few in
+    omega (arith, early)
 
 pub offset_bounds-votes-i : goal.offset_bounds-votes-i
-offset_bounds-votes-i c = omega (arith, early (goal.at.offset_bounds-votes-i c).In-loop-i)
+offset_bounds-votes-i c =
+    let early : c.args.self.n ≤ 8 = c.requires.limits.few in
+    omega (arith, early)
 
 pub bounds-votes-i : goal.bounds-votes-i
-bounds-votes-i c = omega (arith, early (goal.at.bounds-votes-i c).In-loop-i)
+bounds-votes-i c =
+    let early : c.args.self.n ≤ 8 = c.requires.limits.few in
+    omega (arith, early)
 
 pub overflow_add-next : goal.overflow_add-next
 overflow_add-next c = omega (arith, c.requires.more)
@@ -104,19 +103,31 @@ pub loop-i-2-init : goal.loop-i-2-init
 loop-i-2-init c = (omega arith, refl, refl)
 
 pub offset_bounds-next-i-in-loop-i-2 : goal.offset_bounds-next-i-in-loop-i-2
-offset_bounds-next-i-in-loop-i-2 c = omega (arith, few c)
+offset_bounds-next-i-in-loop-i-2 c =
+    let few : c.args.self.n ≤ 8 = c.requires.limits.few in
+    omega (arith, few)
 
 pub bounds-next-i-in-loop-i-2 : goal.bounds-next-i-in-loop-i-2
-bounds-next-i-in-loop-i-2 c = omega (arith, few c)
+bounds-next-i-in-loop-i-2 c =
+    let few : c.args.self.n ≤ 8 = c.requires.limits.few in
+    omega (arith, few)
 
 pub offset_bounds-next-i-then-vote-e : goal.offset_bounds-next-i-then-vote-e
-offset_bounds-next-i-then-vote-e c = omega (arith, few (goal.at.offset_bounds-next-i-then-vote-e c).In-loop-i-2)
+offset_bounds-next-i-then-vote-e c =
+    let few : c.args.self.n ≤ 8 = c.requires.limits.few in
+    omega (arith, few)
 
 pub bounds-next-i-then-vote-e : goal.bounds-next-i-then-vote-e
-bounds-next-i-then-vote-e c = omega (arith, few (goal.at.bounds-next-i-then-vote-e c).In-loop-i-2)
+bounds-next-i-then-vote-e c =
+    let few : c.args.self.n ≤ 8 = c.requires.limits.few in
+    omega (arith, few)
 
 pub offset_bounds-next-i-else-vote-e : goal.offset_bounds-next-i-else-vote-e
-offset_bounds-next-i-else-vote-e c = omega (arith, few (goal.at.offset_bounds-next-i-else-vote-e c).In-loop-i-2)
+offset_bounds-next-i-else-vote-e c =
+    let few : c.args.self.n ≤ 8 = c.requires.limits.few in
+    omega (arith, few)
 
 pub bounds-next-i-else-vote-e : goal.bounds-next-i-else-vote-e
-bounds-next-i-else-vote-e c = omega (arith, few (goal.at.bounds-next-i-else-vote-e c).In-loop-i-2)
+bounds-next-i-else-vote-e c =
+    let few : c.args.self.n ≤ 8 = c.requires.limits.few in
+    omega (arith, few)

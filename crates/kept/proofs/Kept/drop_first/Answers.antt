@@ -16,17 +16,15 @@ returns-then-k-eq0 c =
     let words = a.log.now in
     let P = c.requires in
     let none : a.k ≡ 0 = c.if-k-eq0.true in
-    let long : length (take a.held words) ≡ a.held = length-take-le a.held words P.1.1 in (
-      sym (ap (λ (k : ℕ). kept_after a.self (take k words)) none ∙ kept-nil a.self),
-      sym (ap (λ (k : ℕ). drop k (take a.held words) ++ drop (length (drop k (take a.held words))) words) none
-          ∙ ap (λ (k : ℕ). take a.held words ++ drop k words) long ∙ take-append-drop a.held words),
-    )
-
-first : (c : goal.After-after-arg) → let a = c.before.before.before.args in length (take a.k a.log.now) ≡ a.k
-first c = let s = c.before.before.before in length-take-le s.args.k s.args.log.now (omega (arith, s.requires.1.0, s.requires.1.1))
+    let long : length (take a.held words) ≡ a.held = length-take-le a.held words P.1.1 in record { kept = sym (ap (λ (k : ℕ). kept_after a.self (take k words)) none ∙ kept-nil a.self); words = sym (ap (λ (k : ℕ). drop k (take a.held words) ++ drop (length (drop k (take a.held words))) words) none
+          ∙ ap (λ (k : ℕ). take a.held words ++ drop k words) long ∙ take-append-drop a.held words) }
 
 pub after-kept-requires : goal.after-kept-requires
-after-kept-requires c = let s = c.before.before.before in rw (first c) s.requires.0
+after-kept-requires c =
+    let first : let a = c.before.before.before.args in length (take a.k a.log.now) ≡ a.k = let s = c.before.before.before in length-take-le s.args.k s.args.log.now (omega (arith, s.requires.1.0, s.requires.1.1)) in
+    let s = c.before.before.before in rw (first) s.requires.0
 
 pub slice_bounds-after-end-2 : goal.slice_bounds-after-end-2
-slice_bounds-after-end-2 c = sym (first c)
+slice_bounds-after-end-2 c =
+    let first : let a = c.before.before.before.args in length (take a.k a.log.now) ≡ a.k = let s = c.before.before.before in length-take-le s.args.k s.args.log.now (omega (arith, s.requires.1.0, s.requires.1.1)) in
+    sym (first)

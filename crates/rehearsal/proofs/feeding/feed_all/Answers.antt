@@ -13,34 +13,7 @@ use Rattle.rehearsal_addressees.proofs.Present.{addressee-there}
 use Rattle.rehearsal.specs.Lines.{world_at, say_line}
 use Rattle.rehearsal.proofs.Says.{turn-stored, answer-by, say-found, say-turn, say-nobody}
 use Rattle.rehearsal.proofs.Feeds.{LineRead, feeds-next, feed-answers}
-use Rattle.rehearsal.proofs.feeding.feed_all.Goals.{After-none-held, Else-end-chunk, In-One-2}
 use Rattle.rehearsal.proofs.feeding.feed_all.Goals as goal
-
--- each byte of the chunk has room for an answer
-room : (c : Else-end-chunk) → length c.loop-offices.out ≡ 532480 → c.loop-offices.printed + 65 ≤ length c.loop-offices.out
-room c full =
-    omega (arith, c.loop-offices.inv.room, c.requires, full, c.part_end-end.ensures, c.if-end-chunk.false)
-
--- the next line begins further on
-less : (c : Else-end-chunk) → let s = c.args.chunk.now in length s - (c.part_end-end.result + 1) < length s - c.loop-offices.at
-less c = omega (arith, c.part_end-end.ensures, c.if-end-chunk.false)
-
--- what the line says
-said : (c : After-none-held) → let a = c.args in let l = c.loop-offices in
-    LineRead (world_at a.r.offices a.logs.now a.slots.now) (line_held a.r.held) a.chunk.now
-    a.out.now (world_at l.offices l.logs l.slots) (line_held l.held) l.out l.at l.printed
-    c.part_end-end.result (line_held c.none-held.result) c.line_held-parsed.result
-said c =
-    let a = c.args in
-    let l = c.loop-offices in
-    record {
-      inv = l.inv;
-      there = c.part_end-end.ensures;
-      inside = c.if-end-chunk.left;
-      empty = ap line_held c.none-held.ensures;
-      read = c.line_held-parsed.ensures
-          ∙ ap line_of (ap line_held c.with-held.ensures ∙ line-held (line_held l.held ++ take (c.part_end-end.result - l.at) (drop l.at a.chunk.now)));
-    }
 
 pub loop-offices-init : goal.loop-offices-init
 loop-offices-init c =
@@ -63,48 +36,53 @@ returns-then-end-chunk c =
 -- ── a founding ──
 pub loop-offices-smaller-in-All : goal.loop-offices-smaller-in-All
 loop-offices-smaller-in-All c =
-    less (goal.at.loop-offices-smaller-in-All c).Else-end-chunk
+    let less : let s = c.args.chunk.now in length s - (c.part_end-end.result + 1) < length s - c.loop-offices.at = omega (arith, c.part_end-end.ensures, c.if-end-chunk.false) in
+    less
 
 pub loop-offices-preserved-in-All : goal.loop-offices-preserved-in-All
 loop-offices-preserved-in-All c =
+    let room : length c.loop-offices.out ≡ 532480 → c.loop-offices.printed + 65 ≤ length c.loop-offices.out = λ full. omega (arith, c.loop-offices.invariant.room, c.requires, full, c.part_end-end.ensures, c.if-end-chunk.false) in
+    let said : let a = c.args in let l = c.loop-offices in LineRead (world_at a.r.offices a.logs.now a.slots.now) (line_held a.r.held) a.chunk.now a.out.now (world_at l.offices l.logs l.slots) (line_held l.held) l.out l.at l.printed c.part_end-end.result (line_held c.none-held.result) c.line_held-parsed.result = let a = c.args in let l = c.loop-offices in record { inv = l.invariant; there = c.part_end-end.ensures; inside = c.if-end-chunk.false; empty = ap line_held c.none-held.ensures; read = c.line_held-parsed.ensures ∙ ap line_of (ap line_held c.with-held.ensures ∙ line-held (line_held l.held ++ take (c.part_end-end.result - l.at) (drop l.at a.chunk.now))); } in
     let p = c.print-printed.ensures in
     let full : length c.loop-offices.out ≡ 532480 = search rules in
-    feeds-next (said (goal.at.loop-offices-preserved-in-All c).After-none-held) _ (say-found _ _ _ _ _ c.addressee-1.given.1 c.found_offices-reply.ensures ∙ answer-by _ _ _ c.addressee_of-addressee.ensures)
-    _ _ (room (goal.at.loop-offices-preserved-in-All c).Else-end-chunk full) p.0 p.1
-
--- ── an office's turn ──
--- an office that a line is for is one of the eight
-below : (c : In-One-2) → c.addressee-in-One-1.given.0.0 < 8
-below c = addressee-there _ _ _ _ (sym c.addressee_of-addressee.ensures ∙ c.addressee-in-One-1.given.1)
+    feeds-next (said) _ (say-found _ _ _ _ _ c.addressee-1.given.1 c.found_offices-reply.ensures ∙ answer-by _ _ _ c.addressee_of-addressee.ensures)
+    _ _ (room full) p.0 p.1
 
 pub office_turn-turn-requires : goal.office_turn-turn-requires
 office_turn-turn-requires c =
+    let below : c.addressee-in-One-1.given.0.0 < 8 = addressee-there _ _ _ _ (sym c.addressee_of-addressee.ensures ∙ c.addressee-in-One-1.given.1) in
     let full : length c.loop-offices.logs ≡ 8192 = search rules in
-    (below (goal.at.office_turn-turn-requires c).In-One-2, full)
+    (below, full)
 
 pub loop-offices-smaller-in-One : goal.loop-offices-smaller-in-One
 loop-offices-smaller-in-One c =
-    less (goal.at.loop-offices-smaller-in-One c).After-with-held
+    let less : let s = c.args.chunk.now in length s - (c.part_end-end.result + 1) < length s - c.loop-offices.at = omega (arith, c.part_end-end.ensures, c.if-end-chunk.false) in
+    less
 
 pub loop-offices-preserved-in-One : goal.loop-offices-preserved-in-One
 loop-offices-preserved-in-One c =
+    let room : length c.loop-offices.out ≡ 532480 → c.loop-offices.printed + 65 ≤ length c.loop-offices.out = λ full. omega (arith, c.loop-offices.invariant.room, c.requires, full, c.part_end-end.ensures, c.if-end-chunk.false) in
+    let said : let a = c.args in let l = c.loop-offices in LineRead (world_at a.r.offices a.logs.now a.slots.now) (line_held a.r.held) a.chunk.now a.out.now (world_at l.offices l.logs l.slots) (line_held l.held) l.out l.at l.printed c.part_end-end.result (line_held c.none-held.result) c.line_held-parsed.result = let a = c.args in let l = c.loop-offices in record { inv = l.invariant; there = c.part_end-end.ensures; inside = c.if-end-chunk.false; empty = ap line_held c.none-held.ensures; read = c.line_held-parsed.ensures ∙ ap line_of (ap line_held c.with-held.ensures ∙ line-held (line_held l.held ++ take (c.part_end-end.result - l.at) (drop l.at a.chunk.now))); } in
     let e = c.office_turn-turn.ensures in
     let p = c.print-printed-in-One.ensures in
     let full : length c.loop-offices.out ≡ 532480 = search rules in
-    feeds-next (said (goal.at.loop-offices-preserved-in-One c).After-none-held) _ (say-turn _ _ _ _ _ _ c.addressee-in-One-1.given.1 (turn-stored _ _ _ _ _ _ e.0 e.1.0 e.1.1) ∙ answer-by _ _ _ c.addressee_of-addressee.ensures)
-    _ _ (room (goal.at.loop-offices-preserved-in-One c).Else-end-chunk full) p.0 p.1
+    feeds-next (said) _ (say-turn _ _ _ _ _ _ c.addressee-in-One-1.given.1 (turn-stored _ _ _ _ _ _ e.0 e.1.0 e.1.1) ∙ answer-by _ _ _ c.addressee_of-addressee.ensures)
+    _ _ (room full) p.0 p.1
 
 -- ── a line for nobody ──
 pub loop-offices-smaller : goal.loop-offices-smaller
 loop-offices-smaller c =
-    less (goal.at.loop-offices-smaller c).Else-end-chunk
+    let less : let s = c.args.chunk.now in length s - (c.part_end-end.result + 1) < length s - c.loop-offices.at = omega (arith, c.part_end-end.ensures, c.if-end-chunk.false) in
+    less
 
 pub loop-offices-preserved : goal.loop-offices-preserved
 loop-offices-preserved c =
+    let room : length c.loop-offices.out ≡ 532480 → c.loop-offices.printed + 65 ≤ length c.loop-offices.out = λ full. omega (arith, c.loop-offices.invariant.room, c.requires, full, c.part_end-end.ensures, c.if-end-chunk.false) in
+    let said : let a = c.args in let l = c.loop-offices in LineRead (world_at a.r.offices a.logs.now a.slots.now) (line_held a.r.held) a.chunk.now a.out.now (world_at l.offices l.logs l.slots) (line_held l.held) l.out l.at l.printed c.part_end-end.result (line_held c.none-held.result) c.line_held-parsed.result = let a = c.args in let l = c.loop-offices in record { inv = l.invariant; there = c.part_end-end.ensures; inside = c.if-end-chunk.false; empty = ap line_held c.none-held.ensures; read = c.line_held-parsed.ensures ∙ ap line_of (ap line_held c.with-held.ensures ∙ line-held (line_held l.held ++ take (c.part_end-end.result - l.at) (drop l.at a.chunk.now))); } in
     let p = c.print-printed-in-Nobody.ensures in
     let full : length c.loop-offices.out ≡ 532480 = search rules in
-    feeds-next (said (goal.at.loop-offices-preserved c).After-none-held) _ (say-nobody _ _ _ _ c.enum_told-1.given.1 c.question.ensures ∙ answer-by _ _ _ c.addressee_of-addressee.ensures)
-    _ _ (room (goal.at.loop-offices-preserved c).Else-end-chunk full) p.0 p.1
+    feeds-next (said) _ (say-nobody _ _ _ _ c.enum_told-1.given.1 c.question.ensures ∙ answer-by _ _ _ c.addressee_of-addressee.ensures)
+    _ _ (room full) p.0 p.1
 
 pub slice_bounds-with-count : goal.slice_bounds-with-count
 slice_bounds-with-count c = omega (arith, c.part_end-end.ensures)
@@ -113,13 +91,21 @@ pub overflow_add-at : goal.overflow_add-at
 overflow_add-at c = omega arith
 
 pub offset_bounds-offices-k : goal.offset_bounds-offices-k
-offset_bounds-offices-k c = omega (arith, below (goal.at.offset_bounds-offices-k c).In-One-2)
+offset_bounds-offices-k c =
+    let below : c.addressee-in-One-1.given.0.0 < 8 = addressee-there _ _ _ _ (sym c.addressee_of-addressee.ensures ∙ c.addressee-in-One-1.given.1) in
+    omega (arith, below)
 
 pub bounds-offices-k : goal.bounds-offices-k
-bounds-offices-k c = below (goal.at.bounds-offices-k c).In-One-2
+bounds-offices-k c =
+    let below : c.addressee-in-One-1.given.0.0 < 8 = addressee-there _ _ _ _ (sym c.addressee_of-addressee.ensures ∙ c.addressee-in-One-1.given.1) in
+    below
 
 pub offset_bounds-offices-k-in-One : goal.offset_bounds-offices-k-in-One
-offset_bounds-offices-k-in-One c = omega (arith, below (goal.at.offset_bounds-offices-k-in-One c).In-One-2)
+offset_bounds-offices-k-in-One c =
+    let below : c.addressee-in-One-1.given.0.0 < 8 = addressee-there _ _ _ _ (sym c.addressee_of-addressee.ensures ∙ c.addressee-in-One-1.given.1) in
+    omega (arith, below)
 
 pub bounds-offices-k-in-One : goal.bounds-offices-k-in-One
-bounds-offices-k-in-One c = below (goal.at.bounds-offices-k-in-One c).In-One-2
+bounds-offices-k-in-One c =
+    let below : c.addressee-in-One-1.given.0.0 < 8 = addressee-there _ _ _ _ (sym c.addressee_of-addressee.ensures ∙ c.addressee-in-One-1.given.1) in
+    below

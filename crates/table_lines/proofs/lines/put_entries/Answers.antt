@@ -11,7 +11,7 @@ overflow_add-result c = omega (arith, c.requires.1, c.well-formed.0.0)
 pub loop-i-preserved : goal.loop-i-preserved
 loop-i-preserved c =
     let l = c.loop-i in
-    digits-next l.invariant c.requires.0 c.requires.1 (search rules) _ c.office_of.ensures.0 c.put_number-next.ensures.0 c.put_number-next.ensures.1
+    digits-next l.invariant c.requires.0 c.requires.1 (search rules) _ c.office_of.ensures.0 c.put_number-next.ensures.end c.put_number-next.ensures.output
 
 pub returns : goal.returns
 returns c = digits-ends c.loop-i.invariant c.if-entries-eq0.false (search rules)
@@ -29,4 +29,4 @@ pub loop-i-init : goal.loop-i-init
 loop-i-init c = digits-begins _ _ _
 
 pub shape_of-out : goal.shape_of-out
-shape_of-out c = c.loop-i.invariant.left.long
+shape_of-out c = c.loop-i.invariant.false.long

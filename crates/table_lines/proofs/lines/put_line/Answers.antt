@@ -15,61 +15,59 @@ use Rattle.table_lines.specs.Lines.{empty_log, settled_from, few}
 use Rattle.table_lines.proofs.Small.{Three, three, small_any}
 use Rattle.table_lines.proofs.Settled.{settled-few, settled-count}
 use Rattle.table_lines.proofs.Written.{Seated, seated, seated-record, line-whole, line-written, spaced-short}
-use Rattle.table_lines.proofs.lines.put_line.Goals.{After-put_ballot-last, After-put_ballot-second, After-put_ballot-third, After-table_at-table}
 use Rattle.table_lines.proofs.lines.put_line.Goals as goal
-
-abbrev tails : (c : After-table_at-table) → Three (table_at c.args.place)
-tails c = three (table_at c.args.place) (small_any c.args.place)
-
-abbrev ballot : After-table_at-table → ℕ → Ballot
-ballot c k = get_or c.table_at-table.result.tails k off_end
-
-seats : (c : After-table_at-table) → Seated (ballot c 0) (tails c).x × (Seated (ballot c 1) (tails c).y × Seated (ballot c 2) (tails c).z)
-seats c = seated c.table_at-table.result.tails (table_at c.args.place) (tails c) off_end c.table_at-table.ensures
-
--- each ballot takes at most seven bytes, and the output keeps its length
-one : (c : After-put_ballot-second) → (c.put_ballot-second.result ≤ c.args.at + 7) × (length c.put_ballot-second.new.0 ≡ length c.args.out.now)
-one c =
-    (omega (arith, c.put_ballot-second.ensures.0, spaced-short (tail_of (ballot c.before.before.before.before.before.before.before 0)) 32 (seats c.before.before.before.before.before.before.before).0.few-entries), c.put_ballot-second.auto.0)
-
-two : (c : After-put_ballot-third) → (c.put_ballot-third.result ≤ c.args.at + 14) × (length c.put_ballot-third.new.0 ≡ length c.args.out.now)
-two c =
-    (omega (arith, c.put_ballot-third.ensures.0, (one c.before.before.before.before).0, spaced-short (tail_of (ballot c.before.before.before.before.before.before.before.before.before.before.before 1)) 32 (seats c.before.before.before.before.before.before.before.before.before.before.before).1.0.few-entries), c.put_ballot-third.auto.0 ∙ (one c.before.before.before.before).1)
-
-last : (c : After-put_ballot-last) → (c.put_ballot-last.result ≤ c.args.at + 21) × (length c.put_ballot-last.new.0 ≡ length c.args.out.now)
-last c =
-    (omega (arith, c.put_ballot-last.ensures.0, (two c.before.before.before.before).0, spaced-short (tail_of (ballot c.before.before.before.before.before.before.before.before.before.before.before.before.before.before.before 2)) 32 (seats c.before.before.before.before.before.before.before.before.before.before.before.before.before.before.before).1.1.few-entries), c.put_ballot-last.auto.0 ∙ (two c.before.before.before.before).1)
 
 pub put_ballot-second-requires : goal.put_ballot-second-requires
 put_ballot-second-requires c =
+    let tails : Three (table_at c.args.place) = three (table_at c.args.place) (small_any c.args.place) in
+    let ballot : ℕ → Ballot = λ k. get_or c.table_at-table.result.tails k off_end in
+    let seats : Seated (ballot 0) (tails).x × (Seated (ballot 1) (tails).y × Seated (ballot 2) (tails).z) = seated c.table_at-table.result.tails (table_at c.args.place) (tails) off_end c.table_at-table.ensures in
     let h : c.args.at + 27 ≤ length c.args.out.now = omega (arith, c.requires) in
-    ((seats (goal.at.put_ballot-second-requires c).After-table_at-table).0.few-entries, ((seats (goal.at.put_ballot-second-requires c).After-table_at-table).0.short, h))
+    ((seats).0.few-entries, ((seats).0.short, h))
 
 pub put_ballot-third-requires : goal.put_ballot-third-requires
 put_ballot-third-requires c =
-    let h : c.put_ballot-second.result + 27 ≤ length c.put_ballot-second.new.0 = omega (arith, c.requires, (one (goal.at.put_ballot-third-requires c).After-put_ballot-second).0, (one (goal.at.put_ballot-third-requires c).After-put_ballot-second).1) in
-    ((seats (goal.at.put_ballot-third-requires c).After-table_at-table).1.0.few-entries, ((seats (goal.at.put_ballot-third-requires c).After-table_at-table).1.0.short, h))
+    let tails : Three (table_at c.args.place) = three (table_at c.args.place) (small_any c.args.place) in
+    let ballot : ℕ → Ballot = λ k. get_or c.table_at-table.result.tails k off_end in
+    let seats : Seated (ballot 0) (tails).x × (Seated (ballot 1) (tails).y × Seated (ballot 2) (tails).z) = seated c.table_at-table.result.tails (table_at c.args.place) (tails) off_end c.table_at-table.ensures in
+    let one : (c.put_ballot-second.result ≤ c.args.at + 7) × (length c.put_ballot-second.new.0 ≡ length c.args.out.now) = (omega (arith, c.put_ballot-second.ensures.end, spaced-short (tail_of (ballot 0)) 32 (seats).0.few-entries), c.put_ballot-second.auto.0) in
+    let h : c.put_ballot-second.result + 27 ≤ length c.put_ballot-second.new.0 = omega (arith, c.requires, (one).0, (one).1) in
+    ((seats).1.0.few-entries, ((seats).1.0.short, h))
 
 pub put_ballot-last-requires : goal.put_ballot-last-requires
 put_ballot-last-requires c =
-    let h : c.put_ballot-third.result + 27 ≤ length c.put_ballot-third.new.0 = omega (arith, c.requires, (two (goal.at.put_ballot-last-requires c).After-put_ballot-third).0, (two (goal.at.put_ballot-last-requires c).After-put_ballot-third).1) in
-    ((seats (goal.at.put_ballot-last-requires c).After-table_at-table).1.1.few-entries, ((seats (goal.at.put_ballot-last-requires c).After-table_at-table).1.1.short, h))
+    let tails : Three (table_at c.args.place) = three (table_at c.args.place) (small_any c.args.place) in
+    let ballot : ℕ → Ballot = λ k. get_or c.table_at-table.result.tails k off_end in
+    let seats : Seated (ballot 0) (tails).x × (Seated (ballot 1) (tails).y × Seated (ballot 2) (tails).z) = seated c.table_at-table.result.tails (table_at c.args.place) (tails) off_end c.table_at-table.ensures in
+    let one : (c.put_ballot-second.result ≤ c.args.at + 7) × (length c.put_ballot-second.new.0 ≡ length c.args.out.now) = (omega (arith, c.put_ballot-second.ensures.end, spaced-short (tail_of (ballot 0)) 32 (seats).0.few-entries), c.put_ballot-second.auto.0) in
+    let two : (c.put_ballot-third.result ≤ c.args.at + 14) × (length c.put_ballot-third.new.0 ≡ length c.args.out.now) = (omega (arith, c.put_ballot-third.ensures.end, (one).0, spaced-short (tail_of (ballot 1)) 32 (seats).1.0.few-entries), c.put_ballot-third.auto.0 ∙ (one).1) in
+    let h : c.put_ballot-third.result + 27 ≤ length c.put_ballot-third.new.0 = omega (arith, c.requires, (two).0, (two).1) in
+    ((seats).1.1.few-entries, ((seats).1.1.short, h))
 
 pub put_settled-requires : goal.put_settled-requires
 put_settled-requires c =
+    let tails : Three (table_at c.args.place) = three (table_at c.args.place) (small_any c.args.place) in
+    let ballot : ℕ → Ballot = λ k. get_or c.table_at-table.result.tails k off_end in
+    let seats : Seated (ballot 0) (tails).x × (Seated (ballot 1) (tails).y × Seated (ballot 2) (tails).z) = seated c.table_at-table.result.tails (table_at c.args.place) (tails) off_end c.table_at-table.ensures in
+    let one : (c.put_ballot-second.result ≤ c.args.at + 7) × (length c.put_ballot-second.new.0 ≡ length c.args.out.now) = (omega (arith, c.put_ballot-second.ensures.end, spaced-short (tail_of (ballot 0)) 32 (seats).0.few-entries), c.put_ballot-second.auto.0) in
+    let two : (c.put_ballot-third.result ≤ c.args.at + 14) × (length c.put_ballot-third.new.0 ≡ length c.args.out.now) = (omega (arith, c.put_ballot-third.ensures.end, (one).0, spaced-short (tail_of (ballot 1)) 32 (seats).1.0.few-entries), c.put_ballot-third.auto.0 ∙ (one).1) in
+    let last : (c.put_ballot-last.result ≤ c.args.at + 21) × (length c.put_ballot-last.new.0 ≡ length c.args.out.now) = (omega (arith, c.put_ballot-last.ensures.end, (two).0, spaced-short (tail_of (ballot 2)) 32 (seats).1.1.few-entries), c.put_ballot-last.auto.0 ∙ (two).1) in
     let a = c.args in
     let small = small_any a.place in
-    let e = seated-record a.«record» c.with_table-seated.result (table_at a.place) (tails (goal.at.put_settled-requires c).After-table_at-table) _ _ _ (seats (goal.at.put_settled-requires c).After-table_at-table).0 (seats (goal.at.put_settled-requires c).After-table_at-table).1.0 (seats (goal.at.put_settled-requires c).After-table_at-table).1.1 c.with_table-seated.ensures in
-    let h : c.put_ballot-last.result + 27 ≤ length c.put_ballot-last.new.0 = omega (arith, c.requires, (last (goal.at.put_settled-requires c).After-put_ballot-last).0, (last (goal.at.put_settled-requires c).After-put_ballot-last).1) in
+    let e = seated-record a.«record» c.with_table-seated.result (table_at a.place) (tails) _ _ _ (seats).0 (seats).1.0 (seats).1.1 c.with_table-seated.ensures in
+    let h : c.put_ballot-last.result + 27 ≤ length c.put_ballot-last.new.0 = omega (arith, c.requires, (last).0, (last).1) in
     let count : (elect_of c.with_table-seated.result empty_log).count ≤ 1024 =
     omega (arith, ap (λ (x : Record). (elect_of x empty_log).count) e, settled-count a.«record» (table_at a.place) small) in
     (ap (λ (x : Record). few (settled_from x)) e ∙ settled-few a.«record» (table_at a.place) small, (count, h))
 
 pub returns : goal.returns
 returns c =
+    let tails : Three (table_at c.args.place) = three (table_at c.args.place) (small_any c.args.place) in
+    let ballot : ℕ → Ballot = λ k. get_or c.table_at-table.result.tails k off_end in
+    let seats : Seated (ballot 0) (tails).x × (Seated (ballot 1) (tails).y × Seated (ballot 2) (tails).z) = seated c.table_at-table.result.tails (table_at c.args.place) (tails) off_end c.table_at-table.ensures in
     let a = c.args in
     subst (λ (l : List ℕ). (c.put_settled.result ≡ a.at + length l) × (c.put_settled.new.0 ≡ sets a.out.now a.at l))
-    (line-written a.«record» c.with_table-seated.result (table_at a.place) (tails (goal.at.returns c).After-table_at-table) _ _ _ (seats (goal.at.returns c).After-table_at-table).0 (seats (goal.at.returns c).After-table_at-table).1.0 (seats (goal.at.returns c).After-table_at-table).1.1 c.with_table-seated.ensures)
+    (line-written a.«record» c.with_table-seated.result (table_at a.place) (tails) _ _ _ (seats).0 (seats).1.0 (seats).1.1 c.with_table-seated.ensures)
     (line-whole (settled_from c.with_table-seated.result) _ _ _ a.out.now _ _ _ _ a.at _ _ _ _
-    c.put_ballot-second.ensures.0 c.put_ballot-second.ensures.1 c.put_ballot-third.ensures.0 c.put_ballot-third.ensures.1
-    c.put_ballot-last.ensures.0 c.put_ballot-last.ensures.1 c.put_settled.ensures.0 c.put_settled.ensures.1)
+    c.put_ballot-second.ensures.end c.put_ballot-second.ensures.output c.put_ballot-third.ensures.end c.put_ballot-third.ensures.output
+    c.put_ballot-last.ensures.end c.put_ballot-last.ensures.output c.put_settled.ensures.end c.put_settled.ensures.output)

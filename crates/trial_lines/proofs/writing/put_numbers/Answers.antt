@@ -22,7 +22,7 @@ pub loop-i-preserved : goal.loop-i-preserved
 loop-i-preserved c = put_next c.loop-i.invariant c.room_for-put.ensures c.loop-i-test.true c.value.result c.value.ensures
 
 pub shape_of-to : goal.shape_of-to
-shape_of-to c = c.loop-i.invariant.left.long
+shape_of-to c = c.loop-i.invariant.false.long
 
 pub returns : goal.returns
 returns c = let e = c.room_for-put.ensures in (e, put-ends c.loop-i.invariant e c.loop-i-test.false)

@@ -2,18 +2,12 @@
 use Rattle.std.proofs.Common.{◌≡◌, ℕ, ◌+◌, ◌-◌, ◌*◌, ◌/◌, ◌<◌, ◌≤◌, length, sym, ap, ◌∙◌, le-div_iff_mul-le, arith, rules}
 use Rattle.trial_lines.specs.Writing.{said_from}
 use Rattle.trial_lines.proofs.Putting.{said-length, put_refused, put-taken}
-use Rattle.trial_lines.proofs.writing.room_for.Goals.{After-within-count, Else-times-most}
 use Rattle.trial_lines.proofs.writing.room_for.Goals as goal
 
--- how many numbers there are
-many : (c : After-within-count) → let a = c.args in length (said_from a.line a.from) ≡ c.within-count.result + 1 - a.from
-many c =
-    let a = c.args in
-    let h : length a.line.numbers ≡ 25 = search rules in
-    said-length a.line a.from h ∙ ap (λ (k : ℕ). k + 1 - a.from) (sym c.within-count.ensures)
-
 pub returns-then-from-count : goal.returns-then-from-count
-returns-then-from-count c = put_refused _ _ _ _ _ (λ h. omega (arith, h.0, many (goal.at.returns-then-from-count c).After-within-count))
+returns-then-from-count c =
+    let many : let a = c.args in length (said_from a.line a.from) ≡ c.within-count.result + 1 - a.from = let a = c.args in let h : length a.line.numbers ≡ 25 = search rules in said-length a.line a.from h ∙ ap (λ (k : ℕ). k + 1 - a.from) (sym c.within-count.ensures) in
+    put_refused _ _ _ _ _ (λ h. omega (arith, h.0, many))
 
 pub returns-then-at-room : goal.returns-then-at-room
 returns-then-at-room c = put_refused _ _ _ _ _ (λ h. omega (arith, h.1))
@@ -30,18 +24,22 @@ past at times each room n e a q h =
 
 pub returns-then-times-most : goal.returns-then-times-most
 returns-then-times-most c =
+    let many : let a = c.args in length (said_from a.line a.from) ≡ c.within-count.result + 1 - a.from = let a = c.args in let h : length a.line.numbers ≡ 25 = search rules in said-length a.line a.from h ∙ ap (λ (k : ℕ). k + 1 - a.from) (sym c.within-count.ensures) in
     let a = c.args in
-    put_refused _ _ _ _ _ (past a.at a.times (c.within-count.result - a.from + 1) a.room _ (omega (arith, many (goal.at.returns-then-times-most c).After-within-count)) c.if-at-room.false c.if-times-most.true)
-
-fits : (c : Else-times-most) → let a = c.args in a.times * (c.within-count.result - a.from + 1) ≤ a.room - a.at
-fits c = let a = c.args in product a.times (c.within-count.result - a.from + 1) (a.room - a.at) (omega arith) (omega arith)
+    put_refused _ _ _ _ _ (past a.at a.times (c.within-count.result - a.from + 1) a.room _ (omega (arith, many)) c.if-at-room.false c.if-times-most.true)
 
 pub returns : goal.returns
 returns c =
-    put-taken _ _ _ _ _ (c.within-count.result - c.args.from + 1) (omega (arith, many (goal.at.returns c).After-within-count)) (omega arith) (omega (arith, fits c))
+    let many : let a = c.args in length (said_from a.line a.from) ≡ c.within-count.result + 1 - a.from = let a = c.args in let h : length a.line.numbers ≡ 25 = search rules in said-length a.line a.from h ∙ ap (λ (k : ℕ). k + 1 - a.from) (sym c.within-count.ensures) in
+    let fits : let a = c.args in a.times * (c.within-count.result - a.from + 1) ≤ a.room - a.at = let a = c.args in product a.times (c.within-count.result - a.from + 1) (a.room - a.at) (omega arith) (omega arith) in
+    put-taken _ _ _ _ _ (c.within-count.result - c.args.from + 1) (omega (arith, many)) (omega arith) (omega (arith, fits))
 
 pub overflow_mul-result : goal.overflow_mul-result
-overflow_mul-result c = omega (arith, fits c)
+overflow_mul-result c =
+    let fits : let a = c.args in a.times * (c.within-count.result - a.from + 1) ≤ a.room - a.at = let a = c.args in product a.times (c.within-count.result - a.from + 1) (a.room - a.at) (omega arith) (omega arith) in
+    omega (arith, fits)
 
 pub overflow_add-result : goal.overflow_add-result
-overflow_add-result c = omega (arith, fits c)
+overflow_add-result c =
+    let fits : let a = c.args in a.times * (c.within-count.result - a.from + 1) ≤ a.room - a.at = let a = c.args in product a.times (c.within-count.result - a.from + 1) (a.room - a.at) (omega arith) (omega arith) in
+    omega (arith, fits)
