@@ -30,7 +30,7 @@ pub put32-requires : goal.put32-requires
 put32-requires c = omega arith
 
 pub overflow_add-p : goal.overflow_add-p
-overflow_add-p c = omega (arith, (goal.at.overflow_add-p c).Start.before)
+overflow_add-p c = omega arith
 
 pub overflow_step-i : goal.overflow_step-i
 overflow_step-i c = omega arith

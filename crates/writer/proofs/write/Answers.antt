@@ -43,23 +43,25 @@ put_front-p-requires c =
 
 pub put_ballot-p-requires : goal.put_ballot-p-requires
 put_ballot-p-requires c =
+    let ballots-long : c.args.n ≤ length c.args.ballots = let e : length c.args.ballots ≡ 8 = search rules in omega (arith, e, c.requires.few-offices) in
     let weights-long : c.args.n ≤ length c.args.weights = let e : length c.args.weights ≡ 8 = search rules in omega (arith, e, c.requires.few-offices) in
     let message : List ℕ = message_of c.args.sender c.args.n c.args.weights c.args.dropped c.args.log.now c.args.held c.args.ballots in
     let size-counted : c.loop-o.size ≡ length (message) = counted c.args.sender c.args.n c.args.weights c.args.dropped c.args.log.now c.args.held c.args.ballots (weights-long) c.requires.log-long _ _ _ (omega (arith, c.head_size.ensures)) c.loop-o.invariant c.loop-o-test.false in
     let fits : let a = c.args in head_size a.n + 6 * a.held + 2 + length (ballots_bytes 0 (tails_of a.n a.ballots)) ≤ length a.out.now = omega ( arith, size-counted, c.if-out-size.false, message-length c.args.sender c.args.n c.args.weights c.args.dropped c.args.log.now c.args.held c.args.ballots (weights-long) c.requires.log-long, ) in
-    let room : let a = c.before.before.before.before.before.before.before.before.before.before.before.before.args in c.put_front-p.result + (length (ballots_bytes 0 (tails_of a.n a.ballots)) + 2) ≤ length c.put_front-p.new.out = let front = c.put_front-p in omega (arith, fits, front.kept.0, front.ensures.0) in
-    let s = (goal.at.put_ballot-p-requires c).Start.before in (
-      len-at s.args.ballots _ _ s.pre.shapes (omega (arith, c.loop-o-2-test.true, ballots-long s)),
-      (omega (arith, c.loop-o-2-test.true, s.pre.few-offices), put-room c.loop-o-2.invariant none c.loop-o-2-test.true (ballots-long s) (omega (arith, room))),
+    let room : let a = c.args in c.put_front-p.result + (length (ballots_bytes 0 (tails_of a.n a.ballots)) + 2) ≤ length c.put_front-p.new.out = let front = c.put_front-p in omega (arith, fits, front.auto.out, front.ensures.0) in
+    (
+      len-at c.args.ballots _ _ c.requires.shapes (omega (arith, c.loop-o-2-test.true, ballots-long)),
+      (omega (arith, c.loop-o-2-test.true, c.requires.few-offices), put-room c.loop-o-2.invariant none c.loop-o-2-test.true (ballots-long) (omega (arith, room))),
     )
 
 pub loop-o-2-preserved : goal.loop-o-2-preserved
 loop-o-2-preserved c =
+    let ballots-long : c.args.n ≤ length c.args.ballots = let e : length c.args.ballots ≡ 8 = search rules in omega (arith, e, c.requires.few-offices) in
     let put = c.put_ballot-p in
-    put-again c.loop-o-2.invariant none c.loop-o-2-test.true (ballots-long ((goal.at.loop-o-2-preserved c).Start.before)) put.ensures.0 put.ensures.1
+    put-again c.loop-o-2.invariant none c.loop-o-2-test.true (ballots-long) put.ensures.0 put.ensures.1
 
 pub shape_of-out : goal.shape_of-out
-shape_of-out c = c.put_end.auto.out ∙ (c.loop-o-2.invariant.false.long ∙ c.put_front-p.kept.0)
+shape_of-out c = c.put_end.auto.out ∙ (c.loop-o-2.invariant.left.long ∙ c.put_front-p.auto.out)
 
 pub returns : goal.returns
 returns c =
@@ -67,15 +69,14 @@ returns c =
     let message : List ℕ = message_of c.args.sender c.args.n c.args.weights c.args.dropped c.args.log.now c.args.held c.args.ballots in
     let size-counted : c.loop-o.size ≡ length (message) = counted c.args.sender c.args.n c.args.weights c.args.dropped c.args.log.now c.args.held c.args.ballots (weights-long) c.requires.log-long _ _ _ (omega (arith, c.head_size.ensures)) c.loop-o.invariant c.loop-o-test.false in
     let front = c.put_front-p in
-    let s = (goal.at.returns c).Start.before in
-    let a = s.args in
+    let a = c.args in
     let ballots = put-ends c.loop-o-2.invariant c.loop-o-2-test.false in
     let size = size-counted in
     let long = c.if-out-size.false in
-    let w = written (message s) a.out.now _ size (omega (arith, long)) in (
+    let w = written (message) a.out.now _ size (omega (arith, long)) in (
       w.0,
-      whole-written a.sender a.n a.weights a.dropped a.log.now a.held a.ballots (weights-long s) s.pre.log-long
-          a.out.now front.last.0 _ _ front.result _
+      whole-written a.sender a.n a.weights a.dropped a.log.now a.held a.ballots (weights-long) c.requires.log-long
+          a.out.now front.new.out _ _ front.result _
           front.ensures.0 front.ensures.1 ballots.0 ballots.1 c.put_end.ensures (omega (arith, size, long)) ∙ w.1,
     )
 
@@ -123,17 +124,17 @@ loop-o-2-init c = put-begins _ _ _ _
 
 pub offset_bounds-ballots-o-in-loop-o-2 : goal.offset_bounds-ballots-o-in-loop-o-2
 offset_bounds-ballots-o-in-loop-o-2 c =
-    let few-2 : c.loop-o-2.o < 8 = omega (arith, c.loop-o-2-test.true, c.before.before.before.before.before.before.before.before.before.before.before.before.before.pre.few-offices) in
+    let few-2 : c.loop-o-2.o < 8 = omega (arith, c.loop-o-2-test.true, c.requires.few-offices) in
     omega (arith, few-2)
 
 pub bounds-ballots-o-in-loop-o-2 : goal.bounds-ballots-o-in-loop-o-2
 bounds-ballots-o-in-loop-o-2 c =
-    let few-2 : c.loop-o-2.o < 8 = omega (arith, c.loop-o-2-test.true, c.before.before.before.before.before.before.before.before.before.before.before.before.before.pre.few-offices) in
+    let few-2 : c.loop-o-2.o < 8 = omega (arith, c.loop-o-2-test.true, c.requires.few-offices) in
     few-2
 
 pub overflow_step-o-in-loop-o-2 : goal.overflow_step-o-in-loop-o-2
 overflow_step-o-in-loop-o-2 c =
-    let few-2 : c.loop-o-2.o < 8 = omega (arith, c.loop-o-2-test.true, c.before.before.before.before.before.before.before.before.before.before.before.before.before.pre.few-offices) in
+    let few-2 : c.loop-o-2.o < 8 = omega (arith, c.loop-o-2-test.true, c.requires.few-offices) in
     omega (arith, few-2)
 
 pub loop-o-2-smaller : goal.loop-o-2-smaller
@@ -145,6 +146,6 @@ put_end-requires c =
     let message : List ℕ = message_of c.args.sender c.args.n c.args.weights c.args.dropped c.args.log.now c.args.held c.args.ballots in
     let size-counted : c.loop-o.size ≡ length (message) = counted c.args.sender c.args.n c.args.weights c.args.dropped c.args.log.now c.args.held c.args.ballots (weights-long) c.requires.log-long _ _ _ (omega (arith, c.head_size.ensures)) c.loop-o.invariant c.loop-o-test.false in
     let fits : let a = c.args in head_size a.n + 6 * a.held + 2 + length (ballots_bytes 0 (tails_of a.n a.ballots)) ≤ length a.out.now = omega ( arith, size-counted, c.if-out-size.false, message-length c.args.sender c.args.n c.args.weights c.args.dropped c.args.log.now c.args.held c.args.ballots (weights-long) c.requires.log-long, ) in
-    let room : let a = c.before.before.before.before.before.before.before.before.before.before.before.before.args in c.put_front-p.result + (length (ballots_bytes 0 (tails_of a.n a.ballots)) + 2) ≤ length c.put_front-p.new.out = let front = c.put_front-p in omega (arith, fits, front.kept.0, front.ensures.0) in
+    let room : let a = c.args in c.put_front-p.result + (length (ballots_bytes 0 (tails_of a.n a.ballots)) + 2) ≤ length c.put_front-p.new.out = let front = c.put_front-p in omega (arith, fits, front.auto.out, front.ensures.0) in
     let end-room : c.loop-o-2.p + 2 ≤ length c.loop-o-2.out = let inv = c.loop-o-2.invariant in omega (arith, room, inv.left.long, (put-ends inv c.loop-o-2-test.false).0) in
     end-room
