@@ -1,7 +1,6 @@
 use Prim.Native.Nat.{ℕ, ◌+◌, ◌*◌, ◌-◌}
 use mathlib.Core.Bool.{◌&&◌, true}
 use mathlib.Core.List.{List}
-use mathlib.Core.Logic.{⊎_elim}
 use mathlib.Core.Path.{◌≡◌, refl, sym, ap, ap₂, ◌∙◌}
 use native.Mathlib.Omega.{arith}
 use lib.ListN.{drop, length, replicate, take}
@@ -20,8 +19,7 @@ use Rattle.message_heads.proofs.Heads.{Within, head_passed, settled-fits, within
 use Rattle.reading.specs.Read.{ballots_of}
 use Rattle.reading.proofs.Ballots.{Left, again, all-stored, begins-left, decides, fails, skipped}
 use Rattle.reading.proofs.Whole.{Parts, fine-shapes, no-ballots, no-head, no_lengths, no-log, no-tails, read_all, rest-at, said-beside, stored-fine, stored-tails}
-use Rattle.reading.proofs.read.Invariants.{msg, head, rest}
-use Rattle.reading.proofs.read.Goals.{Else-not-m}
+use Rattle.reading.proofs.read.Goals.{then-b-gt0, else-b-gt0}
 use Rattle.reading.proofs.read.Goals as goal
 
 pub returns-then-not-m : goal.returns-then-not-m
@@ -62,7 +60,7 @@ returns-then-not-step c =
     let rest : List ℕ = take (length (msg) - (head).head) (drop (head).head (msg)) in
     let passed : (head_within (msg) ≡ true) × (head ≡ head_said (msg) (replicate 8 no_ballot)) = let e = c.read_head-m.ensures in let p = head_passed (msg) (ap (λ (r : Reading). r.ok) (sym e) ∙ c.if-not-m.false) in (p.0, e ∙ p.1) in
     let parts : Parts (msg) (head).n (head).held (rest) = let e = (passed).1 in record { bytes = λ i. omega (arith, c.type_inv.msg i); within = (passed).0; count = ap (λ (r : Reading). r.n) e; held = ap (λ (r : Reading). r.held) e; rest-is = rest-at (msg) (head).head (ap (λ (r : Reading). r.head) e); } in
-    c.bad_reading-then-not-step.ensures ∙ no-ballots _ _ _ _ (parts) (fails c.loop-o.invariant.1 c.loop-o-test.true c.read_ballot-step.ensures c.if-not-step.true)
+    c.bad_reading-then-not-step.ensures ∙ no-ballots _ _ _ _ (parts) (fails c.loop-o.invariant.1 c.loop-o-test.true c.read_ballot-step.ensures (not-true _ c.if-not-step.true))
 
 pub bounds-m-o : goal.bounds-m-o
 bounds-m-o c =
@@ -78,9 +76,11 @@ pub loop-o-preserved : goal.loop-o-preserved
 loop-o-preserved c =
     let l = c.loop-o in
     let here = c.loop-o-test.true in
-    let good = c.if-not-step.false in
-    ⊎_elim (λ w. rw w.1 (said-beside _ l.m _ l.invariant.0, again l.invariant.1 here c.read_ballot-step.ensures good))
-    (λ w. rw w.1 (l.invariant.0, skipped l.invariant.1 here c.read_ballot-step.ensures good (omega (arith, w.0.left)))) c.if-b-gt0.branch
+    let good = not-false _ c.if-not-step.false in
+    elim c.if-b-gt0.branch [
+      then-b-gt0 w ↦ rw w.m-is (said-beside _ l.m _ l.invariant.0, again l.invariant.1 here c.read_ballot-step.ensures good)
+      | else-b-gt0 w ↦ rw w.m-is (l.invariant.0, skipped l.invariant.1 here c.read_ballot-step.ensures good (omega (arith, w.if-b-gt0.false)))
+    ]
 
 -- n is at most 8, and at most 1024 entries are held
 pub fine-requires : goal.fine-requires
@@ -118,7 +118,7 @@ overflow_add-m c =
     omega (arith, ap (λ (r : Reading). r.dropped) c.loop-o.invariant.0, p.held, settled-fits (msg) p.bytes (facts))
 
 pub within-requires : goal.within-requires
-within-requires c = fine-shapes _ _ _ (sym c.fine.ensures ∙ (and-true c.read_end-end.result.ok c.fine.result c.if-not-end-fine.false).1)
+within-requires c = fine-shapes _ _ _ (sym c.fine.ensures ∙ (and-true c.read_end-end.result.ok c.fine.result (c.if-not-end-fine.false)).1)
 
 pub returns-then-not-within : goal.returns-then-not-within
 returns-then-not-within c =
@@ -143,9 +143,8 @@ returns c =
     let stored : c.loop-o.m.ballots ≡ ballots_of (head).n (tails_at (drop (6 * (head).held) (rest)) 0 (head).n) = all-stored c.loop-o.invariant.1 c.loop-o-test.false (omega (arith, facts, (parts).count)) in
     let last : let bs = drop (6 * (head).held) (rest) in (c.read_end-end.result.ok && c.fine.result) ≡ both (ballots_ok bs 0 (head).n) (tails_fine (head).n (head).held (eight_tails (head).n (tails_at bs 0 (head).n))) = and_both _ _ ∙ ap₂ both (sym (decides c.loop-o.invariant.1 c.loop-o-test.false c.read_end-end.ensures)) (c.fine.ensures ∙ stored-fine _ _ _ _ (stored)) in
     let bounded : c.within.result ≡ lengths_fine (dropped_at (msg) + (head).held) (eight_tails (head).n (tails_at (drop (6 * (head).held) (rest)) 0 (head).n)) = let d = ap (λ (r : Reading). r.dropped + (head).held) c.loop-o.invariant.0 in c.within.ensures ∙ ap₂ lengths_fine d (stored-tails _ _ _ (stored)) in
-    let passed-log = (goal.at.returns c).Else-not-log_within in
     c.loop-o.invariant.0
-    ∙ read_all _ _ _ _ (parts) c.loop-o.m.ballots (sym passed-log.before.log-within.ensures ∙ not-false _ passed-log.if2.left)
+    ∙ read_all _ _ _ _ (parts) c.loop-o.m.ballots (sym c.log_within.ensures ∙ c.if-not-log_within.false)
     (sym (last) ∙ c.if-not-end-fine.false) (sym (bounded) ∙ c.if-not-within.false) (stored)
 
 pub slice_bounds-rest-start : goal.slice_bounds-rest-start

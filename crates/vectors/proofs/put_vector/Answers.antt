@@ -29,7 +29,7 @@ pub put64-requires : goal.put64-requires
 put64-requires c = omega arith
 
 pub overflow_add-p : goal.overflow_add-p
-overflow_add-p c = omega (arith, (goal.at.overflow_add-p c).Start.before)
+overflow_add-p c = omega arith
 
 pub overflow_step-k : goal.overflow_step-k
 overflow_step-k c = omega arith

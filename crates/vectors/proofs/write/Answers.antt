@@ -10,8 +10,6 @@ use Rattle.writer.proofs.Ballots.{len-at}
 use Rattle.writer.proofs.Whole.{refused, written}
 use Rattle.vectors.specs.Vectors.{EachAtMost, kept_count_limit, vector_of, versions_bytes, versions_in}
 use Rattle.vectors.proofs.Vectors.{ToWrite, log-most, log-vector, all-is, row-few, size_is, tails_in, whole, write_again, write-begins, write-ends, write-room}
-use Rattle.vectors.proofs.write.Invariants.{size, base}
-use Rattle.vectors.proofs.write.Goals.{After-counts_after-base, Start}
 use Rattle.vectors.proofs.write.Goals as goal
 
 pub returns-then-out-size : goal.returns-then-out-size
@@ -57,7 +55,7 @@ put_vector-p-requires-in-loop-o c =
     let size : 8 * c.args.n + 8 * c.args.n * c.args.n ≡ length (all) = size_is c.args.n (kept) (kept-long) c.args.log.now c.args.ballots (ballots-long) in
     let fits : length (all) ≤ length c.args.out.now = omega (arith, size, c.if-out-size.false) in
     let log-counts : base ≡ vector_of (kept) c.args.log.now = log-vector c.args.n c.args.start (counts-long) c.args.log.now c.counts_after-base.result c.counts_after-base.ensures in
-    let room : c.put_vector-p.result + length (versions_bytes (base) (tails_in c.args.n c.args.ballots)) ≤ length c.put_vector-p.new.out = let put = c.put_vector-p in omega (arith, put.kept.0, put.ensures.0, fits, all-is c.args.n (kept) (kept-long) c.args.log.now c.args.ballots (base) (log-counts)) in
+    let room : c.put_vector-p.result + length (versions_bytes (base) (tails_in c.args.n c.args.ballots)) ≤ length c.put_vector-p.new.out = let put = c.put_vector-p in omega (arith, put.auto.out, put.ensures.0, fits, all-is c.args.n (kept) (kept-long) c.args.log.now c.args.ballots (base) (log-counts)) in
     (c.requires.most, write-room c.loop-o.invariant (base-long) (ballots-long) c.loop-o-test.true (room))
 
 pub loop-o-preserved : goal.loop-o-preserved
@@ -73,7 +71,7 @@ loop-o-preserved c =
     put.ensures.0 put.ensures.1
 
 pub shape_of-out : goal.shape_of-out
-shape_of-out c = c.loop-o.invariant.false.long ∙ c.put_vector-p.kept.0
+shape_of-out c = c.loop-o.invariant.left.long ∙ c.put_vector-p.auto.out
 
 pub returns : goal.returns
 returns c =
@@ -93,7 +91,7 @@ returns c =
     let w = written (all) a.out.now _ (size) (omega (arith, fits, size)) in (
       w.0,
       whole a.n (kept) (kept-long) a.log.now a.ballots (base) (log-counts)
-          a.out.now put.last.0 c.loop-o.out put.result put.ensures.0 put.ensures.1
+          a.out.now put.new.out c.loop-o.out put.result put.ensures.0 put.ensures.1
           (write-ends c.loop-o.invariant (base-long) (ballots-long) c.loop-o-test.false) (fits) ∙ w.1,
     )
 

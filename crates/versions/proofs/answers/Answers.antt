@@ -13,8 +13,6 @@ use Rattle.vectors.specs.Vectors.{EachAtMost, kept_count_limit, versions_in}
 use Rattle.vectors.proofs.Vectors.{log-most, log-vector}
 use Rattle.versions.specs.Versions.{answers_to, compared_to, counts_in, nine}
 use Rattle.versions.proofs.Paths.{ToAnswer, answer-again, answer-begins, answer-ends, nine-answers}
-use Rattle.versions.proofs.answers.Invariants.{given}
-use Rattle.versions.proofs.answers.Goals.{At-loop-o}
 use Rattle.versions.proofs.answers.Goals as goal
 
 pub counts_after-base-requires : goal.counts_after-base-requires

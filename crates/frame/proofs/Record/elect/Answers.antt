@@ -15,8 +15,6 @@ use Rattle.frame.proofs.Sound.{sound}
 use Rattle.frame.proofs.State.{electable}
 use Rattle.frame.proofs.Steps.{Run, run-start, stepping, run-place, run_room, run_more, run_long, run_end}
 use Rattle.frame.proofs.Elect.{elect-unsound, elect-made}
-use Rattle.frame.proofs.Record.elect.Invariants.{start}
-use Rattle.frame.proofs.Record.elect.Goals.{Else-not-sound, Start}
 use Rattle.frame.proofs.Record.elect.Goals as goal
 
 pub returns-then-not-sound : goal.returns-then-not-sound
@@ -76,7 +74,7 @@ pub loop-now-preserved : goal.loop-now-preserved
 loop-now-preserved c S b =
     let l = c.loop-now in
     run_more _ _ S _ _ _ _ (l.invariant S b) _ c.step-now.ensures.0 _ c.step-now.ensures.1 c.if-now-before.false _
-    (c.count.ensures ∙ ap (λ (k : ℕ). counted l.counts (get_or c.step-now.last.1.1.0 (k + l.count) 0)) c.held-start.ensures)
+    (c.count.ensures ∙ ap (λ (k : ℕ). counted l.counts (get_or c.step-now.new.1.1.0 (k + l.count) 0)) c.held-start.ensures)
 
 pub shape_of-log : goal.shape_of-log
 shape_of-log c =
