@@ -57,7 +57,7 @@ bounds-log-start c =
     let sounds : let a = c.args in Sound a.self a.log.now = sound _ _ (passed) in
     let begun : let a = c.args in c.counts_after-counts.result ≡ counts_after a.self.kept.counts (take (held_length a.self) a.log.now) = let a = c.args in c.counts_after-counts.ensures ∙ ap (λ (n : ℕ). counts_after a.self.kept.counts (take n a.log.now)) c.held-start.ensures in
     let run : let a = c.args in let l = c.loop-now in Run a.self a.log.now l.now l.log l.counts l.count = c.loop-now.invariant (sounds) (begun) in
-    let place : let x = won c in let h = held (counting x) in (h.held.result + x.before.before.loop.count < 1024) × (length x.step.last.1.1.0 ≡ length (start (tested h)).args.log.now) = let p = run-place _ _ (sounds) _ _ _ _ (run) _ c.step-now.ensures.0 _ c.step-now.ensures.1 c.if-now-before.false in (omega (arith, p.0, c.held-start.ensures), p.1) in
+    let place : (c.held-start.result + c.loop-now.count < 1024) × (length c.step-now.new.log ≡ length c.args.log.now) = let p = run-place _ _ (sounds) _ _ _ _ (run) _ c.step-now.ensures.0 _ c.step-now.ensures.1 c.if-now-before.false in (omega (arith, p.0, c.held-start.ensures), p.1) in
     let p = place in omega (arith, p.0, p.1, (sounds).room)
 
 pub count-requires : goal.count-requires
@@ -74,7 +74,7 @@ pub loop-now-preserved : goal.loop-now-preserved
 loop-now-preserved c S b =
     let l = c.loop-now in
     run_more _ _ S _ _ _ _ (l.invariant S b) _ c.step-now.ensures.0 _ c.step-now.ensures.1 c.if-now-before.false _
-    (c.count.ensures ∙ ap (λ (k : ℕ). counted l.counts (get_or c.step-now.new.1.1.0 (k + l.count) 0)) c.held-start.ensures)
+    (c.count.ensures ∙ ap (λ (k : ℕ). counted l.counts (get_or c.step-now.new.log (k + l.count) 0)) c.held-start.ensures)
 
 pub shape_of-log : goal.shape_of-log
 shape_of-log c =
@@ -109,7 +109,7 @@ overflow_add-start c =
     let sounds : let a = c.args in Sound a.self a.log.now = sound _ _ (passed) in
     let begun : let a = c.args in c.counts_after-counts.result ≡ counts_after a.self.kept.counts (take (held_length a.self) a.log.now) = let a = c.args in c.counts_after-counts.ensures ∙ ap (λ (n : ℕ). counts_after a.self.kept.counts (take n a.log.now)) c.held-start.ensures in
     let run : let a = c.args in let l = c.loop-now in Run a.self a.log.now l.now l.log l.counts l.count = c.loop-now.invariant (sounds) (begun) in
-    let place : let x = won c in let h = held (counting x) in (h.held.result + x.before.before.loop.count < 1024) × (length x.step.last.1.1.0 ≡ length (start (tested h)).args.log.now) = let p = run-place _ _ (sounds) _ _ _ _ (run) _ c.step-now.ensures.0 _ c.step-now.ensures.1 c.if-now-before.false in (omega (arith, p.0, c.held-start.ensures), p.1) in
+    let place : (c.held-start.result + c.loop-now.count < 1024) × (length c.step-now.new.log ≡ length c.args.log.now) = let p = run-place _ _ (sounds) _ _ _ _ (run) _ c.step-now.ensures.0 _ c.step-now.ensures.1 c.if-now-before.false in (omega (arith, p.0, c.held-start.ensures), p.1) in
     let p = place in omega (arith, p.0)
 
 pub offset_bounds-log-start : goal.offset_bounds-log-start
@@ -118,7 +118,7 @@ offset_bounds-log-start c =
     let sounds : let a = c.args in Sound a.self a.log.now = sound _ _ (passed) in
     let begun : let a = c.args in c.counts_after-counts.result ≡ counts_after a.self.kept.counts (take (held_length a.self) a.log.now) = let a = c.args in c.counts_after-counts.ensures ∙ ap (λ (n : ℕ). counts_after a.self.kept.counts (take n a.log.now)) c.held-start.ensures in
     let run : let a = c.args in let l = c.loop-now in Run a.self a.log.now l.now l.log l.counts l.count = c.loop-now.invariant (sounds) (begun) in
-    let place : let x = won c in let h = held (counting x) in (h.held.result + x.before.before.loop.count < 1024) × (length x.step.last.1.1.0 ≡ length (start (tested h)).args.log.now) = let p = run-place _ _ (sounds) _ _ _ _ (run) _ c.step-now.ensures.0 _ c.step-now.ensures.1 c.if-now-before.false in (omega (arith, p.0, c.held-start.ensures), p.1) in
+    let place : (c.held-start.result + c.loop-now.count < 1024) × (length c.step-now.new.log ≡ length c.args.log.now) = let p = run-place _ _ (sounds) _ _ _ _ (run) _ c.step-now.ensures.0 _ c.step-now.ensures.1 c.if-now-before.false in (omega (arith, p.0, c.held-start.ensures), p.1) in
     let p = place in omega (arith, p.0)
 
 pub overflow_add-count : goal.overflow_add-count
@@ -127,7 +127,7 @@ overflow_add-count c =
     let sounds : let a = c.args in Sound a.self a.log.now = sound _ _ (passed) in
     let begun : let a = c.args in c.counts_after-counts.result ≡ counts_after a.self.kept.counts (take (held_length a.self) a.log.now) = let a = c.args in c.counts_after-counts.ensures ∙ ap (λ (n : ℕ). counts_after a.self.kept.counts (take n a.log.now)) c.held-start.ensures in
     let run : let a = c.args in let l = c.loop-now in Run a.self a.log.now l.now l.log l.counts l.count = c.loop-now.invariant (sounds) (begun) in
-    let place : let x = won c in let h = held (counting x) in (h.held.result + x.before.before.loop.count < 1024) × (length x.step.last.1.1.0 ≡ length (start (tested h)).args.log.now) = let p = run-place _ _ (sounds) _ _ _ _ (run) _ c.step-now.ensures.0 _ c.step-now.ensures.1 c.if-now-before.false in (omega (arith, p.0, c.held-start.ensures), p.1) in
+    let place : (c.held-start.result + c.loop-now.count < 1024) × (length c.step-now.new.log ≡ length c.args.log.now) = let p = run-place _ _ (sounds) _ _ _ _ (run) _ c.step-now.ensures.0 _ c.step-now.ensures.1 c.if-now-before.false in (omega (arith, p.0, c.held-start.ensures), p.1) in
     let p = place in omega (arith, p.0)
 
 pub loop-now-smaller : goal.loop-now-smaller
@@ -136,5 +136,5 @@ loop-now-smaller c =
     let sounds : let a = c.args in Sound a.self a.log.now = sound _ _ (passed) in
     let begun : let a = c.args in c.counts_after-counts.result ≡ counts_after a.self.kept.counts (take (held_length a.self) a.log.now) = let a = c.args in c.counts_after-counts.ensures ∙ ap (λ (n : ℕ). counts_after a.self.kept.counts (take n a.log.now)) c.held-start.ensures in
     let run : let a = c.args in let l = c.loop-now in Run a.self a.log.now l.now l.log l.counts l.count = c.loop-now.invariant (sounds) (begun) in
-    let place : let x = won c in let h = held (counting x) in (h.held.result + x.before.before.loop.count < 1024) × (length x.step.last.1.1.0 ≡ length (start (tested h)).args.log.now) = let p = run-place _ _ (sounds) _ _ _ _ (run) _ c.step-now.ensures.0 _ c.step-now.ensures.1 c.if-now-before.false in (omega (arith, p.0, c.held-start.ensures), p.1) in
+    let place : (c.held-start.result + c.loop-now.count < 1024) × (length c.step-now.new.log ≡ length c.args.log.now) = let p = run-place _ _ (sounds) _ _ _ _ (run) _ c.step-now.ensures.0 _ c.step-now.ensures.1 c.if-now-before.false in (omega (arith, p.0, c.held-start.ensures), p.1) in
     let p = place in omega (arith, p.0)
