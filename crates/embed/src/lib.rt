@@ -2,6 +2,7 @@
 // answers, by that call's equation; settled, the two frames of a line and the forecast cross as `Part`, and as `Framed` and `Foreseen` of `crossing`. include/joukerpan.h
 // declares them for C.
 #![tactic(auto)]
+
 ghost use Rattle.std.specs.Prelude.{◌≡◌};
 ghost use Rattle.frame.specs.Soundness.{sound_b};
 ghost use Rattle.frame.specs.Founding.{found_of};
