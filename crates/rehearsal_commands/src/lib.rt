@@ -1,5 +1,6 @@
 // The rehearsal's commands: what one line of input asks for.
 #![tactic(auto)]
+
 ghost use Rattle.std.specs.Prelude.{◌≡◌, ◌<◌, length, drop};
 ghost use Rattle.rehearsal_commands.specs.Command.{no_line, with_one, with_two, with_three, command_by, with_more, line_from, line_of};
 

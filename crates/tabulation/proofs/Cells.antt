@@ -1,6 +1,6 @@
 -- Rows in an array with a count.
 --     place-next, place-stop, place_end     a walk to the place of a class
---     inserting, inserted                   a walk that moves the rows from a place on by one
+--     inserted                              a walk that moves the rows from a place on by one
 --     pool-same, pool-new                   a row pooled, by its place
 --     into-same, into_new                   the same in the array
 --     held_rows                             the rows that an array holds
@@ -10,11 +10,10 @@ use mathlib.Core.Bool.{Bool, true, false}
 use mathlib.Core.List.{List, [], ◌∷◌, ◌++◌, append_assoc}
 use Prim.Native.Nat.{ℕ, zero, suc, ◌+◌, ◌-◌, ◌≤◌, ◌<◌}
 use native.Mathlib.Nat.{not-suc-le-zero, le_of_suc-le-suc}
-use native.Mathlib.Numerals.{add-one}
 use native.Mathlib.Omega.{arith}
 use lib.Dec.{ltb}
 use lib.ListN.{length, get_or, take, drop, set, replicate, length-append, length-drop, length-set, drop_of_length-le}
-use lib.Seq.{take-suc-set, drop-set-lt, length-take-le, take_all, take-append-le, drop-append-le, take-append-add, take-append_seam, set-append_left, take_at}
+use lib.Seq.{length-take-le, take_all, take-append-le, drop-append-le, take-append-add, take-append_seam, set-append_left, take_at}
 use borrow.Author.Tests.{ne_eqb, eq-eqb, le-ltb, lt-ltb, ltb-true, ltb-false}
 use Rattle.lists.specs.Tests.{pick}
 use Rattle.lists.proofs.Padded.{padded-at}
@@ -45,15 +44,6 @@ module _ (class : ℕ) (xs : List Row) (i : ℕ) where
   place_end h = rw (drop_of_length-le xs h)
 
 -- ── rows moved by one ──
--- a turn of the walk: the carried row is stored, and the one that stood there is carried
-pub inserting : (next : List Row) (carried : Row) (i : ℕ) → i < length next
-    → take (i + 1) (set next i carried) ++ (get_or next i no_row ∷ drop (i + 1) (set next i carried)) ≡ take i next ++ (carried ∷ drop i next)
-inserting next carried i h =
-    let e : take (i + 1) (set next i carried) ≡ take i next ++ (carried ∷ []) = rw add-one (take-suc-set next i carried h) in
-    let d : drop (i + 1) (set next i carried) ≡ drop (i + 1) next = drop-set-lt (i + 1) next i carried (omega arith) in
-    ap₂ (λ (a b : List Row). a ++ (get_or next i no_row ∷ b)) e d ∙ append_assoc (take i next) (carried ∷ []) (get_or next i no_row ∷ drop (i + 1) next)
-    ∙ sym (ap (λ (l : List Row). take i next ++ (carried ∷ l)) (rest-step no_row next i h))
-
 -- the walk is at the end
 pub inserted : (next whole : List Row) (carried : Row) (i : ℕ) → length next ≡ 64 → 64 ≤ i → take i next ++ (carried ∷ drop i next) ≡ whole → next ≡ take 64 whole
 inserted next whole carried i l h e =

@@ -1,5 +1,6 @@
 // Rows of class and total: a row is pooled with the row of its class, or comes to its place; the rows of a frame's lines so made a sheet.
 #![tactic(auto)]
+
 ghost use Rattle.std.specs.Prelude.{◌≡◌, [], ◌∷◌, ◌++◌, ◌≤◌, ◌<◌, take, drop};
 ghost use Rattle.tabulation.specs.Rows.{pooled, line_rows};
 ghost use Rattle.tabulation.specs.Cells.{rows_of, place_of, RoomFor, pool_into, Fitting};

@@ -3,7 +3,6 @@ use borrow.Author.Tests.{eq-eqb, ne_eqb}
 use mathlib.Core.Path.{◌∙◌}
 use Rattle.lists.specs.Tests.{pick}
 use Rattle.rehearsal_commands.specs.Command.{command_by}
-use borrow.Author.Rules.{rules}
 use Rattle.rehearsal_commands.proofs.command_by.Goals as goal
 
 pub returns-then-letter-eq102 : goal.returns-then-letter-eq102

@@ -5,7 +5,6 @@ use mathlib.Core.Path.{◌∙◌}
 use lib.ListN.{length, get_or}
 use Rattle.lists.specs.Tests.{pick}
 use Rattle.rehearsal_commands.specs.Command.{line_of}
-use borrow.Author.Rules.{rules}
 use Rattle.rehearsal_commands.proofs.line_of.Goals as goal
 
 pub returns-then-bytes-gt128 : goal.returns-then-bytes-gt128

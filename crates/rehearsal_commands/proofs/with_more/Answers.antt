@@ -3,7 +3,6 @@ use borrow.Author.Tests.{not-true, not-false}
 use mathlib.Core.Path.{◌∙◌}
 use Rattle.lists.specs.Tests.{pick}
 use Rattle.rehearsal_commands.specs.Command.{with_more}
-use borrow.Author.Rules.{rules}
 use Rattle.rehearsal_commands.proofs.with_more.Goals as goal
 
 pub returns-then-not-more : goal.returns-then-not-more

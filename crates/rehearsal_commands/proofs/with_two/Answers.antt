@@ -2,7 +2,6 @@
 use borrow.Author.Tests.{eq-eqb, ne_eqb}
 use Rattle.lists.specs.Tests.{pick}
 use Rattle.rehearsal_commands.specs.Command.{with_two}
-use borrow.Author.Rules.{rules}
 use Rattle.rehearsal_commands.proofs.with_two.Goals as goal
 
 pub returns-then-letter-eq115 : goal.returns-then-letter-eq115

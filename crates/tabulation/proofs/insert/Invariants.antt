@@ -1,12 +1,8 @@
 -- The invariant: the rows up to the turn's, the carried row and the rows from the turn's on are the rows with the new one put in.
-use Prim.Native.Nat.{◌-◌, ◌≤◌}
-use mathlib.Core.Path.{◌≡◌, refl, ◌∙◌}
+use Prim.Native.Nat.{◌≤◌}
+use mathlib.Core.Path.{◌≡◌}
 use mathlib.Core.List.{◌∷◌, ◌++◌}
-use borrow.Author.Rules.{rules}
-use native.Mathlib.Omega.{arith}
-use lib.ListN.{length, take, drop, length-set}
-use Rattle.lists.proofs.Tests.{length-mapped}
-use Rattle.tabulation.proofs.Cells.{inserting, inserted}
+use lib.ListN.{length, take, drop}
 use Rattle.tabulation.proofs.insert.Given as goal
 
 abbrev pub invariant-loop-i : goal.invariant-loop-i

@@ -1,11 +1,10 @@
-use Prim.Native.Nat.{◌+◌, ◌-◌, ◌≤◌}
 use mathlib.Core.Path.{◌≡◌, ap}
 use borrow.Author.Rules.{rules}
 use native.Mathlib.Omega.{arith}
-use lib.ListN.{length, get_or, take, drop}
+use lib.ListN.{length, get_or, take}
 use lib.Seq.{get_or-take, length-take-le}
 use Rattle.lists.proofs.Tests.{length-mapped}
-use Rattle.tabulation.specs.Cells.{place_of, no_row}
+use Rattle.tabulation.specs.Cells.{no_row}
 use Rattle.tabulation.specs.declared.Row.{Row}
 use Rattle.tabulation.proofs.Cells.{place-next, place-stop, place_end}
 use Rattle.tabulation.proofs.place.Goals as goal
@@ -35,6 +34,3 @@ returns c =
     let full : length a.rows ≡ 64 = search (rules, length-mapped) in
     let long : length (take a.count a.rows) ≡ a.count = length-take-le a.count a.rows (omega arith) in
     (omega (arith, l.invariant.1, place_end a.class (take a.count a.rows) l.i (omega (arith, c.loop-i-test.false))), omega arith)
-
-pub loop-i-init : goal.loop-i-init
-loop-i-init c = (omega arith, omega arith)

@@ -1,11 +1,9 @@
-use Prim.Native.Nat.{ℕ, ◌+◌, ◌-◌, ◌≤◌, ◌<◌}
-use mathlib.Core.Path.{◌≡◌, ap, ◌∙◌}
+use Prim.Native.Nat.{◌+◌, ◌-◌, ◌<◌}
+use mathlib.Core.Path.{◌≡◌, ◌∙◌}
 use borrow.Author.Rules.{rules}
 use native.Mathlib.Omega.{arith}
 use lib.ListN.{length}
-use Rattle.tabulation.specs.Rows.{pooled}
-use Rattle.tabulation.specs.Cells.{rows_of}
-use Rattle.tabulation.proofs.LinesFrom.{lines_from, no_lines, line-room, line-pooled, line-passed}
+use Rattle.tabulation.proofs.LinesFrom.{no_lines, line-room, line-pooled, line-passed}
 use Rattle.tabulation.proofs.tabulate.Goals as goal
 
 pub loop-i-init : goal.loop-i-init
@@ -39,9 +37,3 @@ loop-i-preserved c =
     let l = c.loop-i in
     let n = lengths in
     (omega arith, line-passed c.args.codes c.args.met c.args.totals n.0 n.1.0 n.1.1 (l.i - 1) l.sheet l.i (down).0 (down).1 l.invariant.1 c.if-met-i.false)
-
-pub returns : goal.returns
-returns c =
-    let l = c.loop-i in
-    let end : l.i ≡ 0 = omega (arith, c.loop-i-test.false) in
-    l.invariant.1 ∙ ap (λ (i : ℕ). rows_of (pooled (lines_from c.args.codes c.args.met c.args.totals i))) end

@@ -1,12 +1,9 @@
 -- The invariant: the array holds the pooled rows of the lines from the turn's on.
-use Prim.Native.Nat.{ℕ, ◌+◌, ◌-◌, ◌≤◌, ◌<◌}
-use mathlib.Core.Path.{◌≡◌, ap, ◌∙◌}
-use borrow.Author.Rules.{rules}
-use native.Mathlib.Omega.{arith}
-use lib.ListN.{length}
+use Prim.Native.Nat.{◌≤◌}
+use mathlib.Core.Path.{◌≡◌}
 use Rattle.tabulation.specs.Rows.{pooled}
 use Rattle.tabulation.specs.Cells.{rows_of}
-use Rattle.tabulation.proofs.LinesFrom.{lines_from, no_lines, line-room, line-pooled, line-passed}
+use Rattle.tabulation.proofs.LinesFrom.{lines_from}
 use Rattle.tabulation.proofs.tabulate.Given as goal
 
 abbrev pub invariant-loop-i : goal.invariant-loop-i
