@@ -52,7 +52,11 @@ returns-then-number-ne0 c =
     issue-refused _ _ _ _ _ (numbered) c.if-number-ne0.true
 
 pub issued-longer-requires : goal.issued-longer-requires
-issued-longer-requires c = let A = may c in let P = A.limits in (omega arith, omega arith, omega arith)
+issued-longer-requires c =
+    let sounds : let a = c.args in Sound a.office a.log.now = sound _ _ (sym c.sound.ensures ∙ c.if-not-sound.false) in
+    let numbered : let a = c.args in c.refusal-number.result ≡ issue_number a.office a.log.now a.line a.code = number_at _ _ (sounds) _ _ _ refl _ refl _ c.refusal-number.ensures in
+    let may : let a = c.args in Allowed a.office a.log.now a.line a.code = allowed _ _ _ _ (sym (numbered) ∙ c.if-number-ne0.false) in
+    let A = may in let P = A.limits in (omega arith, omega arith, omega arith)
 
 pub with_own-next-requires : goal.with_own-next-requires
 with_own-next-requires c =

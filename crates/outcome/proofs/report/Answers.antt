@@ -25,7 +25,10 @@ returns-then-not-follows c = let both = report-stray _ _ _ (sym (sym c.follows.e
 
 -- what is known behind both tests
 pub slice_bounds-cells-end : goal.slice_bounds-cells-end
-slice_bounds-cells-end c = let e = second c in let b = was-fine _ _ _ (sounds (first e)) (follow e) in omega (arith, b.len, b.cells)
+slice_bounds-cells-end c =
+    let sounds : Sound c.args.after c.args.log.now = sound _ _ (sym c.sound.ensures ∙ c.if-not-sound.false) in
+    let follow : Follows c.args.before c.args.after = followed _ _ (sym c.follows.ensures ∙ c.if-not-follows.false) in
+    let b = was-fine _ _ _ (sounds) (follow) in omega (arith, b.len, b.cells)
 
 pub slice_bounds-tell-end : goal.slice_bounds-tell-end
 slice_bounds-tell-end c = sym (length-take-le _ _ (slice_bounds-cells-end (goal.at.slice_bounds-tell-end c).After-later-1))
