@@ -27,9 +27,9 @@ returns-then-not-same_eight c =
 pub returns-then-m-own : goal.returns-then-m-own
 returns-then-m-own c =
     let alike : let a = c.args in Alike a.n a.weights a.m = record { ok = not-false _ c.if-not-m.false; count = c.if-m-n.false; same-weights = sym c.same_eight.ensures ∙ c.if-not-same_eight.false } in
-    answer-none _ _ _ _ _ _ _ _ _ 9 c.refused-then-m-own.ensures early.2 (own-message _ _ _ _ _ _ _ _ (alike) c.if-m-own.true)
+    answer-none _ _ _ _ _ _ _ _ _ 9 c.refused-then-m-own.ensures early.2 (own-message _ _ _ _ _ _ _ _ alike c.if-m-own.true)
 
 pub returns : goal.returns
 returns c =
     let alike : let a = c.args in Alike a.n a.weights a.m = record { ok = not-false _ c.if-not-m.false; count = c.if-m-n.false; same-weights = sym c.same_eight.ensures ∙ c.if-not-same_eight.false } in
-    by-logs _ _ _ _ _ _ _ _ (alike) c.if-m-own.false _ c.check.ensures
+    by-logs _ _ _ _ _ _ _ _ alike c.if-m-own.false _ c.check.ensures

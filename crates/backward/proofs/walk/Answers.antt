@@ -15,14 +15,14 @@ overflow_sub-left c =
     let before_last : c.loop-left.end ≡ suc (c.loop-left.end - 1) = omega (arith, c.if-end-eq0.false) in
     let l = c.loop-left in
     new-within c.args.lines.now c.args.words.now c.requires l.left l.cells l.end l.invariant (omega (arith, c.loop-left-test.true))
-    (l.end - 1) (before_last) _ c.add_edit-left.result c.add_edit-left.ensures.0 c.add_edit-left.ensures.1
+    (l.end - 1) before_last _ c.add_edit-left.result c.add_edit-left.ensures.0 c.add_edit-left.ensures.1
 
 pub loop-left-preserved : goal.loop-left-preserved
 loop-left-preserved c =
     let before_last : c.loop-left.end ≡ suc (c.loop-left.end - 1) = omega (arith, c.if-end-eq0.false) in
     let l = c.loop-left in
     walking-again c.args.lines.now c.args.words.now c.requires l.left l.cells l.end l.invariant (omega (arith, c.loop-left-test.true))
-    (l.end - 1) (before_last) _ c.add_edit-left.result c.add_edit-left.ensures.0 c.add_edit-left.ensures.1
+    (l.end - 1) before_last _ c.add_edit-left.result c.add_edit-left.ensures.0 c.add_edit-left.ensures.1
 
 pub returns : goal.returns
 returns c =

@@ -72,7 +72,7 @@ pub returns-then-not-same : goal.returns-then-not-same
 unfolding follows
 returns-then-not-same c =
     let same-is : let a = c.args in c.same.result ≡ follows a.kept.summary a.summary (held_length c.args.settled c.args.kept.dropped) a.log.now = let a = c.args in c.same.ensures ∙ ap (same_summary a.summary) c.after-follows.ensures in
-    sound-not _ _ _ _ _ _ _ _ _ (λ S. true≢false (sym (follows_of _ _ _ _ S.done) ∙ sym (same-is) ∙ c.if-not-same.true))
+    sound-not _ _ _ _ _ _ _ _ _ (λ S. true≢false (sym (follows_of _ _ _ _ S.done) ∙ sym same-is ∙ c.if-not-same.true))
 
 pub fine-requires-2 : goal.fine-requires-2
 fine-requires-2 c = let h = head _ _ _ (passed (goal.at.fine-requires-2 c).Else-not-fine).0 in (h.some, (h.most, omega arith))
@@ -86,14 +86,14 @@ pub within-requires : goal.within-requires
 unfolding ballots_fine
 within-requires c =
     let balloted : ballots_fine c.args.n (held_length c.args.settled c.args.kept.dropped) c.args.ballots ≡ true = sym c.fine-2.ensures ∙ c.if-not-fine-2.false in
-    both-0 (all_b ballot_shape _) _ (balloted)
+    both-0 (all_b ballot_shape _) _ balloted
 
 pub returns : goal.returns
 unfolding both follows
 returns c =
     let same-is : let a = c.args in c.same.result ≡ follows a.kept.summary a.summary (held_length c.args.settled c.args.kept.dropped) a.log.now = let a = c.args in c.same.ensures ∙ ap (same_summary a.summary) c.after-follows.ensures in
     let balloted : ballots_fine c.args.n (held_length c.args.settled c.args.kept.dropped) c.args.ballots ≡ true = sym c.fine-2.ensures ∙ c.if-not-fine-2.false in
-    c.within.ensures ∙ sym (decided (goal.at.returns c).Else-not-fine ∙ rw (sym c.all_entries.ensures ∙ c.if-not-all_entries.false, sym (same-is) ∙ c.if-not-same.false, balloted))
+    c.within.ensures ∙ sym (decided (goal.at.returns c).Else-not-fine ∙ rw (sym c.all_entries.ensures ∙ c.if-not-all_entries.false, sym same-is ∙ c.if-not-same.false, balloted))
 
 pub slice_bounds-all_entries-end : goal.slice_bounds-all_entries-end
 slice_bounds-all_entries-end c = there (goal.at.slice_bounds-all_entries-end c).Else-not-fine

@@ -22,14 +22,14 @@ loop-i-preserved c =
 pub find_winner-w-requires : goal.find_winner-w-requires
 find_winner-w-requires c =
     let gathered : let r = c.args.self in Gathered r.ballots c.loop-i.votes r.n = let l = c.loop-i in let end : l.i ≡ c.args.self.n = omega arith in subst (Gathered c.args.self.ballots l.votes) end l.invariant.1 in
-    votes-silent _ _ _ c.requires.limits _ (gathered)
+    votes-silent _ _ _ c.requires.limits _ gathered
 
 pub bounds-log-held : goal.bounds-log-held
 bounds-log-held c =
     let gathered : let r = c.args.self in Gathered r.ballots c.loop-i.votes r.n = let l = c.loop-i in let end : l.i ≡ c.args.self.n = omega arith in subst (Gathered c.args.self.ballots l.votes) end l.invariant.1 in
-    let won : let a = c.args in winner_in a.counts (state_in a.self) a.log.now ≡ some c.in-Entry.e = won-by _ _ _ c.requires.limits _ _ (gathered) _ c.find_winner-w.ensures _ c.in-Entry.is in
+    let won : let a = c.args in winner_in a.counts (state_in a.self) a.log.now ≡ some c.in-Entry.e = won-by _ _ _ c.requires.limits _ _ gathered _ c.find_winner-w.ensures _ c.in-Entry.is in
     let S = c.requires.limits in
-    omega (arith, S.room, (winning _ _ _ S _ _ (won)).1, c.held-held.ensures)
+    omega (arith, S.room, (winning _ _ _ S _ _ won).1, c.held-held.ensures)
 
 pub without_first-requires : goal.without_first-requires
 without_first-requires c =
@@ -57,16 +57,16 @@ loop-i-2-preserved c =
 pub returns-in-Nobody : goal.returns-in-Nobody
 returns-in-Nobody c =
     let gathered : let r = c.args.self in Gathered r.ballots c.loop-i.votes r.n = let l = c.loop-i in let end : l.i ≡ c.args.self.n = omega arith in subst (Gathered c.args.self.ballots l.votes) end l.invariant.1 in
-    step-nobody _ _ _ c.requires (won-nobody _ _ _ c.requires.limits _ _ (gathered) _ c.find_winner-w.ensures c.in-Nobody.is)
+    step-nobody _ _ _ c.requires (won-nobody _ _ _ c.requires.limits _ _ gathered _ c.find_winner-w.ensures c.in-Nobody.is)
 
 pub returns-after-loop-i-2 : goal.returns-after-loop-i-2
 returns-after-loop-i-2 c =
     let gathered : let r = c.args.self in Gathered r.ballots c.loop-i.votes r.n = let l = c.loop-i in let end : l.i ≡ c.args.self.n = omega arith in subst (Gathered c.args.self.ballots l.votes) end l.invariant.1 in
-    let won : let a = c.args in winner_in a.counts (state_in a.self) a.log.now ≡ some c.in-Entry.e = won-by _ _ _ c.requires.limits _ _ (gathered) _ c.find_winner-w.ensures _ c.in-Entry.is in
+    let won : let a = c.args in winner_in a.counts (state_in a.self) a.log.now ≡ some c.in-Entry.e = won-by _ _ _ c.requires.limits _ _ gathered _ c.find_winner-w.ensures _ c.in-Entry.is in
     let a = c.args in
     let e = c.in-Entry.e in
     let l = c.loop-i-2 in
-    let m = step-won _ _ _ c.requires e (won) in (
+    let m = step-won _ _ _ c.requires e won in (
       l.invariant.1 ∙ settled_is _ _ c.requires e l.next.ballots (lost-end _ _ _ c.requires.limits _ l.next.ballots l.i l.invariant.2 (omega arith)) _ c.next-after.ensures ∙ m.0,
       ap (λ (k : ℕ). set a.log.now k e) c.held-held.ensures ∙ m.1,
     )

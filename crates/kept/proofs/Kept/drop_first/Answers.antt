@@ -27,4 +27,4 @@ after-kept-requires c =
 pub slice_bounds-after-end-2 : goal.slice_bounds-after-end-2
 slice_bounds-after-end-2 c =
     let first : length (take c.args.k c.args.log.now) ≡ c.args.k = length-take-le c.args.k c.args.log.now (omega (arith, c.requires.1.0, c.requires.1.1)) in
-    sym (first)
+    sym first

@@ -33,9 +33,9 @@ returns-then-founded-ne0 : (c : After-put_number-next) → let a =
     (c.put_number-next.result + 1 ≡ length (answer_to a.input.now)) × (set c.put_number-next.new.0 c.put_number-next.result 10 ≡ sets a.out.now 0 (answer_to a.input.now))
 returns-then-founded-ne0 c =
     let ns = c.numbers_in-numbers in
-    let number : c.found-founded.result.number ≡ (founded ns.result.cells).number = ap (λ (x : Founded). x.number) (answered) in
+    let number : c.found-founded.result.number ≡ (founded ns.result.cells).number = ap (λ (x : Founded). x.number) answered in
     let n : c.wide.result ≡ (founded ns.result.cells).number = c.wide.ensures ∙ number in
-    let e = answer-refused c.args.input.now ns.result ns.ensures (three) (λ z. c.if-founded-ne0.true (number ∙ z)) in
+    let e = answer-refused c.args.input.now ns.result ns.ensures three (λ z. c.if-founded-ne0.true (number ∙ z)) in
     let w = write-refused c.args.out.now c.put_number-next.new.0 c.put_number-next.result
     c.wide.result (omega (arith, full)) c.put_number-next.ensures.end c.put_number-next.ensures.output in
     subst (λ (l : List ℕ). (c.put_number-next.result + 1 ≡ length l) × (set c.put_number-next.new.0 c.put_number-next.result 10 ≡ sets c.args.out.now 0 l))
@@ -46,8 +46,8 @@ returns c =
     let three : three_numbers c.numbers_in-numbers.result ≡ true = sym c.three_numbers.ensures ∙ c.if-not-three_numbers.false in
     let answered : c.found-founded.result ≡ founded c.numbers_in-numbers.result.cells = c.found-founded.ensures in
     let ns = c.numbers_in-numbers in
-    let e = answer-lines c.args.input.now ns.result ns.ensures (three) (ap (λ (x : Founded). x.number) (sym (answered)) ∙ c.if-founded-ne0.false) in
-    let lines : lines_of c.found-founded.result.«record» tables ≡ answer_to c.args.input.now = ap (λ (x : Founded). lines_of x.«record» tables) (answered) ∙ sym e in
+    let e = answer-lines c.args.input.now ns.result ns.ensures three (ap (λ (x : Founded). x.number) (sym answered) ∙ c.if-founded-ne0.false) in
+    let lines : lines_of c.found-founded.result.«record» tables ≡ answer_to c.args.input.now = ap (λ (x : Founded). lines_of x.«record» tables) answered ∙ sym e in
     subst (λ (l : List ℕ). (c.put_lines.result ≡ length l) × (c.put_lines.new.0 ≡ sets c.args.out.now 0 l)) lines c.put_lines.ensures
 
 pub bounds-out-next : goal.bounds-out-next

@@ -34,4 +34,4 @@ slice_bounds-cells-end c =
 pub slice_bounds-put_entries-end : goal.slice_bounds-put_entries-end
 slice_bounds-put_entries-end c =
     let within : c.args.ballot.len ≤ length c.args.ballot.cells = let h : length c.args.ballot.cells ≡ 32 = search rules in omega (arith, c.requires.1.0, h) in
-    sym (length-take-le c.args.ballot.len c.args.ballot.cells (within))
+    sym (length-take-le c.args.ballot.len c.args.ballot.cells within)

@@ -10,9 +10,9 @@ returns c =
     let each : ℕ = c.within.result + 1 - c.args.from in
     let many : length (said_from c.args.line c.args.from) ≡ each = let a = c.args in let h : length a.line.numbers ≡ 25 = search rules in said-length a.line a.from h ∙ ap (λ (k : ℕ). k + 1 - a.from) (sym c.within.ensures) in
     let some : 0 < each = omega (arith, many, c.requires) in
-    let inside : c.args.i % each < each = mod-lt c.args.i (some) in
+    let inside : c.args.i % each < each = mod-lt c.args.i some in
     let a = c.args in
-    sym (ap (λ (k : ℕ). get_or (said_from a.line a.from) (a.i % k) 0) (many) ∙ said_at a.line a.from (a.i % each) (rw (sym c.within.ensures) (omega (arith, inside, some))))
+    sym (ap (λ (k : ℕ). get_or (said_from a.line a.from) (a.i % k) 0) many ∙ said_at a.line a.from (a.i % each) (rw (sym c.within.ensures) (omega (arith, inside, some))))
 
 pub overflow_sub-each : goal.overflow_sub-each
 overflow_sub-each c =
@@ -33,7 +33,7 @@ overflow_add-at c =
     let each : ℕ = c.within.result + 1 - c.args.from in
     let many : length (said_from c.args.line c.args.from) ≡ each = let a = c.args in let h : length a.line.numbers ≡ 25 = search rules in said-length a.line a.from h ∙ ap (λ (k : ℕ). k + 1 - a.from) (sym c.within.ensures) in
     let some : 0 < each = omega (arith, many, c.requires) in
-    let inside : c.args.i % each < each = mod-lt c.args.i (some) in
+    let inside : c.args.i % each < each = mod-lt c.args.i some in
     let few : c.within.result ≤ 24 = rw c.within.ensures (min-le_right c.args.line.count 24) in
     omega (arith, inside, some, few)
 
@@ -42,7 +42,7 @@ offset_bounds-line-at c =
     let each : ℕ = c.within.result + 1 - c.args.from in
     let many : length (said_from c.args.line c.args.from) ≡ each = let a = c.args in let h : length a.line.numbers ≡ 25 = search rules in said-length a.line a.from h ∙ ap (λ (k : ℕ). k + 1 - a.from) (sym c.within.ensures) in
     let some : 0 < each = omega (arith, many, c.requires) in
-    let inside : c.args.i % each < each = mod-lt c.args.i (some) in
+    let inside : c.args.i % each < each = mod-lt c.args.i some in
     let few : c.within.result ≤ 24 = rw c.within.ensures (min-le_right c.args.line.count 24) in
     omega (arith, inside, some, few)
 
@@ -51,6 +51,6 @@ bounds-line-at c =
     let each : ℕ = c.within.result + 1 - c.args.from in
     let many : length (said_from c.args.line c.args.from) ≡ each = let a = c.args in let h : length a.line.numbers ≡ 25 = search rules in said-length a.line a.from h ∙ ap (λ (k : ℕ). k + 1 - a.from) (sym c.within.ensures) in
     let some : 0 < each = omega (arith, many, c.requires) in
-    let inside : c.args.i % each < each = mod-lt c.args.i (some) in
+    let inside : c.args.i % each < each = mod-lt c.args.i some in
     let few : c.within.result ≤ 24 = rw c.within.ensures (min-le_right c.args.line.count 24) in
     omega (arith, inside, some, few)
