@@ -6,8 +6,8 @@ use Rattle.rehearsal_addressees.proofs.addressee_of.Goals as goal
 
 pub returns-in_default : goal.returns-in_default
 unfolding addressee_of
-returns-in_default c = rw c.enum_told-1.given.1
+returns-in_default c = rw c.in_default.is
 
 pub returns : goal.returns
 unfolding addressee_of
-returns c = c.command_addressee.ensures ∙ rw c.parsed-1.given.1
+returns c = c.command_addressee.ensures ∙ rw c.in-Says.is

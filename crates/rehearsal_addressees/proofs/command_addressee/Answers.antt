@@ -5,19 +5,19 @@ use borrow.Author.Rules.{rules}
 use Rattle.rehearsal_addressees.proofs.command_addressee.Goals as goal
 
 pub returns-in-Found : goal.returns-in-Found
-returns-in-Found c = rw c.command-1.given.1
+returns-in-Found c = rw c.in-Found.is
 
 pub returns-in-Issue : goal.returns-in-Issue
-returns-in-Issue c = c.at_office.ensures ∙ rw c.command-in-Issue-1.given.1
+returns-in-Issue c = c.at_office.ensures ∙ rw c.in-Issue.is
 
 pub returns-in-Send : goal.returns-in-Send
-returns-in-Send c = c.at_office-in-Send.ensures ∙ rw c.command-in-Send-1.given.1
+returns-in-Send c = c.at_office-in-Send.ensures ∙ rw c.in-Send.is
 
 pub returns-in-Take : goal.returns-in-Take
-returns-in-Take c = c.at_office-in-Take.ensures ∙ rw c.command-in-Take-1.given.1
+returns-in-Take c = c.at_office-in-Take.ensures ∙ rw c.in-Take.is
 
 pub returns-in-Elect : goal.returns-in-Elect
-returns-in-Elect c = c.at_office-in-Elect.ensures ∙ rw c.command-in-Elect-1.given.1
+returns-in-Elect c = c.at_office-in-Elect.ensures ∙ rw c.in-Elect.is
 
 pub returns-in-View : goal.returns-in-View
-returns-in-View c = c.at_office-in-View.ensures ∙ rw c.command-in-View-1.given.1
+returns-in-View c = c.at_office-in-View.ensures ∙ rw c.in-View.is

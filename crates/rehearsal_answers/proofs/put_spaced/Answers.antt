@@ -19,4 +19,4 @@ returns c =
     (omega (arith, e.0), e.1 ∙ ap (λ (k : ℕ). sets spaced k (decimal_of a.n)) (add-one a.at))
 
 pub shape_of-out : goal.shape_of-out
-shape_of-out c = let a = c.args in c.put_number.auto.0 ∙ length-set a.out.now a.at 32
+shape_of-out c = let a = c.args in c.put_number.auto.out ∙ length-set a.out.now a.at 32

@@ -26,7 +26,7 @@ pub returns : goal.returns
 returns c =
     let first : c.part_end-end.result ≡ part_length 10 c.args.input.now = omega (arith, c.part_end-end.ensures) in
     let s = c.args.input.now in
-    c.numbers_from.ensures ∙ ap (λ (k : ℕ). numbers_from (take k s) 0) first ∙ sym (only-line s (omega (arith, first, c.if-end-input.false)))
+    c.numbers_from.ensures ∙ ap (λ (k : ℕ). numbers_from (take k s) 0) (first) ∙ sym (only-line s (omega (arith, first, c.if-end-input.false)))
 
 pub overflow_add-end : goal.overflow_add-end
 overflow_add-end c =
