@@ -1,5 +1,6 @@
 // A line of a trial script, and its numbers written into lists. What a line may say is in docs/TRIALS.md.
 #![tactic(auto)]
+
 mod line;
 mod writing;
 

@@ -1,5 +1,4 @@
 -- In order: no place is left; one digit is written; the digits before the last, and the last digit behind them.
-use mathlib.Core.Path.{◌∙◌}
 use native.Mathlib.Nat.{add-zero}
 use native.Mathlib.Omega.{arith}
 use Rattle.printing.proofs.Digits.{digits-none, digits-one, decimal-short, put_last}
@@ -20,9 +19,7 @@ bounds-out-next t c =
     omega (arith, put.ensures.0, put.auto.out, decimal-short (c.args.places - 1) (c.args.n / 10), c.requires)
 
 pub overflow_add-result-2 : goal.overflow_add-result-2
-overflow_add-result-2 t c =
-    let put = c.put_digits-next in
-    omega (arith, put.ensures.0, decimal-short (c.args.places - 1) (c.args.n / 10), c.requires, c.type_inv.out)
+overflow_add-result-2 t c = omega (arith, c.put_digits-next.ensures.0, decimal-short (c.args.places - 1) (c.args.n / 10), c.requires, c.well_formed.0.0)
 
 pub returns : goal.returns
 returns t c =

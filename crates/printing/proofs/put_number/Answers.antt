@@ -1,5 +1,4 @@
 -- With room for 20 digits all are written, and without none.
-use borrow.Author.Rules.{rules}
 use native.Mathlib.Nat.{add-zero}
 use native.Mathlib.Omega.{arith}
 use Rattle.printing.proofs.Digits.{printed-all, printed-none}
@@ -13,5 +12,5 @@ returns-then-out-at-lt-PLACES c = let a = c.args in let e = printed-none a.out.n
 
 pub returns : goal.returns
 returns c =
-    let both = let a = c.args in
-    rw (printed-all a.out.now a.at a.n (omega arith)) c.put_digits.ensures in record { end = both.0; output = both.1 }
+    let e = printed-all c.args.out.now c.args.at c.args.n (omega arith) in
+    record { end = rw e c.put_digits.ensures.0; output = rw e c.put_digits.ensures.1 }

@@ -1,13 +1,6 @@
-use Rattle.std.proofs.Common.{◌-◌, arith, rules}
-use Rattle.trial_lines.specs.Writing.{whole}
-use Rattle.trial_lines.proofs.Putting.{PutRest, put-begins, put-inside, put_some, put_next, put-ends}
+use Rattle.std.proofs.Common.{arith}
+use Rattle.trial_lines.proofs.Putting.{put-inside, put_some, put_next, put-ends}
 use Rattle.trial_lines.proofs.writing.put_numbers.Goals as goal
-
-pub loop-i-init : goal.loop-i-init
-loop-i-init c = put-begins whole _ _ _ _ _
-
-pub overflow_sub-i : goal.overflow_sub-i
-overflow_sub-i c = c.loop-i.invariant.past
 
 pub value-requires : goal.value-requires
 value-requires c = put_some c.loop-i.invariant c.room_for-put.ensures c.loop-i-test.true
@@ -20,9 +13,6 @@ bounds-to-i c = put-inside c.loop-i.invariant c.room_for-put.ensures c.loop-i-te
 
 pub loop-i-preserved : goal.loop-i-preserved
 loop-i-preserved c = put_next c.loop-i.invariant c.room_for-put.ensures c.loop-i-test.true c.value.result c.value.ensures
-
-pub shape_of-to : goal.shape_of-to
-shape_of-to c = c.loop-i.invariant.false.long
 
 pub returns : goal.returns
 returns c = let e = c.room_for-put.ensures in (e, put-ends c.loop-i.invariant e c.loop-i-test.false)

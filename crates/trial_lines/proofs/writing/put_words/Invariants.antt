@@ -1,7 +1,6 @@
 -- The invariant: what is left to write from here on gives what all of it gives from the start.
-use Rattle.std.proofs.Common.{◌-◌, arith, rules}
 use Rattle.trial_lines.specs.Writing.{low32}
-use Rattle.trial_lines.proofs.Putting.{PutRest, put-begins, put-inside, put_some, put_next, put-ends}
+use Rattle.trial_lines.proofs.Putting.{PutRest}
 use Rattle.trial_lines.proofs.writing.put_words.Given as goal
 
 abbrev pub invariant-loop-i : goal.invariant-loop-i

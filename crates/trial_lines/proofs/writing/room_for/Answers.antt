@@ -1,16 +1,12 @@
 -- Each test that fails says that there are no numbers or that they end past the list; where all pass there are some, and they end within it.
-use Rattle.std.proofs.Common.{◌≡◌, ℕ, ◌+◌, ◌-◌, ◌*◌, ◌/◌, ◌<◌, ◌≤◌, length, sym, ap, ◌∙◌, le-div_iff_mul-le, arith, rules}
+use Rattle.std.proofs.Common.{◌≡◌, ℕ, ◌+◌, ◌-◌, ◌*◌, ◌/◌, ◌<◌, ◌≤◌, min, length, sym, ap, ◌∙◌, le-div_iff_mul-le, arith, rules}
+use Rattle.trial_lines.specs.declared.line.Line.{Line}
 use Rattle.trial_lines.specs.Writing.{said_from}
 use Rattle.trial_lines.proofs.Putting.{said-length, put_refused, put-taken}
 use Rattle.trial_lines.proofs.writing.room_for.Goals as goal
 
-pub returns-then-from-count : goal.returns-then-from-count
-returns-then-from-count c =
-    let many : let a = c.args in length (said_from a.line a.from) ≡ c.within-count.result + 1 - a.from = let a = c.args in let h : length a.line.numbers ≡ 25 = search rules in said-length a.line a.from h ∙ ap (λ (k : ℕ). k + 1 - a.from) (sym c.within-count.ensures) in
-    put_refused _ _ _ _ _ (λ h. omega (arith, h.0, many))
-
-pub returns-then-at-room : goal.returns-then-at-room
-returns-then-at-room c = put_refused _ _ _ _ _ (λ h. omega (arith, h.1))
+counted : (l : Line) (from count : ℕ) → length l.numbers ≡ 25 → count ≡ min l.count 24 → length (said_from l from) ≡ count + 1 - from
+counted l from count h e = said-length l from h ∙ ap (λ (k : ℕ). k + 1 - from) (sym e)
 
 -- as many as a quotient has room for are no more than what was divided
 product : (times each room : ℕ) → 0 < each → times ≤ room / each → times * each ≤ room
@@ -22,24 +18,23 @@ past at times each room n e a q h =
     let p : times ≤ (room - at) / each = (le-div_iff_mul-le {k = each} {x = times} {y = room - at} (omega (arith, h.0))).1 (omega arith) in
     omega arith
 
+pub returns-then-from-count : goal.returns-then-from-count
+returns-then-from-count c =
+    let many = counted c.args.line c.args.from c.within-count.result (search rules) c.within-count.ensures in
+    put_refused _ _ _ _ _ (λ h. omega (arith, h.0, many))
+
+pub returns-then-at-room : goal.returns-then-at-room
+returns-then-at-room c = put_refused _ _ _ _ _ (λ h. omega (arith, h.1))
+
 pub returns-then-times-most : goal.returns-then-times-most
 returns-then-times-most c =
-    let many : let a = c.args in length (said_from a.line a.from) ≡ c.within-count.result + 1 - a.from = let a = c.args in let h : length a.line.numbers ≡ 25 = search rules in said-length a.line a.from h ∙ ap (λ (k : ℕ). k + 1 - a.from) (sym c.within-count.ensures) in
     let a = c.args in
+    let many = counted a.line a.from c.within-count.result (search rules) c.within-count.ensures in
     put_refused _ _ _ _ _ (past a.at a.times (c.within-count.result - a.from + 1) a.room _ (omega (arith, many)) c.if-at-room.false c.if-times-most.true)
 
 pub returns : goal.returns
 returns c =
-    let many : let a = c.args in length (said_from a.line a.from) ≡ c.within-count.result + 1 - a.from = let a = c.args in let h : length a.line.numbers ≡ 25 = search rules in said-length a.line a.from h ∙ ap (λ (k : ℕ). k + 1 - a.from) (sym c.within-count.ensures) in
-    let fits : let a = c.args in a.times * (c.within-count.result - a.from + 1) ≤ a.room - a.at = let a = c.args in product a.times (c.within-count.result - a.from + 1) (a.room - a.at) (omega arith) (omega arith) in
-    put-taken _ _ _ _ _ (c.within-count.result - c.args.from + 1) (omega (arith, many)) (omega arith) (omega (arith, fits))
-
-pub overflow_mul-result : goal.overflow_mul-result
-overflow_mul-result c =
-    let fits : let a = c.args in a.times * (c.within-count.result - a.from + 1) ≤ a.room - a.at = let a = c.args in product a.times (c.within-count.result - a.from + 1) (a.room - a.at) (omega arith) (omega arith) in
-    omega (arith, fits)
-
-pub overflow_add-result : goal.overflow_add-result
-overflow_add-result c =
-    let fits : let a = c.args in a.times * (c.within-count.result - a.from + 1) ≤ a.room - a.at = let a = c.args in product a.times (c.within-count.result - a.from + 1) (a.room - a.at) (omega arith) (omega arith) in
-    omega (arith, fits)
+    let a = c.args in
+    let many = counted a.line a.from c.within-count.result (search rules) c.within-count.ensures in
+    let each : ℕ = c.within-count.result - a.from + 1 in
+    put-taken _ _ _ _ _ each (omega (arith, many)) (omega arith) (omega (arith, product a.times each (a.room - a.at) (omega arith) (omega arith)))

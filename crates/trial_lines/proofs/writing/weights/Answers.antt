@@ -1,7 +1,7 @@
-use Rattle.std.proofs.Common.{◌≡◌, ℕ, ◌+◌, ◌-◌, ◌<◌, min, List, length, get_or, take, drop, set, replicate, sym, refl, ap, ◌∙◌, ap₂, arith, length-drop, length-take-le, get_or-drop, get_or-take, rules}
+use Rattle.std.proofs.Common.{◌≡◌, ℕ, ◌+◌, ◌<◌, min, List, length, get_or, take, drop, set, replicate, sym, ap, ◌∙◌, ap₂, arith, length-drop, length-take-le, get_or-drop, get_or-take, rules}
 use native.Mathlib.Nat.{min-le_right}
 use lib.ListN.{length-map, get_or-map}
-use Rattle.lists.proofs.Fill.{filled, fill_step, fill_end}
+use Rattle.lists.proofs.Fill.{fill_step}
 use Rattle.trial_lines.specs.declared.line.Line.{Line}
 use Rattle.trial_lines.specs.Writing.{low16, weights_from}
 use Rattle.trial_lines.proofs.writing.weights.Goals as goal
@@ -24,12 +24,3 @@ loop-i-preserved c =
     let w : low16 (get_or a.line.numbers (c.within-start.result + i) 0) ≡ get_or (weights_from a.line a.from) i 0 =
     rw c.within-start.ensures (sym (weight-at a.line a.from i c.loop-i-test.true)) in
     ap₂ (λ (x : List ℕ) (v : ℕ). set x i v) c.loop-i.invariant w ∙ fill_step 0 (weights_from a.line a.from) (replicate 8 0) (eight a.line a.from h) i c.loop-i-test.true
-
-pub returns : goal.returns
-returns c =
-    let a = c.args in
-    let h : length a.line.numbers ≡ 25 = search rules in
-    c.loop-i.invariant ∙ fill_end 0 (weights_from a.line a.from) (replicate 8 0) (eight a.line a.from h) c.loop-i.i c.loop-i-test.false
-
-pub loop-i-init : goal.loop-i-init
-loop-i-init c = refl

@@ -1,5 +1,5 @@
 -- The tests that led to each return are those by which the definition picks.
-use Rattle.std.proofs.Common.{rules, le-ltb, lt-ltb}
+use Rattle.std.proofs.Common.{le-ltb, lt-ltb}
 use Rattle.lists.specs.Tests.{pick}
 use Rattle.trial_lines.specs.Line.{with_byte}
 use Rattle.trial_lines.proofs.line.Line.with.Goals as goal
@@ -16,4 +16,4 @@ pub returns : goal.returns
 unfolding with_byte pick
 returns c =
     let b = c.args.byte in
-    rw (le-ltb 57 b c.if-byte-gt57.false, le-ltb b 48 c.if-byte-lt48.false, c.wrapping_add_u64.ensures)
+    rw (le-ltb 57 b c.if-byte-gt57.false, le-ltb b 48 c.if-byte-lt48.false, c.wrapping_add_u64.ensures.value)
