@@ -19,7 +19,7 @@
  * not kept, what to do after a disk is lost, and that an edit can lose with no call refused: ask
  * joukerpan_outcome after each take, elect and fold.
  *
- * Link with target/staticlib/libembed.a (x86-64 Linux), which `rt staticlib embed` writes.
+ * Link with target/staticlib/libembed.a (x86-64 Linux), which `tools/build embed` writes.
  */
 #ifndef JOUKERPAN_H
 #define JOUKERPAN_H

@@ -1,4 +1,4 @@
-//! Links the engine's archive, which `rt staticlib embed` writes to target/staticlib.
+//! Links the engine's archive, which `tools/build embed` writes to target/staticlib.
 
 use std::env;
 use std::path::{Path, PathBuf};
@@ -18,7 +18,7 @@ fn library(archive: &Path) -> &'static str {
     if !(target.starts_with("x86_64-") && target.contains("-linux-")) {
         "embed (the engine's archive is for x86-64 Linux alone)"
     } else if !archive.is_file() {
-        "embed (run 'rt staticlib embed' at the repository's root, or name libembed.a's folder in JOUKERPAN_LIB_DIR)"
+        "embed (run 'tools/build embed' at the repository's root, or name libembed.a's folder in JOUKERPAN_LIB_DIR)"
     } else {
         "embed"
     }

@@ -1,23 +1,44 @@
 // `ballot_tables` reads three weights from standard input and prints every small ballot table of three offices, one to a line, with the entries
 // that elect settles.
 #![tactic(auto)]
-use libc::{STDIN_FILENO, STDOUT_FILENO};
+
+ghost use Rattle.std.specs.Prelude.{◌≤◌};
+
 use lists::within;
+use std::io;
+use std::io::Read;
 use table_lines::OUTPUT;
 
 // Writes the output's first bytes. No more are printed than it has (`answer-short`), so `within` takes none away.
-fn show(out: &[u8; OUTPUT], count: usize) {
+fn show(rt: &impl Print, out: &[u8; OUTPUT], count: usize) -> io::Result<()> {
     let all: &[u8] = out;
     let size = within(count, OUTPUT);
-    io::write_all(STDOUT_FILENO, &all[..size]);
+    rt.write_all(&all[..size])
+}
+
+// Reads until the bytes are full, the input ends or a read fails: how many came, and how the reads went.
+fn fill(rt: &impl Input, input: &mut [u8; 19]) -> (usize, io::Result<()>)
+    ensures { result.0 ≤ 19 }
+{
+    let mut reader = rt.reader();
+    let mut used = 0;
+    while used < 19 {
+        match reader.read(&mut input[used..]) {
+            Ok(0) => break,
+            Ok(got) => used += got,
+            Err(failed) => return (used, Err(failed)),
+        }
+    }
+    (used, Ok(()))
 }
 
 // It reads one byte more than three weights take with their spaces and a newline: the answer to these bytes is the answer to the whole input
-// (`input-cut`).
-fn main() {
+// (`input-cut`). Where a read fails it answers what came before, and then ends with that failure.
+fn main(rt: HostRuntime) -> io::Result<()> {
     let mut input = [0u8; 19];
-    let used = io::read_full(STDIN_FILENO, &mut input);
+    let (used, read) = fill(&rt, &mut input);
     let mut out = [0u8; OUTPUT];
     let count = table_lines::answer(&input[..used], &mut out);
-    show(&out, count);
+    show(&rt, &out, count)?;
+    read
 }

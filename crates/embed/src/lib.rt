@@ -1,7 +1,8 @@
 // The engine's calls as C functions, for a service to link: the record by value, log and buffers lent. Each answers what the call that it hands on
-// answers, by that call's equation; settled, the two frames of a line and the forecast cross as `Part`, and as `Framed` and `Foreseen` of `crossing`. include/joukerpan.h
-// declares them for C.
+// answers, by that call's equation; settled, the two frames of a line and the forecast cross as `Part`, and as `Framed` and `Foreseen` of `crossing`.
+// include/joukerpan.h declares them for C.
 #![tactic(auto)]
+
 ghost use Rattle.std.specs.Prelude.{◌≡◌};
 ghost use Rattle.frame.specs.Soundness.{sound_b};
 ghost use Rattle.frame.specs.Founding.{found_of};

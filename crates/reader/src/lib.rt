@@ -2,6 +2,7 @@
 // record at it. Callers with a plain slice use the functions `read_..`, which make the reader at a position, read one
 // record through it, and answer that with the position after it.
 #![tactic(auto)]
+
 ghost use Rattle.std.specs.Prelude.{◌≡◌};
 ghost use Rattle.records.specs.Steps.{log_at, entry_at, end_at};
 ghost use Rattle.ballot_records.specs.BallotSteps.{ballot_at};

@@ -18,35 +18,35 @@ returns-then-not-sound c = compare-unsound _ _ _ (sym c.sound.ensures ∙ c.if-n
 pub returns-then-not-is_vector : goal.returns-then-not-is_vector
 returns-then-not-is_vector c =
     let passed : let a = c.args in sound_b a.office a.log.now ≡ true = sym c.sound.ensures ∙ c.if-not-sound.false in
-    compare-no-vector _ _ _ (passed) (sym c.is_vector.ensures ∙ c.if-not-is_vector.true)
+    compare-no-vector _ _ _ passed (sym c.is_vector.ensures ∙ c.if-not-is_vector.true)
 
 pub answers-answers-requires : goal.answers-answers-requires
 answers-answers-requires c =
     let passed : let a = c.args in sound_b a.office a.log.now ≡ true = sym c.sound.ensures ∙ c.if-not-sound.false in
-    let sounds : let a = c.args in Sound a.office a.log.now = sound _ _ (passed) in
+    let sounds : let a = c.args in Sound a.office a.log.now = sound _ _ passed in
     let vector : let a = c.args in is_vector a.office.n a.vector.now ≡ true = sym c.is_vector.ensures ∙ c.if-not-is_vector.false in
-    (countable _ _ (sounds), sized _ _ (vector))
+    (countable _ _ sounds, sized _ _ vector)
 
 pub returns : goal.returns
 returns c =
     let passed : let a = c.args in sound_b a.office a.log.now ≡ true = sym c.sound.ensures ∙ c.if-not-sound.false in
     let vector : let a = c.args in is_vector a.office.n a.vector.now ≡ true = sym c.is_vector.ensures ∙ c.if-not-is_vector.false in
-    compare-done _ _ _ (passed) (vector) c.answers-answers.ensures
+    compare-done _ _ _ passed vector c.answers-answers.ensures
 
 pub is_vector-requires : goal.is_vector-requires
 is_vector-requires c =
     let passed : let a = c.args in sound_b a.office a.log.now ≡ true = sym c.sound.ensures ∙ c.if-not-sound.false in
-    let sounds : let a = c.args in Sound a.office a.log.now = sound _ _ (passed) in
-    (sounds).head.most
+    let sounds : let a = c.args in Sound a.office a.log.now = sound _ _ passed in
+    sounds.head.most
 
 pub overflow_sub-held : goal.overflow_sub-held
 overflow_sub-held c =
     let passed : let a = c.args in sound_b a.office a.log.now ≡ true = sym c.sound.ensures ∙ c.if-not-sound.false in
-    let sounds : let a = c.args in Sound a.office a.log.now = sound _ _ (passed) in
-    (sounds).within
+    let sounds : let a = c.args in Sound a.office a.log.now = sound _ _ passed in
+    sounds.within
 
 pub slice_bounds-answers-end : goal.slice_bounds-answers-end
 slice_bounds-answers-end c =
     let passed : let a = c.args in sound_b a.office a.log.now ≡ true = sym c.sound.ensures ∙ c.if-not-sound.false in
-    let sounds : let a = c.args in Sound a.office a.log.now = sound _ _ (passed) in
-    sym (log-length _ _ (sounds))
+    let sounds : let a = c.args in Sound a.office a.log.now = sound _ _ passed in
+    sym (log-length _ _ sounds)

@@ -21,7 +21,7 @@ bounds-cells-line c =
 pub overflow_add-left : goal.overflow_add-left
 overflow_add-left c =
     let line : ℕ = get_or c.args.lines.now c.loop-i.i 0 in
-    let a = c.loop-i.invariant in omega (arith, a.count, a.long, lacking-most c.loop-i.cells, a.most (line))
+    let a = c.loop-i.invariant in omega (arith, a.count, a.long, lacking-most c.loop-i.cells, a.most line)
 
 pub bounds-cells-line-in-loop-i : goal.bounds-cells-line-in-loop-i
 bounds-cells-line-in-loop-i c =

@@ -16,10 +16,10 @@ pub returns-then-line-ge-LINES : goal.returns-then-line-ge-LINES
 returns-then-line-ge-LINES c =
     let passed : sound_b c.args.office c.args.log.now ≡ true = sym c.sound.ensures ∙ c.if-not-sound.false in
     let line = c.args.line in
-    c.refused-then-line-ge-LINES.ensures ∙ shown-past line _ _ (omega arith) ∙ frame-shown _ _ line _ (passed)
+    c.refused-then-line-ge-LINES.ensures ∙ shown-past line _ _ (omega arith) ∙ frame-shown _ _ line _ passed
 
 pub returns : goal.returns
 returns c =
     let passed : sound_b c.args.office c.args.log.now ≡ true = sym c.sound.ensures ∙ c.if-not-sound.false in
     let line = c.args.line in
-    shown-done line _ _ (omega arith) _ (c.stored_edit-edit.ensures ∙ stored-shown _ _ (sound _ _ (passed)) line (omega arith)) ∙ frame-shown _ _ line _ (passed)
+    shown-done line _ _ (omega arith) _ (c.stored_edit-edit.ensures ∙ stored-shown _ _ (sound _ _ passed) line (omega arith)) ∙ frame-shown _ _ line _ passed

@@ -29,39 +29,39 @@ pub returns-then-line-ge-LINES : goal.returns-then-line-ge-LINES
 returns-then-line-ge-LINES c =
     let passed : sound_b c.args.office c.args.log.now ≡ true = sym c.sound.ensures ∙ c.if-not-sound.false in
     let line = c.args.line in
-    c.refused-then-line-ge-LINES.ensures ∙ shown-past line _ _ (omega arith) ∙ frame-shown _ _ line _ (passed)
+    c.refused-then-line-ge-LINES.ensures ∙ shown-past line _ _ (omega arith) ∙ frame-shown _ _ line _ passed
 
 pub returns : goal.returns
 returns c =
     let passed : sound_b c.args.office c.args.log.now ≡ true = sym c.sound.ensures ∙ c.if-not-sound.false in
-    let sounds : Sound c.args.office c.args.log.now = sound _ _ (passed) in
+    let sounds : Sound c.args.office c.args.log.now = sound _ _ passed in
     let a = c.args in
     let r = a.office in
     let x = (held_by r a.log.now).log in
     let before = kept_edit r a.line in
     let tail = tail_of (own_ballot r) in
     shown-done a.line before _ (omega arith) _
-    (c.stored_edit-edit.ensures ∙ behind-shown a.line before _ _ x tail (stored-code r a.log.now (sounds) a.line (omega arith))
+    (c.stored_edit-edit.ensures ∙ behind-shown a.line before _ _ x tail (stored-code r a.log.now sounds a.line (omega arith))
     (c.last_edit-last.ensures ∙ ap (λ (b : Ballot). cell (edit_after a.line (of_cell (get_or r.summary.codes a.line 0)) (tail_of b))) c.own_ballot-b.ensures) ∙
     ap (λ (t : List ℕ). edit_is (edit_after a.line before (x ++ t))) (sym (tail_at r a.log.now r.own)))
-    ∙ frame-shown _ _ a.line _ (passed)
+    ∙ frame-shown _ _ a.line _ passed
 
 pub own_ballot-b-requires : goal.own_ballot-b-requires
 own_ballot-b-requires c =
     let passed : sound_b c.args.office c.args.log.now ≡ true = sym c.sound.ensures ∙ c.if-not-sound.false in
-    let sounds : Sound c.args.office c.args.log.now = sound _ _ (passed) in
+    let sounds : Sound c.args.office c.args.log.now = sound _ _ passed in
     let S = sounds in omega arith
 
 pub slice_bounds-cells-end : goal.slice_bounds-cells-end
 slice_bounds-cells-end c =
     let passed : sound_b c.args.office c.args.log.now ≡ true = sym c.sound.ensures ∙ c.if-not-sound.false in
-    let sounds : Sound c.args.office c.args.log.now = sound _ _ (passed) in
-    let fine : let r = c.args.office in Fine r.n (held_length r) c.own_ballot-b.result = own-fine _ _ (sounds) _ c.own_ballot-b.ensures in
+    let sounds : Sound c.args.office c.args.log.now = sound _ _ passed in
+    let fine : let r = c.args.office in Fine r.n (held_length r) c.own_ballot-b.result = own-fine _ _ sounds _ c.own_ballot-b.ensures in
     let F = fine in omega arith
 
 pub slice_bounds-last_edit-end : goal.slice_bounds-last_edit-end
 slice_bounds-last_edit-end c =
     let passed : sound_b c.args.office c.args.log.now ≡ true = sym c.sound.ensures ∙ c.if-not-sound.false in
-    let sounds : Sound c.args.office c.args.log.now = sound _ _ (passed) in
-    let fine : let r = c.args.office in Fine r.n (held_length r) c.own_ballot-b.result = own-fine _ _ (sounds) _ c.own_ballot-b.ensures in
+    let sounds : Sound c.args.office c.args.log.now = sound _ _ passed in
+    let fine : let r = c.args.office in Fine r.n (held_length r) c.own_ballot-b.result = own-fine _ _ sounds _ c.own_ballot-b.ensures in
     let F = fine in sym (length-take-le _ _ (omega arith))

@@ -53,24 +53,24 @@ pub returns-then-c : goal.returns-then-c
 returns-then-c c =
     let own-part : List ℕ = drop (c.args.other - c.args.dropped) (take c.args.held c.args.log.now) in
     let their-part : List ℕ = drop (c.args.dropped - c.args.other) (run_at 6 record_at c.args.k c.args.rest.now) in
-    let found : c.compare-c.result ≡ compared_of (own-part) (their-part) = let a = c.args in c.compare-c.ensures ∙ parts a.log.now a.rest.now a.held a.k c.later-ahead.result c.later-behind.result (omega arith) ∙ ap₂ (λ (i j : ℕ). compared_of (drop i (take a.held a.log.now)) (drop j (run_at 6 record_at a.k a.rest.now))) c.later-ahead.ensures c.later-behind.ensures in
-    let apart-is : c.compare-c.result.differ ≡ not (comparable (own-part) (their-part)) = ap (λ (x : Compared). x.differ) (found) ∙ differ-exactly (own-part) (their-part) in
-    let places-are : c.compare-c.result.places ≡ places_from_end (own-part) (their-part) = ap (λ (x : Compared). x.places) (found) in
+    let found : c.compare-c.result ≡ compared_of own-part their-part = let a = c.args in c.compare-c.ensures ∙ parts a.log.now a.rest.now a.held a.k c.later-ahead.result c.later-behind.result (omega arith) ∙ ap₂ (λ (i j : ℕ). compared_of (drop i (take a.held a.log.now)) (drop j (run_at 6 record_at a.k a.rest.now))) c.later-ahead.ensures c.later-behind.ensures in
+    let apart-is : c.compare-c.result.differ ≡ not (comparable own-part their-part) = ap (λ (x : Compared). x.differ) found ∙ differ-exactly own-part their-part in
+    let places-are : c.compare-c.result.places ≡ places_from_end own-part their-part = ap (λ (x : Compared). x.places) found in
     let own-long : length (take c.args.held c.args.log.now) ≡ c.args.held = length-take-le c.args.held c.args.log.now c.requires.0 in
     let own-within : c.args.other - c.args.dropped ≤ length (take c.args.held c.args.log.now) = omega (arith, own-long) in
     let their-long : length (run_at 6 record_at c.args.k c.args.rest.now) ≡ c.args.k = run_at-length 6 record_at c.args.k c.args.rest.now in
     let their-within : c.args.dropped - c.args.other ≤ length (run_at 6 record_at c.args.k c.args.rest.now) = omega (arith, their-long) in
-    by-compared _ _ _ _ 10 _ _ late.0 (apart _ _ _ _ (own-within) (their-within) (not-true _ (sym (apart-is) ∙ c.if-c.true))) (places-are)
+    by-compared _ _ _ _ 10 _ _ late.0 (apart _ _ _ _ own-within their-within (not-true _ (sym apart-is ∙ c.if-c.true))) places-are
 
 pub returns : goal.returns
 returns c =
     let own-part : List ℕ = drop (c.args.other - c.args.dropped) (take c.args.held c.args.log.now) in
     let their-part : List ℕ = drop (c.args.dropped - c.args.other) (run_at 6 record_at c.args.k c.args.rest.now) in
-    let found : c.compare-c.result ≡ compared_of (own-part) (their-part) = let a = c.args in c.compare-c.ensures ∙ parts a.log.now a.rest.now a.held a.k c.later-ahead.result c.later-behind.result (omega arith) ∙ ap₂ (λ (i j : ℕ). compared_of (drop i (take a.held a.log.now)) (drop j (run_at 6 record_at a.k a.rest.now))) c.later-ahead.ensures c.later-behind.ensures in
-    let apart-is : c.compare-c.result.differ ≡ not (comparable (own-part) (their-part)) = ap (λ (x : Compared). x.differ) (found) ∙ differ-exactly (own-part) (their-part) in
-    let places-are : c.compare-c.result.places ≡ places_from_end (own-part) (their-part) = ap (λ (x : Compared). x.places) (found) in
+    let found : c.compare-c.result ≡ compared_of own-part their-part = let a = c.args in c.compare-c.ensures ∙ parts a.log.now a.rest.now a.held a.k c.later-ahead.result c.later-behind.result (omega arith) ∙ ap₂ (λ (i j : ℕ). compared_of (drop i (take a.held a.log.now)) (drop j (run_at 6 record_at a.k a.rest.now))) c.later-ahead.ensures c.later-behind.ensures in
+    let apart-is : c.compare-c.result.differ ≡ not (comparable own-part their-part) = ap (λ (x : Compared). x.differ) found ∙ differ-exactly own-part their-part in
+    let places-are : c.compare-c.result.places ≡ places_from_end own-part their-part = ap (λ (x : Compared). x.places) found in
     let own-long : length (take c.args.held c.args.log.now) ≡ c.args.held = length-take-le c.args.held c.args.log.now c.requires.0 in
     let own-within : c.args.other - c.args.dropped ≤ length (take c.args.held c.args.log.now) = omega (arith, own-long) in
     let their-long : length (run_at 6 record_at c.args.k c.args.rest.now) ≡ c.args.k = run_at-length 6 record_at c.args.k c.args.rest.now in
     let their-within : c.args.dropped - c.args.other ≤ length (run_at 6 record_at c.args.k c.args.rest.now) = omega (arith, their-long) in
-    by-compared _ _ _ _ 0 _ _ late.1 (meets _ _ _ _ (own-within) (their-within) (not-false _ (sym (apart-is) ∙ c.if-c.false))) (places-are)
+    by-compared _ _ _ _ 0 _ _ late.1 (meets _ _ _ _ own-within their-within (not-false _ (sym apart-is ∙ c.if-c.false))) places-are

@@ -3,7 +3,7 @@ use borrow.Author.Rules.{rules}
 use Rattle.crossing.proofs.across.Goals as goal
 
 pub returns-in-Code : goal.returns-in-Code
-returns-in-Code c = rw c.edit-1.given.1
+returns-in-Code c = rw c.in-Code.is
 
 pub returns-in-NotYet : goal.returns-in-NotYet
-returns-in-NotYet c = rw c.enum_told-1.given.1
+returns-in-NotYet c = rw c.in-NotYet.is

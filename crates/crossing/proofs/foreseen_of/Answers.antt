@@ -5,8 +5,8 @@ use Rattle.crossing.proofs.foreseen_of.Goals as goal
 
 pub returns-in-Nobody : goal.returns-in-Nobody
 unfolding foreseen_of
-returns-in-Nobody c = rw c.enum_told-1.given.1
+returns-in-Nobody c = rw c.in-Nobody.is
 
 pub returns-in-Entry : goal.returns-in-Entry
 unfolding foreseen_of
-returns-in-Entry c = rw c.winner-1.given.1
+returns-in-Entry c = rw c.in-Entry.is

@@ -22,55 +22,55 @@ pub returns-then-not-of_frame : goal.returns-then-not-of_frame
 returns-then-not-of_frame c =
     let office : Record = c.args.office in
     let log : List ℕ = c.args.log.now in
-    let passed : sound_b (office) (log) ≡ true = sym c.sound.ensures ∙ c.if-not-sound.false in
-    c.refused-then-not-of_frame.ensures ∙ earlier-no-line _ _ _ _ (passed) (sym c.of_frame.ensures ∙ c.if-not-of_frame.true)
+    let passed : sound_b office log ≡ true = sym c.sound.ensures ∙ c.if-not-sound.false in
+    c.refused-then-not-of_frame.ensures ∙ earlier-no-line _ _ _ _ passed (sym c.of_frame.ensures ∙ c.if-not-of_frame.true)
 
 pub returns-then-p-dropped : goal.returns-then-p-dropped
 returns-then-p-dropped c =
     let office : Record = c.args.office in
     let log : List ℕ = c.args.log.now in
-    let passed : sound_b (office) (log) ≡ true = sym c.sound.ensures ∙ c.if-not-sound.false in
+    let passed : sound_b office log ≡ true = sym c.sound.ensures ∙ c.if-not-sound.false in
     let lines : List ℕ = c.args.lines.now in
-    let of-frame : of_frame (lines) ≡ true = sym c.of_frame.ensures ∙ c.if-not-of_frame.false in
-    c.refused-then-p-dropped.ensures ∙ earlier-dropped _ _ _ _ (passed) (of-frame) c.if-p-dropped.true
+    let of-frame : of_frame lines ≡ true = sym c.of_frame.ensures ∙ c.if-not-of_frame.false in
+    c.refused-then-p-dropped.ensures ∙ earlier-dropped _ _ _ _ passed of-frame c.if-p-dropped.true
 
 pub returns-then-p-office : goal.returns-then-p-office
 returns-then-p-office c =
     let office : Record = c.args.office in
     let log : List ℕ = c.args.log.now in
-    let passed : sound_b (office) (log) ≡ true = sym c.sound.ensures ∙ c.if-not-sound.false in
+    let passed : sound_b office log ≡ true = sym c.sound.ensures ∙ c.if-not-sound.false in
     let lines : List ℕ = c.args.lines.now in
-    let of-frame : of_frame (lines) ≡ true = sym c.of_frame.ensures ∙ c.if-not-of_frame.false in
-    c.refused-then-p-office.ensures ∙ earlier-no-place _ _ _ _ (passed) (of-frame) c.if-p-office.true
+    let of-frame : of_frame lines ≡ true = sym c.of_frame.ensures ∙ c.if-not-of_frame.false in
+    c.refused-then-p-office.ensures ∙ earlier-no-place _ _ _ _ passed of-frame c.if-p-office.true
 
 pub returns-then-lines : goal.returns-then-lines
 returns-then-lines c =
     let office : Record = c.args.office in
     let log : List ℕ = c.args.log.now in
-    let passed : sound_b (office) (log) ≡ true = sym c.sound.ensures ∙ c.if-not-sound.false in
+    let passed : sound_b office log ≡ true = sym c.sound.ensures ∙ c.if-not-sound.false in
     let lines : List ℕ = c.args.lines.now in
-    let of-frame : of_frame (lines) ≡ true = sym c.of_frame.ensures ∙ c.if-not-of_frame.false in
-    c.refused-then-lines.ensures ∙ earlier-many _ _ _ _ (passed) (of-frame) c.if-lines.true
+    let of-frame : of_frame lines ≡ true = sym c.of_frame.ensures ∙ c.if-not-of_frame.false in
+    c.refused-then-lines.ensures ∙ earlier-many _ _ _ _ passed of-frame c.if-lines.true
 
 pub slice_bounds-walk-end : goal.slice_bounds-walk-end
 slice_bounds-walk-end c =
     let office : Record = c.args.office in
     let log : List ℕ = c.args.log.now in
-    let passed : sound_b (office) (log) ≡ true = sym c.sound.ensures ∙ c.if-not-sound.false in
-    let within : c.args.p - (office).kept.dropped ≤ length (log) = let S = sound (office) (log) (passed) in omega (arith, c.if-p-office.false, S.room, S.most) in
-    sym (length-take-le _ _ (within))
+    let passed : sound_b office log ≡ true = sym c.sound.ensures ∙ c.if-not-sound.false in
+    let within : c.args.p - office.kept.dropped ≤ length log = let S = sound office log passed in omega (arith, c.if-p-office.false, S.room, S.most) in
+    sym (length-take-le _ _ within)
 
 pub walk-walked-requires : goal.walk-walked-requires
 walk-walked-requires c =
     let lines : List ℕ = c.args.lines.now in
-    let of-frame : of_frame (lines) ≡ true = sym c.of_frame.ensures ∙ c.if-not-of_frame.false in
+    let of-frame : of_frame lines ≡ true = sym c.of_frame.ensures ∙ c.if-not-of_frame.false in
     record { few = c.if-lines.false; each = of-frame }
 
 pub returns : goal.returns
 returns c =
     let office : Record = c.args.office in
     let log : List ℕ = c.args.log.now in
-    let passed : sound_b (office) (log) ≡ true = sym c.sound.ensures ∙ c.if-not-sound.false in
+    let passed : sound_b office log ≡ true = sym c.sound.ensures ∙ c.if-not-sound.false in
     let lines : List ℕ = c.args.lines.now in
-    let of-frame : of_frame (lines) ≡ true = sym c.of_frame.ensures ∙ c.if-not-of_frame.false in
-    earlier-made _ _ _ _ (passed) (of-frame) c.if-p-dropped.false c.if-p-office.false c.if-lines.false _ c.walk-walked.ensures
+    let of-frame : of_frame lines ≡ true = sym c.of_frame.ensures ∙ c.if-not-of_frame.false in
+    earlier-made _ _ _ _ passed of-frame c.if-p-dropped.false c.if-p-office.false c.if-lines.false _ c.walk-walked.ensures

@@ -23,4 +23,4 @@ pub returns : goal.returns
 returns c =
     let full : length c.args.b.cells ≡ 32 = search rules in
     let l = c.loop-i in
-    with-done (is_entry c.args.n) 0 c.args.b.cells l.good l.i l.invariant.1 (omega (arith, full)) ∙ all-cells (is_entry c.args.n) c.args.b (full)
+    with-done (is_entry c.args.n) 0 c.args.b.cells l.good l.i l.invariant.1 (omega (arith, full)) ∙ all-cells (is_entry c.args.n) c.args.b full

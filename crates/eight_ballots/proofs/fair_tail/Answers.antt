@@ -12,4 +12,5 @@ fair-requires c =
     (c.requires.0, (c.requires.1.0, holding))
 
 pub returns : goal.returns
+unfolding fair_tail
 returns c = c.fair.ensures

@@ -35,12 +35,12 @@ loop-i-preserved c =
     let v = l.invariant.1 in (
       omega (arith, h),
       (
-        masked-next _ _ _ l.p l.i _ (masks-are) f.0 h (at_most a.a.len) v.0 c.masked-p.ensures,
+        masked-next _ _ _ l.p l.i _ masks-are f.0 h (at_most a.a.len) v.0 c.masked-p.ensures,
         (
-          masked-next _ _ _ l.q l.i _ (masks-are) f.1.0 h (at_most a.b.len) v.1.0 c.masked-q.ensures,
+          masked-next _ _ _ l.q l.i _ masks-are f.1.0 h (at_most a.b.len) v.1.0 c.masked-q.ensures,
           (
-            masked-next _ _ _ l.r l.i _ (masks-are) f.1.1.0 h (at_most a.c.len) v.1.1.0 c.masked-r.ensures,
-            masked-next _ _ _ l.s l.i _ (masks-are) f.1.1.1 h (at_most a.d.len) v.1.1.1 c.masked-s.ensures,
+            masked-next _ _ _ l.r l.i _ masks-are f.1.1.0 h (at_most a.c.len) v.1.1.0 c.masked-r.ensures,
+            masked-next _ _ _ l.s l.i _ masks-are f.1.1.1 h (at_most a.d.len) v.1.1.1 c.masked-s.ensures,
           ),
         ),
       ),
@@ -94,7 +94,7 @@ offset_bounds-masks-j c = omega (arith, c.loop-i-test.true)
 pub bounds-masks-j : goal.bounds-masks-j
 bounds-masks-j c =
     let masks-are : c.args.masks.now ≡ mask_words = c.requires.0 in
-    let long : length c.args.masks.now ≡ 64 = ap length (masks-are) ∙ mask-length in
+    let long : length c.args.masks.now ≡ 64 = ap length masks-are ∙ mask-length in
     omega (arith, c.loop-i-test.true, long)
 
 pub offset_bounds-x-i : goal.offset_bounds-x-i
@@ -112,7 +112,7 @@ offset_bounds-masks-k c = omega (arith, c.loop-i-test.true)
 pub bounds-masks-k : goal.bounds-masks-k
 bounds-masks-k c =
     let masks-are : c.args.masks.now ≡ mask_words = c.requires.0 in
-    let long : length c.args.masks.now ≡ 64 = ap length (masks-are) ∙ mask-length in
+    let long : length c.args.masks.now ≡ 64 = ap length masks-are ∙ mask-length in
     omega (arith, c.loop-i-test.true, long)
 
 pub offset_bounds-y-i : goal.offset_bounds-y-i
@@ -130,7 +130,7 @@ offset_bounds-masks-l c = omega (arith, c.loop-i-test.true)
 pub bounds-masks-l : goal.bounds-masks-l
 bounds-masks-l c =
     let masks-are : c.args.masks.now ≡ mask_words = c.requires.0 in
-    let long : length c.args.masks.now ≡ 64 = ap length (masks-are) ∙ mask-length in
+    let long : length c.args.masks.now ≡ 64 = ap length masks-are ∙ mask-length in
     omega (arith, c.loop-i-test.true, long)
 
 pub offset_bounds-z-i : goal.offset_bounds-z-i
@@ -148,7 +148,7 @@ offset_bounds-masks-m c = omega (arith, c.loop-i-test.true)
 pub bounds-masks-m : goal.bounds-masks-m
 bounds-masks-m c =
     let masks-are : c.args.masks.now ≡ mask_words = c.requires.0 in
-    let long : length c.args.masks.now ≡ 64 = ap length (masks-are) ∙ mask-length in
+    let long : length c.args.masks.now ≡ 64 = ap length masks-are ∙ mask-length in
     omega (arith, c.loop-i-test.true, long)
 
 pub overflow_step-i : goal.overflow_step-i

@@ -12,4 +12,4 @@ pub returns : goal.returns
 unfolding empty_ballot both
 returns c =
     let full : length c.args.b.cells ≡ 32 = search rules in
-    rw (and_both, c.zero_cells.ensures, eq-eqb _ 32 (full))
+    rw (and_both, c.zero_cells.ensures, eq-eqb _ 32 full)

@@ -5,4 +5,4 @@ use Rattle.extending.proofs.Logs.{extend-stores}
 use Rattle.extending.proofs.extend.Goals as goal
 
 pub returns : goal.returns
-returns c = extend-stores c.args.held c.args.k c.args.log.now c.fill.new.0 c.args.rest.now c.requires.0 (omega arith) c.fill.ensures
+returns c = extend-stores c.args.held c.args.k c.args.log.now c.fill.new.part c.args.rest.now c.requires.0 (omega arith) c.fill.ensures

@@ -16,8 +16,8 @@ returns-then-not-sound c = fold-unsound _ _ (sym c.sound.ensures ∙ c.if-not-so
 pub drop_first-after-requires : goal.drop_first-after-requires
 drop_first-after-requires c =
     let passed : let a = c.args in sound_b a.office a.log.now ≡ true = sym c.sound.ensures ∙ c.if-not-sound.false in
-    let sounds : let a = c.args in Sound a.office a.log.now = sound _ _ (passed) in
-    let gone : let a = c.args in c.known-count.result ≡ gone_of a.office a.log.now = gone-is _ _ (sounds) _ c.known-count.ensures in
+    let sounds : let a = c.args in Sound a.office a.log.now = sound _ _ passed in
+    let gone : let a = c.args in c.known-count.result ≡ gone_of a.office a.log.now = gone-is _ _ sounds _ c.known-count.ensures in
     let S = sounds in
     let g = gone in
     let w = gone-within _ _ S in
@@ -26,19 +26,19 @@ drop_first-after-requires c =
 pub returns : goal.returns
 returns c =
     let passed : let a = c.args in sound_b a.office a.log.now ≡ true = sym c.sound.ensures ∙ c.if-not-sound.false in
-    let sounds : let a = c.args in Sound a.office a.log.now = sound _ _ (passed) in
-    let gone : let a = c.args in c.known-count.result ≡ gone_of a.office a.log.now = gone-is _ _ (sounds) _ c.known-count.ensures in
+    let sounds : let a = c.args in Sound a.office a.log.now = sound _ _ passed in
+    let gone : let a = c.args in c.known-count.result ≡ gone_of a.office a.log.now = gone-is _ _ sounds _ c.known-count.ensures in
     let a = c.args in
-    fold-made a.office a.log.now (passed) _ (gone) _ c.drop_first-after.ensures.kept _ c.drop_first-after.ensures.words
+    fold-made a.office a.log.now passed _ gone _ c.drop_first-after.ensures.kept _ c.drop_first-after.ensures.words
 
 pub overflow_sub-held : goal.overflow_sub-held
 overflow_sub-held c =
     let passed : let a = c.args in sound_b a.office a.log.now ≡ true = sym c.sound.ensures ∙ c.if-not-sound.false in
-    let sounds : let a = c.args in Sound a.office a.log.now = sound _ _ (passed) in
-    omega (arith, (sounds).within)
+    let sounds : let a = c.args in Sound a.office a.log.now = sound _ _ passed in
+    omega (arith, sounds.within)
 
 pub known-count-requires : goal.known-count-requires
 known-count-requires c =
     let passed : let a = c.args in sound_b a.office a.log.now ≡ true = sym c.sound.ensures ∙ c.if-not-sound.false in
-    let sounds : let a = c.args in Sound a.office a.log.now = sound _ _ (passed) in
-    (sounds).head.most
+    let sounds : let a = c.args in Sound a.office a.log.now = sound _ _ passed in
+    sounds.head.most

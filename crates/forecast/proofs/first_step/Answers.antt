@@ -18,44 +18,44 @@ pub returns-then-not-fit : goal.returns-then-not-fit
 returns-then-not-fit c =
     let passed : sound_b c.args.office c.args.log.now ≡ true = sym c.sound.ensures ∙ c.if-not-sound.false in
     let a = c.args in
-    forecast-unfit a.office a.log.now a.lowest a.highest (passed) (sym c.fit.ensures ∙ c.if-not-fit.true)
+    forecast-unfit a.office a.log.now a.lowest a.highest passed (sym c.fit.ensures ∙ c.if-not-fit.true)
 
 pub counts_after-counts-requires : goal.counts_after-counts-requires
 counts_after-counts-requires c =
     let passed : sound_b c.args.office c.args.log.now ≡ true = sym c.sound.ensures ∙ c.if-not-sound.false in
-    let sounds : Sound c.args.office c.args.log.now = sound _ _ (passed) in
+    let sounds : Sound c.args.office c.args.log.now = sound _ _ passed in
     let a = c.args in
-    counts-room a.office a.log.now a.lowest a.highest (sounds)
+    counts-room a.office a.log.now a.lowest a.highest sounds
 
 pub sure_winner-winner-requires : goal.sure_winner-winner-requires
 sure_winner-winner-requires c =
     let passed : sound_b c.args.office c.args.log.now ≡ true = sym c.sound.ensures ∙ c.if-not-sound.false in
-    let sounds : Sound c.args.office c.args.log.now = sound _ _ (passed) in
+    let sounds : Sound c.args.office c.args.log.now = sound _ _ passed in
     let a = c.args in
-    votes-silent a.office a.log.now a.lowest a.highest (sounds) c.of_ballots-votes.result c.of_ballots-votes.ensures
+    votes-silent a.office a.log.now a.lowest a.highest sounds c.of_ballots-votes.result c.of_ballots-votes.ensures
 
 pub returns : goal.returns
 returns c =
     let passed : sound_b c.args.office c.args.log.now ≡ true = sym c.sound.ensures ∙ c.if-not-sound.false in
-    let sounds : Sound c.args.office c.args.log.now = sound _ _ (passed) in
+    let sounds : Sound c.args.office c.args.log.now = sound _ _ passed in
     let fitted : let a = c.args in fits (bounds_of a.office a.lowest) (bounds_of a.office a.highest) ≡ true = sym c.fit.ensures ∙ c.if-not-fit.false in
     let a = c.args in
-    forecast-done a.office a.log.now a.lowest a.highest (sounds) (passed) (fitted) _ c.counts_after-counts.ensures _ c.of_ballots-votes.ensures _ c.sure_winner-winner.ensures
+    forecast-done a.office a.log.now a.lowest a.highest sounds passed fitted _ c.counts_after-counts.ensures _ c.of_ballots-votes.ensures _ c.sure_winner-winner.ensures
 
 pub fit-requires : goal.fit-requires
 fit-requires c =
     let passed : sound_b c.args.office c.args.log.now ≡ true = sym c.sound.ensures ∙ c.if-not-sound.false in
-    let sounds : Sound c.args.office c.args.log.now = sound _ _ (passed) in
-    (sounds).head.most
+    let sounds : Sound c.args.office c.args.log.now = sound _ _ passed in
+    sounds.head.most
 
 pub overflow_sub-held : goal.overflow_sub-held
 overflow_sub-held c =
     let passed : sound_b c.args.office c.args.log.now ≡ true = sym c.sound.ensures ∙ c.if-not-sound.false in
-    let sounds : Sound c.args.office c.args.log.now = sound _ _ (passed) in
-    (sounds).within
+    let sounds : Sound c.args.office c.args.log.now = sound _ _ passed in
+    sounds.within
 
 pub slice_bounds-counts_after-end : goal.slice_bounds-counts_after-end
 slice_bounds-counts_after-end c =
     let passed : sound_b c.args.office c.args.log.now ≡ true = sym c.sound.ensures ∙ c.if-not-sound.false in
-    let sounds : Sound c.args.office c.args.log.now = sound _ _ (passed) in
-    sym (log-length _ _ (sounds))
+    let sounds : Sound c.args.office c.args.log.now = sound _ _ passed in
+    sym (log-length _ _ sounds)

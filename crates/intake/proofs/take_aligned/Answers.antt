@@ -20,7 +20,7 @@ catch_up-end-requires c =
 pub returns : goal.returns
 returns c =
     let theirs-long : c.args.k ≡ length (run_at 6 record_at c.args.k c.args.rest.now) = sym (run_at-length 6 record_at c.args.k c.args.rest.now) in
-    let both = merged _ _ _ _ _ _ c.requires.0 _ _ _ (theirs-long) c.catch_up-end.ensures.reached c.catch_up-end.ensures.words _ c.merge-next.ensures _ c.after-after.ensures in record { state = both.0; words = both.1 }
+    let both = merged _ _ _ _ _ _ c.requires.0 _ _ _ theirs-long c.catch_up-end.ensures.reached c.catch_up-end.ensures.words _ c.merge-next.ensures _ c.after-after.ensures in record { state = both.0; words = both.1 }
 
 pub slice_bounds-merge-count : goal.slice_bounds-merge-count
 slice_bounds-merge-count c =
@@ -36,7 +36,7 @@ pub slice_bounds-merge-end : goal.slice_bounds-merge-end
 slice_bounds-merge-end c =
     let theirs-long : c.args.k ≡ length (run_at 6 record_at c.args.k c.args.rest.now) = sym (run_at-length 6 record_at c.args.k c.args.rest.now) in
     let theirs-within : c.args.k ≤ length c.args.log.now = omega (arith, theirs-long, c.requires.0.theirs-within) in
-    let inside : c.catch_up-end.result ≤ length c.catch_up-end.new.0 = let a = c.args in let L = longer-end a.rest.now a.state.held a.k in omega (arith, L.within (length a.log.now) c.requires.0.held-within (theirs-within), c.catch_up-end.ensures.reached, c.catch_up-end.auto.0) in
+    let inside : c.catch_up-end.result ≤ length c.catch_up-end.new.log = let a = c.args in let L = longer-end a.rest.now a.state.held a.k in omega (arith, L.within (length a.log.now) c.requires.0.held-within theirs-within, c.catch_up-end.ensures.reached, c.catch_up-end.auto.log) in
     let p = inside in search rules
 
 pub slice_bounds-merge-count-2 : goal.slice_bounds-merge-count-2
@@ -53,7 +53,7 @@ pub slice_bounds-merge-end-2 : goal.slice_bounds-merge-end-2
 slice_bounds-merge-end-2 c =
     let theirs-long : c.args.k ≡ length (run_at 6 record_at c.args.k c.args.rest.now) = sym (run_at-length 6 record_at c.args.k c.args.rest.now) in
     let theirs-within : c.args.k ≤ length c.args.log.now = omega (arith, theirs-long, c.requires.0.theirs-within) in
-    let inside : c.catch_up-end.result ≤ length c.catch_up-end.new.0 = let a = c.args in let L = longer-end a.rest.now a.state.held a.k in omega (arith, L.within (length a.log.now) c.requires.0.held-within (theirs-within), c.catch_up-end.ensures.reached, c.catch_up-end.auto.0) in
+    let inside : c.catch_up-end.result ≤ length c.catch_up-end.new.log = let a = c.args in let L = longer-end a.rest.now a.state.held a.k in omega (arith, L.within (length a.log.now) c.requires.0.held-within theirs-within, c.catch_up-end.ensures.reached, c.catch_up-end.auto.log) in
     let p = inside in search rules
 
 pub slice_bounds-after-count : goal.slice_bounds-after-count
@@ -70,5 +70,5 @@ pub slice_bounds-after-end : goal.slice_bounds-after-end
 slice_bounds-after-end c =
     let theirs-long : c.args.k ≡ length (run_at 6 record_at c.args.k c.args.rest.now) = sym (run_at-length 6 record_at c.args.k c.args.rest.now) in
     let theirs-within : c.args.k ≤ length c.args.log.now = omega (arith, theirs-long, c.requires.0.theirs-within) in
-    let inside : c.catch_up-end.result ≤ length c.catch_up-end.new.0 = let a = c.args in let L = longer-end a.rest.now a.state.held a.k in omega (arith, L.within (length a.log.now) c.requires.0.held-within (theirs-within), c.catch_up-end.ensures.reached, c.catch_up-end.auto.0) in
+    let inside : c.catch_up-end.result ≤ length c.catch_up-end.new.log = let a = c.args in let L = longer-end a.rest.now a.state.held a.k in omega (arith, L.within (length a.log.now) c.requires.0.held-within theirs-within, c.catch_up-end.ensures.reached, c.catch_up-end.auto.log) in
     let p = inside in search rules

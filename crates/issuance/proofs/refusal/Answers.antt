@@ -75,7 +75,7 @@ pub slice_bounds-in_words-end : goal.slice_bounds-in_words-end
 slice_bounds-in_words-end c =
     let full : length c.args.b.cells ≡ 32 = search rules in
     let taken : length (tail_of c.args.b) ≡ c.args.b.len = length-take-le c.args.b.len c.args.b.cells (omega (arith, full, c.requires.1.1.1.1.1)) in
-    sym (taken)
+    sym taken
 
 pub in_words-counts-requires : goal.in_words-counts-requires
 in_words-counts-requires c =

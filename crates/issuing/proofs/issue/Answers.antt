@@ -22,8 +22,8 @@ refusal-number-requires c =
 pub returns : goal.returns
 returns c =
     let sounds : let a = c.args in Sound a.office a.log.now = sound _ _ (sym c.sound.ensures ∙ c.if-not-sound.false) in
-    let numbered : let a = c.args in c.refusal-number.result ≡ issue_number a.office a.log.now a.line a.code = number_at _ _ (sounds) _ _ _ refl _ refl _ c.refusal-number.ensures in
-    issue-done _ _ _ _ (sym (numbered) ∙ c.if-number-ne0.false) _ refl _ c.issued-longer.ensures _ c.with_own-next.ensures
+    let numbered : let a = c.args in c.refusal-number.result ≡ issue_number a.office a.log.now a.line a.code = number_at _ _ sounds _ _ _ refl _ refl _ c.refusal-number.ensures in
+    issue-done _ _ _ _ (sym numbered ∙ c.if-number-ne0.false) _ refl _ c.issued-longer.ensures _ c.with_own-next.ensures
 
 pub returns-then-not-sound : goal.returns-then-not-sound
 returns-then-not-sound c = issue-refused _ _ _ _ 1 (number-unsound _ _ _ _ (sym c.sound.ensures ∙ c.if-not-sound.true)) (λ z. omega arith)
@@ -31,32 +31,36 @@ returns-then-not-sound c = issue-refused _ _ _ _ 1 (number-unsound _ _ _ _ (sym 
 pub offset_bounds-ballots-own : goal.offset_bounds-ballots-own
 offset_bounds-ballots-own c =
     let sounds : let a = c.args in Sound a.office a.log.now = sound _ _ (sym c.sound.ensures ∙ c.if-not-sound.false) in
-    let placed : c.args.office.own < 8 = let H = (sounds).head in omega (arith, H.member, H.most) in
+    let placed : c.args.office.own < 8 = let H = sounds.head in omega (arith, H.member, H.most) in
     omega (arith, placed)
 
 pub bounds-ballots-own : goal.bounds-ballots-own
 bounds-ballots-own c =
     let sounds : let a = c.args in Sound a.office a.log.now = sound _ _ (sym c.sound.ensures ∙ c.if-not-sound.false) in
-    let placed : c.args.office.own < 8 = let H = (sounds).head in omega (arith, H.member, H.most) in
+    let placed : c.args.office.own < 8 = let H = sounds.head in omega (arith, H.member, H.most) in
     omega (arith, placed)
 
 pub overflow_sub-held : goal.overflow_sub-held
 overflow_sub-held c =
     let sounds : let a = c.args in Sound a.office a.log.now = sound _ _ (sym c.sound.ensures ∙ c.if-not-sound.false) in
-    omega (arith, (sounds).within)
+    omega (arith, sounds.within)
 
 pub returns-then-number-ne0 : goal.returns-then-number-ne0
 returns-then-number-ne0 c =
     let sounds : let a = c.args in Sound a.office a.log.now = sound _ _ (sym c.sound.ensures ∙ c.if-not-sound.false) in
-    let numbered : let a = c.args in c.refusal-number.result ≡ issue_number a.office a.log.now a.line a.code = number_at _ _ (sounds) _ _ _ refl _ refl _ c.refusal-number.ensures in
-    issue-refused _ _ _ _ _ (numbered) c.if-number-ne0.true
+    let numbered : let a = c.args in c.refusal-number.result ≡ issue_number a.office a.log.now a.line a.code = number_at _ _ sounds _ _ _ refl _ refl _ c.refusal-number.ensures in
+    issue-refused _ _ _ _ _ numbered c.if-number-ne0.true
 
 pub issued-longer-requires : goal.issued-longer-requires
-issued-longer-requires c = let A = may c in let P = A.limits in (omega arith, omega arith, omega arith)
+issued-longer-requires c =
+    let sounds : let a = c.args in Sound a.office a.log.now = sound _ _ (sym c.sound.ensures ∙ c.if-not-sound.false) in
+    let numbered : let a = c.args in c.refusal-number.result ≡ issue_number a.office a.log.now a.line a.code = number_at _ _ sounds _ _ _ refl _ refl _ c.refusal-number.ensures in
+    let may : let a = c.args in Allowed a.office a.log.now a.line a.code = allowed _ _ _ _ (sym numbered ∙ c.if-number-ne0.false) in
+    let A = may in let P = A.limits in (omega arith, omega arith, omega arith)
 
 pub with_own-next-requires : goal.with_own-next-requires
 with_own-next-requires c =
     let sounds : let a = c.args in Sound a.office a.log.now = sound _ _ (sym c.sound.ensures ∙ c.if-not-sound.false) in
-    let numbered : let a = c.args in c.refusal-number.result ≡ issue_number a.office a.log.now a.line a.code = number_at _ _ (sounds) _ _ _ refl _ refl _ c.refusal-number.ensures in
-    let may : let a = c.args in Allowed a.office a.log.now a.line a.code = allowed _ _ _ _ (sym (numbered) ∙ c.if-number-ne0.false) in
+    let numbered : let a = c.args in c.refusal-number.result ≡ issue_number a.office a.log.now a.line a.code = number_at _ _ sounds _ _ _ refl _ refl _ c.refusal-number.ensures in
+    let may : let a = c.args in Allowed a.office a.log.now a.line a.code = allowed _ _ _ _ (sym numbered ∙ c.if-number-ne0.false) in
     let A = may in omega arith

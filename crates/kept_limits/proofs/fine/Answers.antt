@@ -36,7 +36,7 @@ returns-then-dropped-eq0 c =
     let rest-counts : let a = c.args in all_b (eqb 0) (drop a.n a.kept.counts) ≡ true = sym c.no_counts_from.ensures ∙ c.if-not-no_counts_from.false in
     let rest : let a = c.args in all_b (eqb 0) (drop a.n a.kept.summary.present) ≡ true = sym c.zero_from.ensures ∙ c.if-not-zero_from.false in
     c.same.ensures ∙ ap (same_summary c.args.kept.summary) c.start-start.ensures ∙
-    fine-nothing c.args.n c.args.founding c.args.kept (eight) (weighed) (lines) (offices) (add-up) (rest-counts) (rest) c.if-dropped-eq0.true
+    fine-nothing c.args.n c.args.founding c.args.kept eight weighed lines offices add-up rest-counts rest c.if-dropped-eq0.true
 
 pub returns-then-total : goal.returns-then-total
 returns-then-total c = kept-not c.args.n c.args.founding c.args.kept (λ F. c.if-total.true (c.total.ensures ∙ F.same_total ∙ sym c.total-2.ensures))
@@ -53,4 +53,4 @@ returns c =
     let rest : let a = c.args in all_b (eqb 0) (drop a.n a.kept.summary.present) ≡ true = sym c.zero_from.ensures ∙ c.if-not-zero_from.false in
     let same = sym c.total.ensures ∙ c.if-total.false ∙ c.total-2.ensures in
     c.codes_fine.ensures ∙
-    fine-some c.args.n c.args.founding c.args.kept (eight) (weighed) (lines) (offices) (add-up) (rest-counts) (rest) c.if-dropped-eq0.false same
+    fine-some c.args.n c.args.founding c.args.kept eight weighed lines offices add-up rest-counts rest c.if-dropped-eq0.false same

@@ -8,6 +8,7 @@ use Rattle.lists.proofs.Fill.{filled}
 use Rattle.ballots.specs.Ballots.{off_end}
 use Rattle.merging.specs.Merging.{past_ballot, adopted_ballot}
 use Rattle.merging.proofs.Turn.{merged, all-merged, left-past, left-offer, next-merged}
+use Rattle.merging.proofs.merge.Goals.{then-len-grown, else-len-grown, then-offer_len-between, else-offer_len-between}
 use Rattle.merging.proofs.merge.Goals as goal
 
 none_yet : 0 ≤ 8
@@ -18,21 +19,26 @@ loop-i-init c = (none_yet, refl)
 
 pub loop-i-preserved : goal.loop-i-preserved
 loop-i-preserved c =
-    let eight : (length c.args.ballots ≡ 8) × (length c.args.offers ≡ 8) = (search rules, search rules) in
-    let brought : let l = c.loop-i in let a = c.args in c.if-len-grown.next ≡ set l.next l.i (past_ballot a.grown.now (get_or l.next l.i off_end)) = let l = c.loop-i in let a = c.args in let full = eight in let left = left-past a.grown.now a.between.now a.ballots a.offers a.own a.sender l.i (omega (arith, full, c.loop-i-test.true)) l.next l.invariant.1 c.requires.1 in ⊎_elim {C = c.if-len-grown.next ≡ set l.next l.i (past_ballot a.grown.now (get_or l.next l.i off_end))} (λ w. w.3 ∙ ap (set l.next l.i) w.2.ensures) (λ w. w.1 ∙ left w.0.left) c.if-len-grown.branch in
+    let full : (length c.args.ballots ≡ 8) × (length c.args.offers ≡ 8) = (search rules, search rules) in
     let l = c.loop-i in
     let a = c.args in
     let g = c.giver-giver in
     let first = c.if-len-grown.next in
-    let full = eight in
-    let here = c.loop-i-test.true in (
+    let here = c.loop-i-test.true in
+    let left = left-past a.grown.now a.between.now a.ballots a.offers a.own a.sender l.i (omega (arith, full, here)) l.next l.invariant.1 c.requires.1 in
+    let brought : first ≡ set l.next l.i (past_ballot a.grown.now (get_or l.next l.i off_end)) =
+        elim c.if-len-grown.branch [
+          then-len-grown w ↦ w.next-is ∙ ap (set l.next l.i) w.past_ballot.ensures
+          | else-len-grown w ↦ w.next-is ∙ left w.if-len-grown.false
+        ] in
+    let offered : c.if-offer_len-between.next ≡ set first l.i (adopted_ballot (get_or first l.i off_end) (past_ballot a.between.now (get_or a.offers g.result off_end))) =
+        elim c.if-offer_len-between.branch [
+          then-offer_len-between w ↦ w.next-is ∙ ap (set first l.i) w.offered.ensures
+          | else-offer_len-between w ↦ w.next-is ∙ left-offer a.between.now first l.i (get_or a.offers g.result off_end) (omega (arith, w.if-offer_len-between.false))
+        ] in (
       omega (arith, here),
       next-merged a.grown.now a.between.now a.ballots a.offers a.own a.sender l.i (omega (arith, full, here)) l.next l.invariant.1
-          (omega (arith, full, here)) g.result g.ensures.0 first c.if-offer_len-between.next (brought)
-          (⊎_elim {C = c.if-offer_len-between.next ≡ set first l.i (adopted_ballot (get_or first l.i off_end) (past_ballot a.between.now (get_or a.offers g.result off_end)))}
-          (λ w. w.4 ∙ ap (set first l.i) w.3.ensures)
-          (λ w. w.1 ∙ left-offer a.between.now first l.i (get_or a.offers g.result off_end) (omega (arith, w.0.left)))
-          c.if-offer_len-between.branch),
+          (omega (arith, full, here)) g.result g.ensures.0 first c.if-offer_len-between.next brought offered,
     )
 
 pub returns : goal.returns

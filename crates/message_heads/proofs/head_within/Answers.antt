@@ -23,19 +23,19 @@ returns-then-s-head_size c = within-not _ (λ h. omega (arith, c.if-s-head_size.
 pub returns-then-dropped-settled : goal.returns-then-dropped-settled
 returns-then-dropped-settled c =
     let message : List ℕ = c.args.s.now in
-    let settled : c.be64_at-settled.result ≡ settled_at (message) = settled_is (message) _ _ _ c.wide-n.ensures.0 c.length_place.ensures c.be64_at-settled.ensures in
-    let dropped : c.be64_at-dropped.result ≡ dropped_at (message) = dropped-is (message) _ _ _ c.wide-n.ensures.0 c.dropped_place.ensures c.be64_at-dropped.ensures in
-    within-not (message) (λ h. omega (arith, c.if-dropped-settled.true, settled, dropped, h.layout.dropped-within))
+    let settled : c.be64_at-settled.result ≡ settled_at message = settled_is message _ _ _ c.wide-n.ensures.0 c.length_place.ensures c.be64_at-settled.ensures in
+    let dropped : c.be64_at-dropped.result ≡ dropped_at message = dropped-is message _ _ _ c.wide-n.ensures.0 c.dropped_place.ensures c.be64_at-dropped.ensures in
+    within-not message (λ h. omega (arith, c.if-dropped-settled.true, settled, dropped, h.layout.dropped-within))
 
 pub returns : goal.returns
 returns c =
     let tested : let s = c.args.s.now in c.is_office.result ≡ is_office (count_at s) (sender_at s) = c.is_office.ensures ∙ ap₂ is_office c.wide-n.ensures.0 c.wide-sender.ensures.0 in
-    let passed : let s = c.args.s.now in is_office (count_at s) (sender_at s) ≡ true = sym (tested) ∙ c.if-not-is_office.false in
+    let passed : let s = c.args.s.now in is_office (count_at s) (sender_at s) ≡ true = sym tested ∙ c.if-not-is_office.false in
     let message : List ℕ = c.args.s.now in
-    let settled : c.be64_at-settled.result ≡ settled_at (message) = settled_is (message) _ _ _ c.wide-n.ensures.0 c.length_place.ensures c.be64_at-settled.ensures in
-    let dropped : c.be64_at-dropped.result ≡ dropped_at (message) = dropped-is (message) _ _ _ c.wide-n.ensures.0 c.dropped_place.ensures c.be64_at-dropped.ensures in
-    ap₂ (λ (k d : ℕ). leb (k - d) 1024) (settled) (dropped)
-    ∙ within-last (message)
+    let settled : c.be64_at-settled.result ≡ settled_at message = settled_is message _ _ _ c.wide-n.ensures.0 c.length_place.ensures c.be64_at-settled.ensures in
+    let dropped : c.be64_at-dropped.result ≡ dropped_at message = dropped-is message _ _ _ c.wide-n.ensures.0 c.dropped_place.ensures c.be64_at-dropped.ensures in
+    ap₂ (λ (k d : ℕ). leb (k - d) 1024) settled dropped
+    ∙ within-last message
     (record {
       four = omega (arith, c.if-s-lt4.false);
       mark-0 = omega (arith, c.if-s-ne83.false);
@@ -43,7 +43,7 @@ returns c =
       head-long = omega (arith, c.if-s-head_size.false, c.head_size.ensures, c.wide-n.ensures.0);
       dropped-within = omega (arith, c.if-dropped-settled.false, settled, dropped);
     })
-    (passed)
+    passed
 
 pub returns-then-s-lt4 : goal.returns-then-s-lt4
 returns-then-s-lt4 c = within-not _ (λ h. omega (arith, c.if-s-lt4.true, h.layout.four))
@@ -75,15 +75,15 @@ overflow_cast-sender c = omega (arith, c.wide-sender.ensures.1)
 pub head_size-requires : goal.head_size-requires
 head_size-requires c =
     let tested : let s = c.args.s.now in c.is_office.result ≡ is_office (count_at s) (sender_at s) = c.is_office.ensures ∙ ap₂ is_office c.wide-n.ensures.0 c.wide-sender.ensures.0 in
-    let passed : let s = c.args.s.now in is_office (count_at s) (sender_at s) ≡ true = sym (tested) ∙ c.if-not-is_office.false in
-    let few : c.wide-n.result ≤ 8 = let f = office-facts _ _ (passed) in omega (arith, f.1.0, c.wide-n.ensures.0) in
+    let passed : let s = c.args.s.now in is_office (count_at s) (sender_at s) ≡ true = sym tested ∙ c.if-not-is_office.false in
+    let few : c.wide-n.result ≤ 8 = let f = office-facts _ _ passed in omega (arith, f.1.0, c.wide-n.ensures.0) in
     few
 
 pub length_place-requires : goal.length_place-requires
 length_place-requires c =
     let tested : let s = c.args.s.now in c.is_office.result ≡ is_office (count_at s) (sender_at s) = c.is_office.ensures ∙ ap₂ is_office c.wide-n.ensures.0 c.wide-sender.ensures.0 in
-    let passed : let s = c.args.s.now in is_office (count_at s) (sender_at s) ≡ true = sym (tested) ∙ c.if-not-is_office.false in
-    let few : c.wide-n.result ≤ 8 = let f = office-facts _ _ (passed) in omega (arith, f.1.0, c.wide-n.ensures.0) in
+    let passed : let s = c.args.s.now in is_office (count_at s) (sender_at s) ≡ true = sym tested ∙ c.if-not-is_office.false in
+    let few : c.wide-n.result ≤ 8 = let f = office-facts _ _ passed in omega (arith, f.1.0, c.wide-n.ensures.0) in
     few
 
 pub be64_at-settled-requires : goal.be64_at-settled-requires
@@ -92,8 +92,8 @@ be64_at-settled-requires c = omega (arith, c.length_place.ensures, c.if-s-head_s
 pub dropped_place-requires : goal.dropped_place-requires
 dropped_place-requires c =
     let tested : let s = c.args.s.now in c.is_office.result ≡ is_office (count_at s) (sender_at s) = c.is_office.ensures ∙ ap₂ is_office c.wide-n.ensures.0 c.wide-sender.ensures.0 in
-    let passed : let s = c.args.s.now in is_office (count_at s) (sender_at s) ≡ true = sym (tested) ∙ c.if-not-is_office.false in
-    let few : c.wide-n.result ≤ 8 = let f = office-facts _ _ (passed) in omega (arith, f.1.0, c.wide-n.ensures.0) in
+    let passed : let s = c.args.s.now in is_office (count_at s) (sender_at s) ≡ true = sym tested ∙ c.if-not-is_office.false in
+    let few : c.wide-n.result ≤ 8 = let f = office-facts _ _ passed in omega (arith, f.1.0, c.wide-n.ensures.0) in
     few
 
 pub be64_at-dropped-requires : goal.be64_at-dropped-requires

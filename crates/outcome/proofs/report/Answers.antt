@@ -10,7 +10,6 @@ use Rattle.frame.specs.Soundness.{Sound}
 use Rattle.frame.proofs.Sound.{sound}
 use Rattle.outcome.proofs.Facts.{Follows, followed}
 use Rattle.outcome.proofs.Answer.{report-unsound, report-stray, report-made, member, was-fine, is-fine, begins, fits}
-use Rattle.outcome.proofs.report.Goals.{Else-not-follows}
 use Rattle.outcome.proofs.report.Goals as goal
 
 pub returns-then-not-sound : goal.returns-then-not-sound
@@ -24,78 +23,100 @@ follows-requires c =
 pub returns-then-not-follows : goal.returns-then-not-follows
 returns-then-not-follows c = let both = report-stray _ _ _ (sym (sym c.follows.ensures ∙ c.if-not-follows.true)) _ in record { report = both.0; words = both.1 }
 
-bounds-before-own : (c : Else-not-follows) → c.args.before.own < 8
-bounds-before-own c =
-    let sounds : Sound c.args.after c.args.log.now = sound _ _ (sym c.sound.ensures ∙ c.if-not-sound.false) in
-    let follow : Follows c.args.before c.args.after = followed _ _ (sym c.follows.ensures ∙ c.if-not-follows.false) in
-    member _ _ _ (sounds) (follow)
-
 -- what is known behind both tests
 pub slice_bounds-cells-end : goal.slice_bounds-cells-end
-slice_bounds-cells-end c = let e = second c in let b = was-fine _ _ _ (sounds (first e)) (follow e) in omega (arith, b.len, b.cells)
+slice_bounds-cells-end c =
+    let sounds : Sound c.args.after c.args.log.now = sound _ _ (sym c.sound.ensures ∙ c.if-not-sound.false) in
+    let follow : Follows c.args.before c.args.after = followed _ _ (sym c.follows.ensures ∙ c.if-not-follows.false) in
+    let b = was-fine _ _ _ sounds follow in omega (arith, b.len, b.cells)
 
 pub slice_bounds-tell-end : goal.slice_bounds-tell-end
-slice_bounds-tell-end c = sym (length-take-le _ _ (slice_bounds-cells-end (goal.at.slice_bounds-tell-end c).After-later-1))
+slice_bounds-tell-end c =
+    let sounds : Sound c.args.after c.args.log.now = sound _ _ (sym c.sound.ensures ∙ c.if-not-sound.false) in
+    let follow : Follows c.args.before c.args.after = followed _ _ (sym c.follows.ensures ∙ c.if-not-follows.false) in
+    let b = was-fine _ _ _ sounds follow in sym (length-take-le _ _ (omega (arith, b.len, b.cells)))
 
 pub slice_bounds-later-end : goal.slice_bounds-later-end
 slice_bounds-later-end c =
     let sounds : Sound c.args.after c.args.log.now = sound _ _ (sym c.sound.ensures ∙ c.if-not-sound.false) in
     let follow : Follows c.args.before c.args.after = followed _ _ (sym c.follows.ensures ∙ c.if-not-follows.false) in
-    let b = is-fine _ _ _ (sounds) (follow) in omega (arith, b.len, b.cells)
+    let b = is-fine _ _ _ sounds follow in omega (arith, b.len, b.cells)
 
 pub slice_bounds-tell-end-3 : goal.slice_bounds-tell-end-3
-slice_bounds-tell-end-3 c = sym (length-take-le _ _ (slice_bounds-later-end (goal.at.slice_bounds-tell-end-3 c).After-tell-arg-1))
+slice_bounds-tell-end-3 c =
+    let sounds : Sound c.args.after c.args.log.now = sound _ _ (sym c.sound.ensures ∙ c.if-not-sound.false) in
+    let follow : Follows c.args.before c.args.after = followed _ _ (sym c.follows.ensures ∙ c.if-not-follows.false) in
+    let b = is-fine _ _ _ sounds follow in sym (length-take-le _ _ (omega (arith, b.len, b.cells)))
 
 pub returns : goal.returns
 returns c =
     let sounds : Sound c.args.after c.args.log.now = sound _ _ (sym c.sound.ensures ∙ c.if-not-sound.false) in
     let follow : Follows c.args.before c.args.after = followed _ _ (sym c.follows.ensures ∙ c.if-not-follows.false) in
-    let both = report-made _ _ _ (sounds) (follow) _ _ c.tell-told.ensures.told _ c.tell-told.ensures.words in record { report = both.0; words = both.1 }
+    let both = report-made _ _ _ sounds follow _ _ c.tell-told.ensures.told _ c.tell-told.ensures.words in record { report = both.0; words = both.1 }
 
 pub offset_bounds-before-own : goal.offset_bounds-before-own
-offset_bounds-before-own c = omega (arith, bounds-before-own c)
+offset_bounds-before-own c =
+    let sounds : Sound c.args.after c.args.log.now = sound _ _ (sym c.sound.ensures ∙ c.if-not-sound.false) in
+    let follow : Follows c.args.before c.args.after = followed _ _ (sym c.follows.ensures ∙ c.if-not-follows.false) in
+    let element : c.args.before.own < 8 = member _ _ _ sounds follow in
+    omega (arith, element)
+
+pub bounds-before-own : goal.bounds-before-own
+bounds-before-own c =
+    let sounds : Sound c.args.after c.args.log.now = sound _ _ (sym c.sound.ensures ∙ c.if-not-sound.false) in
+    let follow : Follows c.args.before c.args.after = followed _ _ (sym c.follows.ensures ∙ c.if-not-follows.false) in
+    let element : c.args.before.own < 8 = member _ _ _ sounds follow in
+    element
 
 pub offset_bounds-after-own : goal.offset_bounds-after-own
-offset_bounds-after-own c = omega (arith, bounds-before-own (goal.at.offset_bounds-after-own c).Else-not-follows)
+offset_bounds-after-own c =
+    let sounds : Sound c.args.after c.args.log.now = sound _ _ (sym c.sound.ensures ∙ c.if-not-sound.false) in
+    let follow : Follows c.args.before c.args.after = followed _ _ (sym c.follows.ensures ∙ c.if-not-follows.false) in
+    let element : c.args.before.own < 8 = member _ _ _ sounds follow in
+    omega (arith, element)
 
 pub bounds-after-own : goal.bounds-after-own
-bounds-after-own c = bounds-before-own (goal.at.bounds-after-own c).Else-not-follows
+bounds-after-own c =
+    let sounds : Sound c.args.after c.args.log.now = sound _ _ (sym c.sound.ensures ∙ c.if-not-sound.false) in
+    let follow : Follows c.args.before c.args.after = followed _ _ (sym c.follows.ensures ∙ c.if-not-follows.false) in
+    let element : c.args.before.own < 8 = member _ _ _ sounds follow in
+    element
 
 pub overflow_sub-from : goal.overflow_sub-from
 overflow_sub-from c =
     let follow : Follows c.args.before c.args.after = followed _ _ (sym c.follows.ensures ∙ c.if-not-follows.false) in
-    (follow).was_settled
+    follow.was_settled
 
 pub overflow_sub-held : goal.overflow_sub-held
 overflow_sub-held c =
     let sounds : Sound c.args.after c.args.log.now = sound _ _ (sym c.sound.ensures ∙ c.if-not-sound.false) in
-    (sounds).within
+    sounds.within
 
 pub offset_bounds-log-from : goal.offset_bounds-log-from
 offset_bounds-log-from c =
     let sounds : Sound c.args.after c.args.log.now = sound _ _ (sym c.sound.ensures ∙ c.if-not-sound.false) in
     let follow : Follows c.args.before c.args.after = followed _ _ (sym c.follows.ensures ∙ c.if-not-follows.false) in
-    let from-begins : let a = c.args in a.before.settled - a.after.kept.dropped ≤ a.after.settled - a.after.kept.dropped = begins _ _ _ (sounds) (follow) in
-    let held_fits : let a = c.args in a.after.settled - a.after.kept.dropped ≤ length a.log.now = fits _ _ _ (sounds) (follow) in
+    let from-begins : let a = c.args in a.before.settled - a.after.kept.dropped ≤ a.after.settled - a.after.kept.dropped = begins _ _ _ sounds follow in
+    let held_fits : let a = c.args in a.after.settled - a.after.kept.dropped ≤ length a.log.now = fits _ _ _ sounds follow in
     omega (arith, from-begins, held_fits)
 
 pub slice_bounds-tell-count : goal.slice_bounds-tell-count
 slice_bounds-tell-count c =
     let sounds : Sound c.args.after c.args.log.now = sound _ _ (sym c.sound.ensures ∙ c.if-not-sound.false) in
     let follow : Follows c.args.before c.args.after = followed _ _ (sym c.follows.ensures ∙ c.if-not-follows.false) in
-    let from-begins : let a = c.args in a.before.settled - a.after.kept.dropped ≤ a.after.settled - a.after.kept.dropped = begins _ _ _ (sounds) (follow) in
+    let from-begins : let a = c.args in a.before.settled - a.after.kept.dropped ≤ a.after.settled - a.after.kept.dropped = begins _ _ _ sounds follow in
     from-begins
 
 pub slice_bounds-tell-start : goal.slice_bounds-tell-start
 slice_bounds-tell-start c =
     let sounds : Sound c.args.after c.args.log.now = sound _ _ (sym c.sound.ensures ∙ c.if-not-sound.false) in
     let follow : Follows c.args.before c.args.after = followed _ _ (sym c.follows.ensures ∙ c.if-not-follows.false) in
-    let from-begins : let a = c.args in a.before.settled - a.after.kept.dropped ≤ a.after.settled - a.after.kept.dropped = begins _ _ _ (sounds) (follow) in
+    let from-begins : let a = c.args in a.before.settled - a.after.kept.dropped ≤ a.after.settled - a.after.kept.dropped = begins _ _ _ sounds follow in
     from-begins
 
 pub slice_bounds-tell-end-2 : goal.slice_bounds-tell-end-2
 slice_bounds-tell-end-2 c =
     let sounds : Sound c.args.after c.args.log.now = sound _ _ (sym c.sound.ensures ∙ c.if-not-sound.false) in
     let follow : Follows c.args.before c.args.after = followed _ _ (sym c.follows.ensures ∙ c.if-not-follows.false) in
-    let held_fits : let a = c.args in a.after.settled - a.after.kept.dropped ≤ length a.log.now = fits _ _ _ (sounds) (follow) in
+    let held_fits : let a = c.args in a.after.settled - a.after.kept.dropped ≤ length a.log.now = fits _ _ _ sounds follow in
     held_fits

@@ -26,13 +26,3 @@ use Rattle.reading.proofs.read.Given as goal
 
 abbrev pub invariant-loop-o : goal.invariant-loop-o
 invariant-loop-o l = (l.m ≡ head_said l.msg l.m.ballots) × Left l.rest (6 * l.held) l.n l.m.ballots l.at l.o
-
--- the message, what its head says, and the rest
-abbrev pub msg : Else-not-m → List ℕ
-msg c = c.args.msg.now
-
-abbrev pub head : Else-not-m → Reading
-head c = c.read_head-m.result
-
-abbrev pub rest : Else-not-m → List ℕ
-rest c = take (length (msg) - (head).head) (drop (head).head (msg))

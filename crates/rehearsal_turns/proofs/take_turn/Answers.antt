@@ -19,4 +19,4 @@ returns c =
     message-lent a.slots.now a.lengths a.m lent c.requires.0
     c.requires.1 (s ∙ c.within-size.ensures) in record { turn = taken-turn a.record a.lengths a.log.now c.says_one-answer.result a.slots.now a.m lent
           c.take-taken.result e c.take-taken.ensures.0 c.says_one-answer.ensures; words = taken-words a.record a.lengths a.log.now c.says_one-answer.result a.slots.now a.m lent
-          c.take-taken.new.1.0 e c.take-taken.ensures.1 }
+          c.take-taken.new.log e c.take-taken.ensures.1 }

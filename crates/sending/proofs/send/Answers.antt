@@ -15,20 +15,20 @@ pub returns-then-length-eq0 : goal.returns-then-length-eq0
 returns-then-length-eq0 c =
     let passed : let a = c.args in Sound a.office a.log.now = sound _ _ (sym c.sound.ensures ∙ c.if-not-sound.false) in
     let a = c.args in
-    send-short a.office a.log.now (passed) _ refl a.out.now c.write-length.ensures.0 c.write-length.ensures.1 c.if-length-eq0.true
+    send-short a.office a.log.now passed _ refl a.out.now c.write-length.ensures.0 c.write-length.ensures.1 c.if-length-eq0.true
 
 pub returns : goal.returns
 returns c =
     let passed : let a = c.args in Sound a.office a.log.now = sound _ _ (sym c.sound.ensures ∙ c.if-not-sound.false) in
     let a = c.args in
-    send-done a.office a.log.now (passed) _ refl a.out.now c.write-length.ensures.0 c.write-length.ensures.1 c.if-length-eq0.false
+    send-done a.office a.log.now passed _ refl a.out.now c.write-length.ensures.0 c.write-length.ensures.1 c.if-length-eq0.false
 
 pub overflow_sub-held : goal.overflow_sub-held
 overflow_sub-held c =
     let passed : let a = c.args in Sound a.office a.log.now = sound _ _ (sym c.sound.ensures ∙ c.if-not-sound.false) in
-    omega (arith, (passed).within)
+    omega (arith, passed.within)
 
 pub write-length-requires : goal.write-length-requires
 write-length-requires c =
     let passed : let a = c.args in Sound a.office a.log.now = sound _ _ (sym c.sound.ensures ∙ c.if-not-sound.false) in
-    writable-with _ _ (passed) _ refl
+    writable-with _ _ passed _ refl

@@ -18,7 +18,7 @@ returns-then-not-sound c = let q = sym c.sound.ensures ∙ c.if-not-sound.true i
 pub slice_bounds-result-end-2 : goal.slice_bounds-result-end-2
 slice_bounds-result-end-2 c =
     let passed : let a = c.args in sound_b a.office a.log.now ≡ true = sym c.sound.ensures ∙ c.if-not-sound.false in
-    let S = sound _ _ (passed) in
+    let S = sound _ _ passed in
     sym (length-take-le _ _ (omega (arith, S.most, S.room)))
 
 pub returns : goal.returns
@@ -31,4 +31,4 @@ returns c =
 pub overflow_sub-held : goal.overflow_sub-held
 overflow_sub-held c =
     let passed : let a = c.args in sound_b a.office a.log.now ≡ true = sym c.sound.ensures ∙ c.if-not-sound.false in
-    omega (arith, (sound _ _ (passed)).within)
+    omega (arith, (sound _ _ passed).within)

@@ -17,7 +17,7 @@ returns-then-log-j c =
     let value : let a = c.args in let i = c.loop-i.i in c.read_entry-step.result.value ≡ get_or (run_at 6 record_at a.k a.rest.now) (a.k - 1 - i) 0 = let a = c.args in let j = a.k - 1 - c.loop-i.i in (entry-step (6 * j) a.rest.now c.read_entry-step.result (omega arith) c.read_entry-step.ensures).0 ∙ sym (record-at a.k j a.rest.now (omega arith)) in
     let l = c.loop-i in
     let a = c.args in
-    walk-met a.k a.log.now (run_at 6 record_at a.k a.rest.now) l.i l.invariant.1 (omega arith) (λ q. c.if-log-j.true (q ∙ sym (value)))
+    walk-met a.k a.log.now (run_at 6 record_at a.k a.rest.now) l.i l.invariant.1 (omega arith) (λ q. c.if-log-j.true (q ∙ sym value))
 
 pub loop-i-preserved : goal.loop-i-preserved
 loop-i-preserved c =

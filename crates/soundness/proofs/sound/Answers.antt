@@ -1,7 +1,7 @@
 -- The numbers first, then what is kept, the undropped words, what they have done, the ballots and the lengths; each failing test ends it.
 use native.Mathlib.Omega.{arith}
 use mathlib.Core.Path.{◌≡◌, sym, ap, ◌∙◌}
-use mathlib.Core.Bool.{true, true≢false}
+use mathlib.Core.Bool.{Bool, true, true≢false}
 use Prim.Native.Nat.{ℕ, ◌≤◌}
 use lib.Dec.{leb}
 use lib.ListN.{length, take}
@@ -20,7 +20,7 @@ use Rattle.soundness.specs.Noted.{noted_fine}
 use Rattle.soundness.specs.Soundness.{held_length, follows, sound_fields}
 use Rattle.soundness.proofs.Noted.{noted-true}
 use Rattle.soundness.proofs.Facts.{tests, sound-tests, sound-not, follows_of}
-use Rattle.soundness.proofs.sound.Goals.{Else-not-fine, Else-not-numbers_fine}
+use Rattle.soundness.proofs.sound.Goals.{Else-not-fine}
 use Rattle.soundness.proofs.sound.Goals as goal
 
 pub returns-then-log-lt-PATH : goal.returns-then-log-lt-PATH
@@ -33,22 +33,11 @@ returns-then-not-numbers_fine c =
     ∙ sym c.numbers_fine.ensures ∙ c.if-not-numbers_fine.true))
 
 -- ── what has passed ──
-module _ (c : Else-not-numbers_fine) where
-  numbers : both (head_fine c.args.n c.args.own c.args.weights)
-      (both (leb c.args.kept.dropped c.args.settled) (noted_fine c.args.n c.args.own c.args.settled c.args.noted)) ≡ true
-  numbers = sym c.numbers_fine.ensures ∙ c.if-not-numbers_fine.false
-
-  headed : head_fine c.args.n c.args.own c.args.weights ≡ true
-  headed = both-0 _ _ numbers
-
-  within : c.args.kept.dropped ≤ c.args.settled
-  within = leb-true _ _ (both-0 _ _ (both-1 _ _ numbers))
-
-  noted : noted_fine c.args.n c.args.own c.args.settled c.args.noted ≡ true
-  noted = both-1 _ _ (both-1 _ _ numbers)
+parts : (headed noted : Bool) (dropped settled : ℕ) → both headed (both (leb dropped settled) noted) ≡ true → headed ≡ true × dropped ≤ settled × noted ≡ true
+parts headed noted dropped settled e = (both-0 _ _ e, leb-true _ _ (both-0 _ _ (both-1 _ _ e)), both-1 _ _ (both-1 _ _ e))
 
 pub overflow_sub-held : goal.overflow_sub-held
-overflow_sub-held c = omega (arith, within (goal.at.overflow_sub-held c).Else-not-numbers_fine)
+overflow_sub-held c = omega (arith, (parts _ _ _ _ (sym c.numbers_fine.ensures ∙ c.if-not-numbers_fine.false)).1)
 
 pub returns-then-held-gt-PATH : goal.returns-then-held-gt-PATH
 returns-then-held-gt-PATH c = sound-not _ _ _ _ _ _ _ _ _ (λ S. omega (arith, S.most))
@@ -64,12 +53,17 @@ module _ (c : Else-not-fine) where
   there : held ≡ length (take held c.args.log.now)
   there = sym (length-take-le held c.args.log.now (omega arith))
 
+  passed : head_fine c.args.n c.args.own c.args.weights ≡ true
+      × c.args.kept.dropped ≤ c.args.settled
+      × noted_fine c.args.n c.args.own c.args.settled c.args.noted ≡ true
+  passed = parts _ _ _ _ (sym c.numbers_fine.ensures ∙ c.if-not-numbers_fine.false)
+
   -- the words and the ballots decide
   decided : let a = c.args in
       sound_fields a.n a.own a.weights a.kept a.noted a.summary a.settled a.ballots a.log.now
       ≡ tests a.n a.own a.weights a.kept a.noted a.summary a.settled a.ballots a.log.now
   decided =
-      sound-tests _ _ _ _ _ _ _ _ _ (omega arith) (headed c.before.before.before.before) (sym c.fine.ensures ∙ c.if-not-fine.false) (within c.before.before.before.before) (noted c.before.before.before.before) (omega arith)
+      sound-tests _ _ _ _ _ _ _ _ _ (omega arith) passed.0 (sym c.fine.ensures ∙ c.if-not-fine.false) passed.1 passed.2 (omega arith)
 
 pub returns-then-not-all_entries : goal.returns-then-not-all_entries
 returns-then-not-all_entries c = sound-not _ _ _ _ _ _ _ _ _ (λ S. true≢false (sym S.entries ∙ sym c.all_entries.ensures ∙ c.if-not-all_entries.true))
@@ -77,11 +71,11 @@ returns-then-not-all_entries c = sound-not _ _ _ _ _ _ _ _ _ (λ S. true≢false
 pub returns-then-not-same : goal.returns-then-not-same
 unfolding follows
 returns-then-not-same c =
-    let same-is : let a = c.args in c.same.result ≡ follows a.kept.summary a.summary (held c.before.before.before.before.before) a.log.now = let a = c.args in c.same.ensures ∙ ap (same_summary a.summary) c.after-follows.ensures in
-    sound-not _ _ _ _ _ _ _ _ _ (λ S. true≢false (sym (follows_of _ _ _ _ S.done) ∙ sym (same-is) ∙ c.if-not-same.true))
+    let same-is : let a = c.args in c.same.result ≡ follows a.kept.summary a.summary (held_length c.args.settled c.args.kept.dropped) a.log.now = let a = c.args in c.same.ensures ∙ ap (same_summary a.summary) c.after-follows.ensures in
+    sound-not _ _ _ _ _ _ _ _ _ (λ S. true≢false (sym (follows_of _ _ _ _ S.done) ∙ sym same-is ∙ c.if-not-same.true))
 
 pub fine-requires-2 : goal.fine-requires-2
-fine-requires-2 c = let h = head _ _ _ (headed (goal.at.fine-requires-2 c).Else-not-numbers_fine) in (h.some, (h.most, omega arith))
+fine-requires-2 c = let h = head _ _ _ (passed (goal.at.fine-requires-2 c).Else-not-fine).0 in (h.some, (h.most, omega arith))
 
 pub returns-then-not-fine-2 : goal.returns-then-not-fine-2
 returns-then-not-fine-2 c =
@@ -91,18 +85,18 @@ returns-then-not-fine-2 c =
 pub within-requires : goal.within-requires
 unfolding ballots_fine
 within-requires c =
-    let balloted : ballots_fine c.args.n (held c.before.before.before.before.before.before.before.before) c.args.ballots ≡ true = sym c.fine-2.ensures ∙ c.if-not-fine-2.false in
-    both-0 (all_b ballot_shape _) _ (balloted)
+    let balloted : ballots_fine c.args.n (held_length c.args.settled c.args.kept.dropped) c.args.ballots ≡ true = sym c.fine-2.ensures ∙ c.if-not-fine-2.false in
+    both-0 (all_b ballot_shape _) _ balloted
 
 pub returns : goal.returns
 unfolding both follows
 returns c =
-    let same-is : let a = c.args in c.same.result ≡ follows a.kept.summary a.summary (held c.before.before.before.before.before) a.log.now = let a = c.args in c.same.ensures ∙ ap (same_summary a.summary) c.after-follows.ensures in
-    let balloted : ballots_fine c.args.n (held c.before.before.before.before.before.before.before.before) c.args.ballots ≡ true = sym c.fine-2.ensures ∙ c.if-not-fine-2.false in
-    c.within.ensures ∙ sym (decided (goal.at.returns c).Else-not-fine ∙ rw (sym c.all_entries.ensures ∙ c.if-not-all_entries.false, sym (same-is) ∙ c.if-not-same.false, balloted))
+    let same-is : let a = c.args in c.same.result ≡ follows a.kept.summary a.summary (held_length c.args.settled c.args.kept.dropped) a.log.now = let a = c.args in c.same.ensures ∙ ap (same_summary a.summary) c.after-follows.ensures in
+    let balloted : ballots_fine c.args.n (held_length c.args.settled c.args.kept.dropped) c.args.ballots ≡ true = sym c.fine-2.ensures ∙ c.if-not-fine-2.false in
+    c.within.ensures ∙ sym (decided (goal.at.returns c).Else-not-fine ∙ rw (sym c.all_entries.ensures ∙ c.if-not-all_entries.false, sym same-is ∙ c.if-not-same.false, balloted))
 
 pub slice_bounds-all_entries-end : goal.slice_bounds-all_entries-end
-slice_bounds-all_entries-end c = there (goal.at.slice_bounds-all_entries-end c).After-fine
+slice_bounds-all_entries-end c = there (goal.at.slice_bounds-all_entries-end c).Else-not-fine
 
 pub slice_bounds-after-end : goal.slice_bounds-after-end
 slice_bounds-after-end c = there (goal.at.slice_bounds-after-end c).Else-not-fine

@@ -16,13 +16,13 @@ returns-then-not-sound c =
 pub returns : goal.returns
 returns c =
     let passed : sound_b c.args.office c.args.log.now ≡ true = sym c.sound.ensures ∙ c.if-not-sound.false in
-    let sounds : Sound c.args.office c.args.log.now = sound _ _ (passed) in
+    let sounds : Sound c.args.office c.args.log.now = sound _ _ passed in
     let a = c.args in
-    standing-done a.office a.log.now (sounds) (passed) _ c.of_ballots-votes.ensures _ c.of_votes-rows.ensures
+    standing-done a.office a.log.now sounds passed _ c.of_ballots-votes.ensures _ c.of_votes-rows.ensures
     _ c.weight_for-unheard.ensures.0 _ c.silent-silent.ensures
 
 pub silent-silent-requires : goal.silent-silent-requires
 silent-silent-requires c =
     let passed : sound_b c.args.office c.args.log.now ≡ true = sym c.sound.ensures ∙ c.if-not-sound.false in
-    let sounds : Sound c.args.office c.args.log.now = sound _ _ (passed) in
-    (sounds).head.most
+    let sounds : Sound c.args.office c.args.log.now = sound _ _ passed in
+    sounds.head.most

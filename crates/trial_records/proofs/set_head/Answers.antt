@@ -15,7 +15,7 @@ module _ (c : After-next-1) where
 
   own-summary : c.with_present-next.result
       ≡ with_present c.args.«record».summary (weights_from c.args.line 3)
-  own-summary = c.with_present-next.ensures ∙ ap (with_present c.args.«record».summary) c.weights-founding.ensures
+  own-summary = let c.before.before.before.before = c.before.before.before.before in c.with_present-next.ensures ∙ ap (with_present c.args.«record».summary) c.weights-founding.ensures
 
 pub returns : goal.returns
 returns c =

@@ -19,13 +19,13 @@ pub loop-k-preserved : goal.loop-k-preserved
 loop-k-preserved c =
     let eight : length c.args.base ≡ 8 = search rules in
     let l = c.loop-k in
-    path-next c.args.base c.in_words-tail.result (eight) l.counts l.k l.invariant (omega (arith, c.loop-k-test.true))
+    path-next c.args.base c.in_words-tail.result eight l.counts l.k l.invariant (omega (arith, c.loop-k-test.true))
 
 pub returns : goal.returns
 returns c =
     let eight : length c.args.base ≡ 8 = search rules in
     let l = c.loop-k in
-    path-done c.args.base c.in_words-tail.result (eight) l.counts l.k l.invariant (tail_of c.args.b) c.in_words-tail.ensures c.loop-k-test.false
+    path-done c.args.base c.in_words-tail.result eight l.counts l.k l.invariant (tail_of c.args.b) c.in_words-tail.ensures c.loop-k-test.false
 
 pub slice_bounds-cells-end : goal.slice_bounds-cells-end
 slice_bounds-cells-end c =
@@ -36,7 +36,7 @@ pub slice_bounds-in_words-end : goal.slice_bounds-in_words-end
 slice_bounds-in_words-end c =
     let full : length c.args.b.cells ≡ 32 = search rules in
     let taken : length (tail_of c.args.b) ≡ c.args.b.len = length-take-le c.args.b.len c.args.b.cells (omega (arith, full, c.requires.0)) in
-    sym (taken)
+    sym taken
 
 pub in_words-tail-requires : goal.in_words-tail-requires
 in_words-tail-requires c =

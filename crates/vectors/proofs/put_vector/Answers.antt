@@ -14,7 +14,7 @@ loop-k-preserved c =
     let l = c.loop-k in
     let put = c.put64 in
     storing-again 8 bytes64 count_item.wide c.args.out.now c.args.at c.args.counts c.args.n l.out l.p l.k l.invariant
-    put.new.0 c.loop-k-test.true (omega (arith, eight)) put.auto.0 put.ensures
+    put.new.out c.loop-k-test.true (omega (arith, eight)) put.auto.out put.ensures
 
 pub returns : goal.returns
 returns c =
@@ -29,7 +29,7 @@ pub put64-requires : goal.put64-requires
 put64-requires c = omega arith
 
 pub overflow_add-p : goal.overflow_add-p
-overflow_add-p c = omega (arith, (goal.at.overflow_add-p c).Start.before)
+overflow_add-p c = omega arith
 
 pub overflow_step-k : goal.overflow_step-k
 overflow_step-k c = omega arith

@@ -15,9 +15,3 @@ use Rattle.vectors.proofs.write.Given as goal
 
 abbrev pub invariant-loop-o : goal.invariant-loop-o
 invariant-loop-o l = ToWrite l.initial.out l.initial.p l.n (take l.n l.base) l.ballots l.out l.p l.o
-
-pub size : (s : Start) → 8 * s.args.n + 8 * s.args.n * s.args.n ≡ length (all)
-size s = size_is s.args.n (kept) (kept-long) s.args.log.now s.args.ballots (ballots-long)
-
-abbrev pub base : After-counts_after-base → List ℕ
-base c = take c.args.n c.counts_after-base.result

@@ -13,8 +13,6 @@ use Rattle.vectors.specs.Vectors.{EachAtMost, kept_count_limit, versions_in}
 use Rattle.vectors.proofs.Vectors.{log-most, log-vector}
 use Rattle.versions.specs.Versions.{answers_to, compared_to, counts_in, nine}
 use Rattle.versions.proofs.Paths.{ToAnswer, answer-again, answer-begins, answer-ends, nine-answers}
-use Rattle.versions.proofs.answers.Invariants.{given}
-use Rattle.versions.proofs.answers.Goals.{At-loop-o}
 use Rattle.versions.proofs.answers.Goals as goal
 
 pub counts_after-base-requires : goal.counts_after-base-requires
@@ -32,9 +30,9 @@ loop-o-preserved c =
     let base-long : c.args.n ≤ length c.counts_after-base.result = let e : length c.counts_after-base.result ≡ 8 = search rules in omega (arith, c.requires.0.most) in
     let a = c.args in
     let counts = c.path_counts-counts in
-    answer-again c.loop-o.invariant (ballots-long) c.loop-o-test.true c.compared-answer.result
+    answer-again c.loop-o.invariant ballots-long c.loop-o-test.true c.compared-answer.result
     (c.compared-answer.ensures ∙ ap (λ (v : List ℕ). compared_to v (take a.n c.counts_in-given.result))
-    (log-vector a.n c.counts_after-base.result (base-long) (tail_of (get_or a.ballots c.loop-o.o off_end)) counts.result counts.ensures))
+    (log-vector a.n c.counts_after-base.result base-long (tail_of (get_or a.ballots c.loop-o.o off_end)) counts.result counts.ensures))
 
 pub returns : goal.returns
 returns c =
@@ -45,10 +43,10 @@ returns c =
     let v = take a.n c.counts_in-given.result in
     let kept = take a.n a.start in
     let base = take a.n c.counts_after-base.result in
-    answer-ends c.loop-o.invariant (ballots-long) c.loop-o-test.false
-    ∙ nine-answers a.n c.requires.0.most kept v a.log.now a.ballots (ballots-long) base
-    (log-vector a.n a.start (counts-long) a.log.now c.counts_after-base.result c.counts_after-base.ensures) c.compared.result c.compared.ensures
-    ∙ ap (λ (w : List ℕ). nine (answers_to kept w (versions_in a.n a.log.now a.ballots))) (given)
+    answer-ends c.loop-o.invariant ballots-long c.loop-o-test.false
+    ∙ nine-answers a.n c.requires.0.most kept v a.log.now a.ballots ballots-long base
+    (log-vector a.n a.start counts-long a.log.now c.counts_after-base.result c.counts_after-base.ensures) c.compared.result c.compared.ensures
+    ∙ ap (λ (w : List ℕ). nine (answers_to kept w (versions_in a.n a.log.now a.ballots))) given
 
 pub counts_in-given-requires : goal.counts_in-given-requires
 counts_in-given-requires c = (c.requires.0.most, c.requires.1)

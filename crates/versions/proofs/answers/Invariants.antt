@@ -18,8 +18,3 @@ use Rattle.versions.proofs.answers.Given as goal
 
 abbrev pub invariant-loop-o : goal.invariant-loop-o
 invariant-loop-o l = ToAnswer l.initial.answers l.n (take l.n l.base) (take l.n l.given) l.ballots l.answers l.o
-
-pub given : (c : At-loop-o) → let a = c.args in take a.n c.counts_in-given.result ≡ counts_in a.n a.s.now
-given c =
-    let a = c.args in
-    ap (take a.n) c.counts_in-given.ensures ∙ take_at (counts_in a.n a.s.now) _ a.n (run_at-length 8 be64 a.n a.s.now)

@@ -12,4 +12,4 @@ returns-then-len-eq0 c = rw (bytes-none c.args.o c.args.b c.if-len-eq0.true) (om
 pub returns : goal.returns
 returns c =
     let full : length c.args.b.cells ≡ 32 = search rules in
-    omega (arith, size-some c.args.o c.args.b (full) c.requires c.if-len-eq0.false)
+    omega (arith, size-some c.args.o c.args.b full c.requires c.if-len-eq0.false)

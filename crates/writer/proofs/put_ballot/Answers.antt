@@ -12,9 +12,9 @@ use Rattle.writer.proofs.put_ballot.Goals as goal
 pub returns : goal.returns
 returns c =
     let full : length c.args.b.cells ≡ 32 = search rules in
-    let size : length (ballot_bytes c.args.o (tail_of c.args.b)) ≡ 4 + 4 * c.args.b.len = size-some c.args.o c.args.b (full) c.requires.0 c.if-len-eq0.false in
+    let size : length (ballot_bytes c.args.o (tail_of c.args.b)) ≡ 4 + 4 * c.args.b.len = size-some c.args.o c.args.b full c.requires.0 c.if-len-eq0.false in
     let a = c.args in
-    (omega (arith, size), c.put_values.ensures.1 ∙ stores_some a.o a.b (full) c.requires.0 c.if-len-eq0.false a.out.now a.at)
+    (omega (arith, size), c.put_values.ensures.1 ∙ stores_some a.o a.b full c.requires.0 c.if-len-eq0.false a.out.now a.at)
 
 pub returns-then-len-eq0 : goal.returns-then-len-eq0
 returns-then-len-eq0 c = rw (bytes-none c.args.o c.args.b c.if-len-eq0.true) (omega arith, refl)
@@ -22,32 +22,32 @@ returns-then-len-eq0 c = rw (bytes-none c.args.o c.args.b c.if-len-eq0.true) (om
 pub bounds-out-at : goal.bounds-out-at
 bounds-out-at c =
     let full : length c.args.b.cells ≡ 32 = search rules in
-    let size : length (ballot_bytes c.args.o (tail_of c.args.b)) ≡ 4 + 4 * c.args.b.len = size-some c.args.o c.args.b (full) c.requires.0 c.if-len-eq0.false in
+    let size : length (ballot_bytes c.args.o (tail_of c.args.b)) ≡ 4 + 4 * c.args.b.len = size-some c.args.o c.args.b full c.requires.0 c.if-len-eq0.false in
     omega (arith, size)
 
 pub bounds-out-at-2 : goal.bounds-out-at-2
 bounds-out-at-2 c =
     let full : length c.args.b.cells ≡ 32 = search rules in
-    let size : length (ballot_bytes c.args.o (tail_of c.args.b)) ≡ 4 + 4 * c.args.b.len = size-some c.args.o c.args.b (full) c.requires.0 c.if-len-eq0.false in
+    let size : length (ballot_bytes c.args.o (tail_of c.args.b)) ≡ 4 + 4 * c.args.b.len = size-some c.args.o c.args.b full c.requires.0 c.if-len-eq0.false in
     simp length-set (omega (arith, size))
 
 pub bounds-out-at-3 : goal.bounds-out-at-3
 bounds-out-at-3 c =
     let full : length c.args.b.cells ≡ 32 = search rules in
-    let size : length (ballot_bytes c.args.o (tail_of c.args.b)) ≡ 4 + 4 * c.args.b.len = size-some c.args.o c.args.b (full) c.requires.0 c.if-len-eq0.false in
+    let size : length (ballot_bytes c.args.o (tail_of c.args.b)) ≡ 4 + 4 * c.args.b.len = size-some c.args.o c.args.b full c.requires.0 c.if-len-eq0.false in
     simp length-set (omega (arith, size))
 
 pub bounds-out-at-4 : goal.bounds-out-at-4
 bounds-out-at-4 c =
     let full : length c.args.b.cells ≡ 32 = search rules in
-    let size : length (ballot_bytes c.args.o (tail_of c.args.b)) ≡ 4 + 4 * c.args.b.len = size-some c.args.o c.args.b (full) c.requires.0 c.if-len-eq0.false in
+    let size : length (ballot_bytes c.args.o (tail_of c.args.b)) ≡ 4 + 4 * c.args.b.len = size-some c.args.o c.args.b full c.requires.0 c.if-len-eq0.false in
     simp length-set (omega (arith, size))
 
 pub put_values-requires : goal.put_values-requires
 put_values-requires c =
     let full : length c.args.b.cells ≡ 32 = search rules in
-    let size : length (ballot_bytes c.args.o (tail_of c.args.b)) ≡ 4 + 4 * c.args.b.len = size-some c.args.o c.args.b (full) c.requires.0 c.if-len-eq0.false in
+    let size : length (ballot_bytes c.args.o (tail_of c.args.b)) ≡ 4 + 4 * c.args.b.len = size-some c.args.o c.args.b full c.requires.0 c.if-len-eq0.false in
     simp length-set (omega (arith, size, full))
 
 pub shape_of-out : goal.shape_of-out
-shape_of-out c = c.put_values.auto.0 ∙ simp length-set
+shape_of-out c = c.put_values.auto.out ∙ simp length-set

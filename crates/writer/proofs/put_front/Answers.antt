@@ -15,5 +15,5 @@ returns c =
     let log = c.put_log in
     let a = c.args in (
       omega (arith, head.ensures.0, log.ensures.0),
-      front-stores a.sender a.n _ _ a.dropped _ a.out.now (length-take-le a.n a.weights (weights-long)) head.ensures.0 head.ensures.1 log.ensures.1,
+      front-stores a.sender a.n _ _ a.dropped _ a.out.now (length-take-le a.n a.weights weights-long) head.ensures.0 head.ensures.1 log.ensures.1,
     )

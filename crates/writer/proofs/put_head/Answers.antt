@@ -9,7 +9,7 @@ use Rattle.writer.proofs.Whole.{head-stores}
 use Rattle.writer.proofs.put_head.Goals as goal
 
 pub shape_of-out : goal.shape_of-out
-shape_of-out c = c.put64-2.auto.0 ∙ (c.put64.auto.0 ∙ (c.put_weights-p.auto.0 ∙ simp length-set))
+shape_of-out c = c.put64-2.auto.out ∙ (c.put64.auto.out ∙ (c.put_weights-p.auto.out ∙ simp length-set))
 
 pub returns : goal.returns
 returns c =
@@ -54,7 +54,7 @@ overflow_add-dropped c = omega (arith, c.requires.1.1.0)
 
 pub put64-requires : goal.put64-requires
 put64-requires c =
-    let room : c.put_weights-p.result + 16 ≤ length c.put_weights-p.new.0 = omega (arith, simp length-set at c.put_weights-p.auto.0, c.put_weights-p.ensures.0, c.requires.1.1.1) in
+    let room : c.put_weights-p.result + 16 ≤ length c.put_weights-p.new.out = omega (arith, simp length-set at c.put_weights-p.auto.out, c.put_weights-p.ensures.0, c.requires.1.1.1) in
     omega (arith, room)
 
 pub overflow_add-p : goal.overflow_add-p
@@ -62,8 +62,8 @@ overflow_add-p c = omega (arith, c.put_weights-p.ensures.0, c.requires.0)
 
 pub put64-requires-2 : goal.put64-requires-2
 put64-requires-2 c =
-    let room : c.put_weights-p.result + 16 ≤ length c.put_weights-p.new.0 = omega (arith, simp length-set at c.put_weights-p.auto.0, c.put_weights-p.ensures.0, c.requires.1.1.1) in
-    omega (arith, room, c.put64.auto.0)
+    let room : c.put_weights-p.result + 16 ≤ length c.put_weights-p.new.out = omega (arith, simp length-set at c.put_weights-p.auto.out, c.put_weights-p.ensures.0, c.requires.1.1.1) in
+    omega (arith, room, c.put64.auto.out)
 
 pub overflow_add-result : goal.overflow_add-result
 overflow_add-result c = omega (arith, c.put_weights-p.ensures.0, c.requires.0)

@@ -12,7 +12,7 @@ loop-i-preserved c =
     let l = c.loop-i in
     let put = c.put32 in
     storing-again 4 bytes32 value_item.wide c.args.out.now c.args.at c.args.values.now c.args.k l.out l.p l.i l.invariant
-    put.new.0 c.loop-i-test.true c.requires.0 put.auto.0 put.ensures
+    put.new.out c.loop-i-test.true c.requires.0 put.auto.out put.ensures
 
 pub returns : goal.returns
 returns c =
@@ -30,7 +30,7 @@ pub put32-requires : goal.put32-requires
 put32-requires c = omega arith
 
 pub overflow_add-p : goal.overflow_add-p
-overflow_add-p c = omega (arith, (goal.at.overflow_add-p c).Start.before)
+overflow_add-p c = omega arith
 
 pub overflow_step-i : goal.overflow_step-i
 overflow_step-i c = omega arith

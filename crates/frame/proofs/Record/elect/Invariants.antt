@@ -24,7 +24,3 @@ invariant-loop-now l = Sound l.initial.now l.initial.log → l.initial.counts �
 
 abbrev pub decreases-loop-now : goal.decreases-loop-now
 decreases-loop-now l = 1024 - l.count
-
--- the places of the code: the call's start, the test, the counts of the settled log, and a step, from where its result was tested
-abbrev pub start : Else-not-sound → Start
-start c = c.before.before.before.before

@@ -21,10 +21,10 @@ returns-then-k-eq0 c =
 
 pub after-kept-requires : goal.after-kept-requires
 after-kept-requires c =
-    let first : let a = c.before.before.before.args in length (take a.k a.log.now) ≡ a.k = let s = c.before.before.before in length-take-le s.args.k s.args.log.now (omega (arith, s.requires.1.0, s.requires.1.1)) in
-    let s = c.before.before.before in rw (first) s.requires.0
+    let first : length (take c.args.k c.args.log.now) ≡ c.args.k = length-take-le c.args.k c.args.log.now (omega (arith, c.requires.1.0, c.requires.1.1)) in
+    rw first c.requires.0
 
 pub slice_bounds-after-end-2 : goal.slice_bounds-after-end-2
 slice_bounds-after-end-2 c =
-    let first : let a = c.before.before.before.args in length (take a.k a.log.now) ≡ a.k = let s = c.before.before.before in length-take-le s.args.k s.args.log.now (omega (arith, s.requires.1.0, s.requires.1.1)) in
-    sym (first)
+    let first : length (take c.args.k c.args.log.now) ≡ c.args.k = length-take-le c.args.k c.args.log.now (omega (arith, c.requires.1.0, c.requires.1.1)) in
+    sym first

@@ -11,10 +11,9 @@ use Rattle.rehearsal.proofs.Rehearsal.feed.Goals as goal
 
 pub slice_bounds-feed_all-end : goal.slice_bounds-feed_all-end
 slice_bounds-feed_all-end c =
-    let start = (goal.at.slice_bounds-feed_all-end c).After-bytes-1.before.before in
-    let h : length start.args.chunk.now ≡ 8192 = search rules in
+    let h : length c.args.chunk.now ≡ 8192 = search rules in
     let s : c.within-size.result ≤ 8192 = rw c.within-size.ensures (min-le_right _ 8192) in
-    sym (length-take-le c.within-size.result start.args.chunk.now (omega arith))
+    sym (length-take-le c.within-size.result c.args.chunk.now (omega arith))
 
 pub feed_all-requires : goal.feed_all-requires
 feed_all-requires c =

@@ -29,4 +29,4 @@ pub loop-i-init : goal.loop-i-init
 loop-i-init c = digits-begins _ _ _
 
 pub shape_of-out : goal.shape_of-out
-shape_of-out c = c.loop-i.invariant.false.long
+shape_of-out c = c.loop-i.invariant.left.long

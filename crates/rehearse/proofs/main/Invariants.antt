@@ -1,9 +1,0 @@
--- It is safe and ends: the measure is the number of turns that are left, and nothing has to hold from turn to turn.
-use borrow.Author.Rules.{rules}
-use Rattle.rehearse.proofs.main.Given as goal
-
-abbrev pub invariant-loop-turns : goal.invariant-loop-turns
-invariant-loop-turns l = Unit {0}
-
-abbrev pub decreases-loop-turns : goal.decreases-loop-turns
-decreases-loop-turns l = l.turns
