@@ -2,7 +2,6 @@
 use mathlib.Core.Path.{◌≡◌, refl, ap, ◌∙◌}
 use mathlib.Core.List.{[], ◌∷◌}
 use lib.ListN.{replicate}
-use borrow.Author.Rules.{rules}
 use Rattle.lists.specs.Tests.{pick}
 use Rattle.protocol.specs.Limits.{long_enough}
 use Rattle.frame.specs.State.{zero_record}
