@@ -134,7 +134,8 @@ by_field count cells f fs Not e again q = absurd (none-three q)
 
 by_count : (count : ℕ) (cells : List ℕ) (f : List ℕ) (fs : List (List ℕ)) (t : Bool)
     → ((v : ℕ) → three_numbers (numbers_after (count + 1) (set cells count v) fs) ≡ true → Fields (count + 1) fs)
-    → three_numbers (pick t no_numbers (by_number (field_number f) (λ (v : ℕ). numbers_after (count + 1) (set cells count v) fs) no_numbers)) ≡ true → Fields count (f ∷ fs)
+    → three_numbers (pick t no_numbers (by_number (field_number f) (λ (v : ℕ). numbers_after (count + 1) (set cells count v) fs) no_numbers)) ≡ true
+    → Fields count (f ∷ fs)
 unfolding pick
 by_count count cells f fs true again q = absurd (none-three q)
 by_count count cells f fs false again q = by_field count cells f fs (field_number f) refl again q

@@ -37,7 +37,9 @@ module _ (input : List ℕ) (ns : Numbers) (e : ns ≡ numbers_in input) where
 
   answer-weights : three_numbers ns ≡ true → answer_to input ≡ printed_for ns.cells
   unfolding answer_to
-  answer-weights q = pick_true (three_numbers (numbers_in input)) (printed_for (numbers_in input).cells) (63 ∷ 10 ∷ []) (ap three_numbers (sym e) ∙ q) ∙ ap (λ (x : Numbers). printed_for x.cells) (sym e)
+  answer-weights q =
+      pick_true (three_numbers (numbers_in input)) (printed_for (numbers_in input).cells) (63 ∷ 10 ∷ []) (ap three_numbers (sym e) ∙ q) ∙
+      ap (λ (x : Numbers). printed_for x.cells) (sym e)
 
   pub answer-lines : three_numbers ns ≡ true → (founded ns.cells).number ≡ 0 → answer_to input ≡ lines_of (founded ns.cells).«record» tables
   unfolding printed_for

@@ -88,7 +88,8 @@ module _ (r : Record) (t : List (List ℕ)) (small : small_table t ≡ true) whe
       let count : k ≤ 6 = omega (arith, D.counted, elect-most (rule_of R) (held_by R empty_log), ap tail_entries (tails-held r t T), six t T) in
       let n = (elect_of R empty_log).«record».n in
       let front : all_b (is_entry n) (settled_from R) ≡ true =
-      subst (λ (l : List ℕ). all_b (is_entry n) l ≡ true) (take-take k held (elect_words R empty_log) within) (all_take (is_entry n) k (take held (elect_words R empty_log)) S.entries) in
+      subst (λ (l : List ℕ). all_b (is_entry n) l ≡ true) (take-take k held (elect_words R empty_log) within)
+      (all_take (is_entry n) k (take held (elect_words R empty_log)) S.entries) in
       record { most = count; entries = all-mono (is_entry n) one_digit (entry-digit n S.head.most) (settled_from R) front }
 
   counts : Counted
@@ -144,8 +145,11 @@ module _ (R : Record) (o : Office) (S : Sound R empty_log) (held : held_by R emp
       let g = elect-grows R empty_log q in
       let none : length (held_by R empty_log).log ≡ 0 = ap length (ap (λ (x : Office). x.log) held ∙ empty) in
       let all : (elect_of R empty_log).count ≡ held_length last =
-      omega (arith, g.2, ap length g.1, length-append (held_by R empty_log).log g.0, none, log-length last (elect_words R empty_log) (elect-sound R empty_log q)) in
-      (q, ap (λ (k : ℕ). take k (elect_words R empty_log)) all ∙ ap (λ (x : FoldedOffice). x.held.log) (elect-state R empty_log q) ∙ ap (λ (x : Office). (with_elect (rule_of R) x).log) held)
+      omega (arith, g.2, ap length g.1, length-append (held_by R empty_log).log g.0, none, log-length last (elect_words R empty_log) (elect-sound R empty_log q)) in (
+        q,
+        ap (λ (k : ℕ). take k (elect_words R empty_log)) all ∙ ap (λ (x : FoldedOffice). x.held.log) (elect-state R empty_log q)
+            ∙ ap (λ (x : Office). (with_elect (rule_of R) x).log) held,
+      )
 
 -- an office that holds a table, and has dropped and heard nothing
 abbrev table_folded : List (List ℕ) → FoldedOffice
@@ -172,10 +176,12 @@ module _ (ws : List ℕ) (done : (founded ws).number ≡ 0) (t : List (List ℕ)
     where
       fresh-table : Three t → with_table fresh (map ballot_of t) ≡ held
       fresh-table T =
-          rw T.are (λ i. with_held fresh fresh.kept (replicate 8 0) (sym (summary-nil (start_with ws)) i) 0 (ballot_of T.x ∷ ballot_of T.y ∷ ballot_of T.z ∷ replicate 5 no_ballot))
+          rw T.are (λ i. with_held fresh fresh.kept (replicate 8 0) (sym (summary-nil (start_with ws)) i) 0
+          (ballot_of T.x ∷ ballot_of T.y ∷ ballot_of T.z ∷ replicate 5 no_ballot))
 
   -- "with the entries that elect settles from an empty log"
-  pub table-elects : ((elect_of (with_table (founded ws).«record» (map ballot_of t)) empty_log).number ≡ 0) × (table_settled (founded ws).«record» t ≡ (with_elect (by_settled ws) (table_office t)).log)
+  pub table-elects : ((elect_of (with_table (founded ws).«record» (map ballot_of t)) empty_log).number ≡ 0)
+      × (table_settled (founded ws).«record» t ≡ (with_elect (by_settled ws) (table_office t)).log)
   table-elects =
       let D = found-done 3 0 ws empty_log done in
       let new : Sound fresh empty_log = subst (λ (x : Record). Sound x empty_log) D.made (found-sound 3 0 ws empty_log done) in

@@ -1,13 +1,13 @@
 -- Entries as they are printed.
 --     shown-dash, shown-some      `-`, or a digit for each
 --     shown-short                 of few entries there are at most six bytes
---     DigitsRest, digits-begins, digits-next, digits-ends      the loop over the entries
+--     DigitsRest, digits-next, digits-ends      the loop over the entries
 --     put_last                    a byte behind what was written
 -- Assumes nothing.
 use mathlib.Core.Path.{◌≡◌, refl, sym, ap, ◌∙◌}
 use mathlib.Core.Bool.{Bool, true}
 use mathlib.Core.List.{List, [], ◌∷◌, ◌++◌}
-use Prim.Native.Nat.{ℕ, ◌+◌, ◌<◌, ◌≤◌, zero-le}
+use Prim.Native.Nat.{ℕ, ◌+◌, ◌<◌, ◌≤◌}
 use native.Mathlib.Omega.{arith}
 use lib.Dec.{ltb}
 use lib.ListN.{length, get_or, drop, set, length-append, length-map, drop_of_length-le}
@@ -16,7 +16,7 @@ use borrow.Author.Tests.{leb-true, ltb-true, le-leb}
 use Rattle.lists.specs.Tests.{all_b}
 use Rattle.lists.proofs.Tests.{both-0, both-1, both_true, all-at}
 use Rattle.lists.proofs.Walk.{rest-step}
-use Rattle.lists.proofs.Stores.{Left, left-all, left-next, left-none}
+use Rattle.lists.proofs.Stores.{Left, left-next, left-none}
 use Rattle.protocol.specs.Entry.{office_of}
 use Rattle.printing.specs.Printing.{glyph, printed_at}
 use Rattle.printing.proofs.Digits.{digits-one, printed-all, put-behind}
@@ -59,9 +59,6 @@ pub record DigitsRest (t first : List ℕ) (at : ℕ) (out : List ℕ) (next i :
   pub within : i ≤ length t
   pub place : next ≡ at + i
   pub left : Left first at (digits t) out next (digits (drop i t))
-
-pub digits-begins : (t first : List ℕ) (at : ℕ) → DigitsRest t first at first at 0
-digits-begins t first at = record { within = zero-le; place = omega arith; left = left-all first at (digits t) }
 
 module _ {t first : List ℕ} {at : ℕ} {out : List ℕ} {next i : ℕ} (inv : DigitsRest t first at out next i) where
   -- there is room for the next number

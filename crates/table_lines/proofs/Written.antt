@@ -3,12 +3,12 @@
 --     seated-record        the record with them
 --     line-whole, line-written      the three tails and the settled entries, one behind the other, make the line
 --     line-short, lines-short      it has at most 28 bytes, and so has each of all
---     LinesRest, lines-begins, lines_next, lines-ends      the loop over the tables
+--     LinesRest, lines_next, lines-ends      the loop over the tables
 -- Assumes nothing.
 use mathlib.Core.Path.{◌≡◌, refl, sym, ap, ap₂, ◌∙◌}
 use mathlib.Core.Bool.{true}
 use mathlib.Core.List.{List, [], ◌∷◌, ◌++◌, map, flat_map, append-nil}
-use Prim.Native.Nat.{ℕ, ◌+◌, ◌*◌, ◌<◌, ◌≤◌, zero-le}
+use Prim.Native.Nat.{ℕ, ◌+◌, ◌*◌, ◌<◌, ◌≤◌}
 use native.Mathlib.Omega.{arith}
 use lib.ListN.{length, get_or, drop, length-append, drop_of_length-le}
 use lib.Seq.{sets}
@@ -117,15 +117,13 @@ pub record LinesRest (r : Record) (first out : List ℕ) (next place : ℕ) : Ty
   pub room : next ≤ 28 * place
   pub left : Left first 0 (lines_of r tables) out next (lines_of r (drop place tables))
 
-pub lines-begins : (r : Record) (first : List ℕ) → LinesRest r first first 0 0
-lines-begins r first = record { within = zero-le; room = omega arith; left = left-all first 0 (lines_of r tables) }
-
 module _ {r : Record} {first out : List ℕ} {next place : ℕ} (inv : LinesRest r first out next place) where
   rest_lines : place < 2197 → lines_of r (drop place tables) ≡ line_of r (table_at place) ++ lines_of r (drop (place + 1) tables)
   unfolding lines_of flat_map
   rest_lines h = ap (lines_of r) (rest-step ([] ∷ [] ∷ [] ∷ []) tables place (omega (arith, tables-2197)))
 
-  pub lines_next : {n : ℕ} {last : List ℕ} → place < 2197 → n ≡ next + length (line_of r (table_at place)) → last ≡ sets out next (line_of r (table_at place)) → LinesRest r first last n (place + 1)
+  pub lines_next : {n : ℕ} {last : List ℕ} → place < 2197 → n ≡ next + length (line_of r (table_at place))
+      → last ≡ sets out next (line_of r (table_at place)) → LinesRest r first last n (place + 1)
   lines_next h en el =
       record {
         within = omega arith;

@@ -4,7 +4,6 @@ use mathlib.Core.Path.{◌≡◌, sym, ap, ◌∙◌}
 use Prim.Native.Nat.{ℕ}
 use lib.ListN.{take}
 use lib.Seq.{length-take-le}
-use borrow.Author.Rules.{rules}
 use Rattle.decimal.specs.Numbers.{numbers_from}
 use Rattle.text_parts.specs.Parts.{part_length}
 use Rattle.text_parts.proofs.Ends.{part-within}
@@ -26,7 +25,7 @@ pub returns : goal.returns
 returns c =
     let first : c.part_end-end.result ≡ part_length 10 c.args.input.now = omega (arith, c.part_end-end.ensures) in
     let s = c.args.input.now in
-    c.numbers_from.ensures ∙ ap (λ (k : ℕ). numbers_from (take k s) 0) (first) ∙ sym (only-line s (omega (arith, first, c.if-end-input.false)))
+    c.numbers_from.ensures ∙ ap (λ (k : ℕ). numbers_from (take k s) 0) first ∙ sym (only-line s (omega (arith, first, c.if-end-input.false)))
 
 pub overflow_add-end : goal.overflow_add-end
 overflow_add-end c =
