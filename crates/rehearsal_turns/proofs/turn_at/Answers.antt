@@ -3,79 +3,52 @@ use borrow.Author.Tests.{le-ltb, lt-ltb}
 use mathlib.Core.Path.{refl}
 use Rattle.lists.specs.Tests.{pick}
 use Rattle.rehearsal_turns.specs.Turns.{turn_at, turn_words, turn_slots}
-use borrow.Author.Rules.{rules}
 use Rattle.rehearsal_turns.proofs.turn_at.Goals as goal
+
+pub returns-in-Found : goal.returns-in-Found
+unfolding turn_at turn_words turn_slots
+returns-in-Found c = let e = c.in-Found.is in record { value = rw e c.stay.ensures; log_after = rw e refl; slots_after = rw e refl }
+
+pub returns-in-Issue : goal.returns-in-Issue
+unfolding turn_at turn_words turn_slots
+returns-in-Issue c = let e = c.in-Issue.is in record { value = rw e c.issue_turn.ensures; log_after = rw e refl; slots_after = rw e refl }
 
 pub returns-then-m-ge-SLOTS : goal.returns-then-m-ge-SLOTS
 unfolding turn_at turn_words turn_slots pick
 returns-then-m-ge-SLOTS c =
-    let m = c.in-Send.m in record {
-      value = rw (c.in-Send.is, le-ltb m 4 c.if-m-ge-SLOTS.true) c.stay-then-m-ge-SLOTS.ensures;
-      log_after = rw (c.in-Send.is, le-ltb m 4 c.if-m-ge-SLOTS.true) refl;
-      slots_after = rw (c.in-Send.is, le-ltb m 4 c.if-m-ge-SLOTS.true) refl;
-    }
-
-pub returns-then-m-ge-SLOTS-2 : goal.returns-then-m-ge-SLOTS-2
-unfolding turn_at turn_words turn_slots pick
-returns-then-m-ge-SLOTS-2 c =
-    let m = c.in-Take.m in record {
-      value = rw (c.in-Take.is, le-ltb m 4 c.if-m-ge-SLOTS-2.true) c.stay-then-m-ge-SLOTS-2.ensures;
-      log_after = rw (c.in-Take.is, le-ltb m 4 c.if-m-ge-SLOTS-2.true) refl;
-      slots_after = rw (c.in-Take.is, le-ltb m 4 c.if-m-ge-SLOTS-2.true) refl;
-    }
-
-pub returns-in-Found : goal.returns-in-Found
-unfolding turn_at turn_words turn_slots
-returns-in-Found c =
-    record {
-      value = rw c.in-Found.is c.stay.ensures;
-      log_after = rw c.in-Found.is refl;
-      slots_after = rw c.in-Found.is refl;
-    }
-
-pub returns-in-Issue : goal.returns-in-Issue
-unfolding turn_at turn_words turn_slots
-returns-in-Issue c =
-    record {
-      value = rw c.in-Issue.is c.issue_turn.ensures;
-      log_after = rw c.in-Issue.is refl;
-      slots_after = rw c.in-Issue.is refl;
-    }
+    let e = c.in-Send.is in
+    let none = le-ltb c.in-Send.m 4 c.if-m-ge-SLOTS.true in
+    record { value = rw (e, none) c.stay-then-m-ge-SLOTS.ensures; log_after = rw e refl; slots_after = rw (e, none) refl }
 
 pub returns-else-m-ge-SLOTS : goal.returns-else-m-ge-SLOTS
 unfolding turn_at turn_words turn_slots pick
 returns-else-m-ge-SLOTS c =
-    let m = c.in-Send.m in
-    record {
-      value = rw (c.in-Send.is, lt-ltb m 4 c.if-m-ge-SLOTS.false) c.send_turn.ensures.turn;
-      log_after = rw (c.in-Send.is, lt-ltb m 4 c.if-m-ge-SLOTS.false) refl;
-      slots_after = rw (c.in-Send.is, lt-ltb m 4 c.if-m-ge-SLOTS.false) c.send_turn.ensures.sent;
-    }
+    let e = c.in-Send.is in
+    let there = lt-ltb c.in-Send.m 4 c.if-m-ge-SLOTS.false in
+    let turn = c.send_turn.ensures in
+    record { value = rw (e, there) turn.turn; log_after = rw e refl; slots_after = rw (e, there) turn.sent }
+
+pub returns-then-m-ge-SLOTS-2 : goal.returns-then-m-ge-SLOTS-2
+unfolding turn_at turn_words turn_slots pick
+returns-then-m-ge-SLOTS-2 c =
+    let e = c.in-Take.is in
+    let none = le-ltb c.in-Take.m 4 c.if-m-ge-SLOTS-2.true in
+    record { value = rw (e, none) c.stay-then-m-ge-SLOTS-2.ensures; log_after = rw (e, none) refl; slots_after = rw e refl }
 
 pub returns-else-m-ge-SLOTS-2 : goal.returns-else-m-ge-SLOTS-2
 unfolding turn_at turn_words turn_slots pick
 returns-else-m-ge-SLOTS-2 c =
-    let m = c.in-Take.m in
-    record {
-      value = rw (c.in-Take.is, lt-ltb m 4 c.if-m-ge-SLOTS-2.false) c.take_turn.ensures.turn;
-      log_after = rw (c.in-Take.is, lt-ltb m 4 c.if-m-ge-SLOTS-2.false) c.take_turn.ensures.words;
-      slots_after = rw (c.in-Take.is, lt-ltb m 4 c.if-m-ge-SLOTS-2.false) refl;
-    }
+    let e = c.in-Take.is in
+    let there = lt-ltb c.in-Take.m 4 c.if-m-ge-SLOTS-2.false in
+    let turn = c.take_turn.ensures in
+    record { value = rw (e, there) turn.turn; log_after = rw (e, there) turn.words; slots_after = rw e refl }
 
 pub returns-in-Elect : goal.returns-in-Elect
 unfolding turn_at turn_words turn_slots
 returns-in-Elect c =
-    record {
-      value = rw c.in-Elect.is c.elect_turn.ensures.0;
-      log_after = rw c.in-Elect.is c.elect_turn.ensures.1;
-      slots_after = rw c.in-Elect.is refl;
-    }
+    let e = c.in-Elect.is in
+    record { value = rw e c.elect_turn.ensures.0; log_after = rw e c.elect_turn.ensures.1; slots_after = rw e refl }
 
 pub returns-in-View : goal.returns-in-View
 unfolding turn_at turn_words turn_slots
-returns-in-View c =
-    record {
-      value = rw c.in-View.is c.view_turn.ensures;
-      log_after = rw c.in-View.is refl;
-      slots_after = rw c.in-View.is refl;
-    }
+returns-in-View c = let e = c.in-View.is in record { value = rw e c.view_turn.ensures; log_after = rw e refl; slots_after = rw e refl }
