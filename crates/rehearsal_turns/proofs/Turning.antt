@@ -67,7 +67,8 @@ module _ (r : Record) (lengths words : List ℕ) (a : Answer) where
     sent-slots bytes eb = rw (eb, whole)
 
 -- the bytes that are lent for a take are the slot's message
-pub message-lent : (slots lengths : List ℕ) (m size : ℕ) → m < 4 → length slots ≡ 28184 → size ≡ min (get_or lengths m 0) 7046 → take size (drop (m * 7046) slots) ≡ message_in slots lengths m
+pub message-lent : (slots lengths : List ℕ) (m size : ℕ) → m < 4 → length slots ≡ 28184 → size ≡ min (get_or lengths m 0) 7046
+    → take size (drop (m * 7046) slots) ≡ message_in slots lengths m
 message-lent slots lengths m size h l e =
     let n = get_or lengths m 0 in
     let p : length (slot_of slots m) ≡ 7046 = length-take-le 7046 (drop (m * 7046) slots) (omega (arith, length-drop (m * 7046) slots)) in
