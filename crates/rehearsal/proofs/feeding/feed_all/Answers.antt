@@ -3,11 +3,11 @@ use mathlib.Core.Path.{◌≡◌, sym, ap, ◌∙◌}
 use mathlib.Core.List.{◌++◌}
 use native.Mathlib.Omega.{arith}
 use Prim.Native.Nat.{◌+◌, ◌-◌, ◌<◌, ◌≤◌}
-use lib.ListN.{length, take, drop, length-take}
+use lib.ListN.{length, take, drop}
 use Rattle.text_parts.proofs.Ends.{part-within}
 use Rattle.rehearsal_lines.specs.Held.{line_held}
 use Rattle.rehearsal_lines.proofs.Holding.{line-held}
-use Rattle.rehearsal_lines.proofs.Feeding.{FeedRest, feed-begins, feed-ends}
+use Rattle.rehearsal_lines.proofs.Feeding.{feed-ends}
 use Rattle.rehearsal_commands.specs.Command.{line_of}
 use Rattle.rehearsal_addressees.proofs.Present.{addressee-there}
 use Rattle.rehearsal.specs.Lines.{world_at, say_line}
@@ -15,11 +15,6 @@ use Rattle.rehearsal.proofs.Says.{turn-stored, answer-by, say-found, say-turn, s
 use Rattle.rehearsal.proofs.Feeds.{LineRead, feeds-next, feed-answers}
 use Rattle.rehearsal.proofs.feeding.feed_all.Goals as goal
 use Rattle.rehearsal.proofs.feeding.feed_all.Goals.{After-addressee_of-addressee, In-One}
-
-pub loop-offices-init : goal.loop-offices-init
-loop-offices-init c =
-    let h : length c.args.r.held.bytes ≡ 129 = search rules in
-    feed-begins say_line _ (line_held c.args.r.held) c.args.chunk.now c.args.out.now (rw length-take (omega arith))
 
 pub slice_bounds-with-end : goal.slice_bounds-with-end
 slice_bounds-with-end c = omega (arith, c.part_end-end.ensures, part-within 10 c.args.chunk.now c.loop-offices.at c.loop-offices.invariant.within)

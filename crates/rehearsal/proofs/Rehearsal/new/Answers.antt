@@ -1,6 +1,0 @@
--- The fields, one by one.
-use borrow.Author.Rules.{rules}
-use Rattle.rehearsal.proofs.Rehearsal.new.Goals as goal
-
-pub returns : goal.returns
-returns c = rw (c.no_offices-offices.ensures, c.none-held.ensures)
