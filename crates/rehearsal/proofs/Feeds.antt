@@ -49,13 +49,15 @@ module _ {w₀ : World} {h₀ s out₀ : List ℕ} {w : World} {h out : List ℕ
   pub feeds-next : (out' : List ℕ) (printed' : ℕ) → printed + 65 ≤ length out → printed' ≡ printed + length (printed_in (length out) printed x.answer)
       → out' ≡ sets out printed (printed_in (length out) printed x.answer) → FeedRest say_line w₀ h₀ s out₀ x.world h' out' (end + 1) printed'
   feeds-next out' printed' room ep eo =
-      let all : printed_in (length out) printed x.answer ≡ (say_line w (cut (h ++ take (end - at) (drop at s)))).printed = printed-room (length out) printed x.answer room ∙ sym printed-by in
+      let all : printed_in (length out) printed x.answer ≡ (say_line w (cut (h ++ take (end - at) (drop at s)))).printed =
+      printed-room (length out) printed x.answer room ∙ sym printed-by in
       rw A.empty
       (feed-next say_line w₀ h₀ s out₀ w h out at printed A.inv end A.there x.world out' printed' A.inside (sym (ap (λ (f : Said World). f.world) says))
       (ep ∙ ap (λ (b : List ℕ). printed + length b) all) (eo ∙ ap (λ (b : List ℕ). sets out printed b) all) (say-short w (cut (h ++ take (end - at) (drop at s)))))
 
 -- at the end of the chunk, with the line that is left
-pub feed-answers : (f : Fed World) (out₀ : List ℕ) (w : World) (line out : List ℕ) (count : ℕ) (held : Held) → FedTo f out₀ w (cut line) out count → held ≡ held_of line
+pub feed-answers : (f : Fed World) (out₀ : List ℕ) (w : World) (line out : List ℕ) (count : ℕ) (held : Held)
+    → FedTo f out₀ w (cut line) out count → held ≡ held_of line
     → FedAs f out₀ (record { rehearsal = record { offices = w.offices; held = held }; printed = count }) w.logs w.slots out
 feed-answers f out₀ w line out count held x e =
     let h : held ≡ held_of f.held = e ∙ held-again (held_of line) line refl ∙ ap held_of (line-held line ∙ x.line) in

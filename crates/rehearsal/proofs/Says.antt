@@ -42,7 +42,8 @@ unfolding office_turn
 turn-stored w k c t logs slots et el es = rw (et, el, es)
 
 -- a line and its answer
-pub says-as : (w : World) (bytes : List ℕ) (line : Line) → line ≡ line_of bytes → (x : Answered) → x ≡ answer_line w line → say_line w bytes ≡ record { world = x.world; printed = printed_of x.answer }
+pub says-as : (w : World) (bytes : List ℕ) (line : Line) → line ≡ line_of bytes → (x : Answered) → x ≡ answer_line w line
+    → say_line w bytes ≡ record { world = x.world; printed = printed_of x.answer }
 unfolding say_line
 says-as w bytes line el x e = rw (e, el)
 
