@@ -50,7 +50,8 @@ module _ (r : Record) (words s : List ℕ) where
   refused h = rw (ne_eqb (sheet_number r words s) 0 h)
 
   -- a done sheet: the record is sound, the bytes are households, and the rows are their sheet
-  done-means : (sheet_of r words s).number ≡ 0 → (sound_b r words ≡ true) × ((are_households s ≡ true) × (sheet_rows r words s ≡ sheet_by (settled_codes r words) (households_in s)))
+  done-means : (sheet_of r words s).number ≡ 0
+      → (sound_b r words ≡ true) × ((are_households s ≡ true) × (sheet_rows r words s ≡ sheet_by (settled_codes r words) (households_in s)))
   unfolding sheet_of sheet_number sheet_rows pick
   done-means h = go (sound_b r words) (are_households s) refl refl h
     where
@@ -75,7 +76,9 @@ module _ (r : Record) (words s : List ℕ) where
       subst (IsSheet (settled_codes r words) (households_in s)) rows (sheet-is (settled_codes r words) (households_in s)) in
       record {
         is = is;
-        settled = λ line l. ap (λ (n : ℕ). record { number = n; edit = stored_edit (get_or (settled_codes r words) line 0) }) (sym (number-sound r words m.0)) ∙ lines-frames r words line l;
+        settled = λ line l.
+            ap (λ (n : ℕ). record { number = n; edit = stored_edit (get_or (settled_codes r words) line 0) }) (sym (number-sound r words m.0)) ∙
+            lines-frames r words line l;
         rows = held_rows (sheet_rows r words s);
         few = omega (arith, ap length rows, sheet-few (settled_codes r words) (households_in s) (lines-below s m.1.0));
         fits = λ b. omega (arith, is.adds-up, weights-below s b m.1.0);
