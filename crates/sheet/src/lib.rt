@@ -1,6 +1,7 @@
 // The household sheet: household records turned into class totals by an office's settled frame. A library above `frame` and `both_frames`, which uses
 // only what their calls promise.
 #![tactic(auto)]
+
 ghost use Rattle.std.specs.Prelude.{◌≡◌};
 ghost use Rattle.sheet.specs.Sheet.{no_sheet, sheet_of};
 

@@ -11,7 +11,7 @@ unfolding turn_at turn_words turn_slots pick
 returns-then-m-ge-SLOTS c =
     let m = c.in-Send.m in record {
       value = rw (c.in-Send.is, le-ltb m 4 c.if-m-ge-SLOTS.true) c.stay-then-m-ge-SLOTS.ensures;
-      log_after = rw (c.in-Send.is, le-ltb m 4 c.if-m-ge-SLOTS.true) refl;
+      log_after = rw c.in-Send.is refl;
       slots_after = rw (c.in-Send.is, le-ltb m 4 c.if-m-ge-SLOTS.true) refl;
     }
 
@@ -21,7 +21,7 @@ returns-then-m-ge-SLOTS-2 c =
     let m = c.in-Take.m in record {
       value = rw (c.in-Take.is, le-ltb m 4 c.if-m-ge-SLOTS-2.true) c.stay-then-m-ge-SLOTS-2.ensures;
       log_after = rw (c.in-Take.is, le-ltb m 4 c.if-m-ge-SLOTS-2.true) refl;
-      slots_after = rw (c.in-Take.is, le-ltb m 4 c.if-m-ge-SLOTS-2.true) refl;
+      slots_after = rw c.in-Take.is refl;
     }
 
 pub returns-in-Found : goal.returns-in-Found
@@ -48,7 +48,7 @@ returns-else-m-ge-SLOTS c =
     let m = c.in-Send.m in
     record {
       value = rw (c.in-Send.is, lt-ltb m 4 c.if-m-ge-SLOTS.false) c.send_turn.ensures.turn;
-      log_after = rw (c.in-Send.is, lt-ltb m 4 c.if-m-ge-SLOTS.false) refl;
+      log_after = rw c.in-Send.is refl;
       slots_after = rw (c.in-Send.is, lt-ltb m 4 c.if-m-ge-SLOTS.false) c.send_turn.ensures.sent;
     }
 
@@ -59,7 +59,7 @@ returns-else-m-ge-SLOTS-2 c =
     record {
       value = rw (c.in-Take.is, lt-ltb m 4 c.if-m-ge-SLOTS-2.false) c.take_turn.ensures.turn;
       log_after = rw (c.in-Take.is, lt-ltb m 4 c.if-m-ge-SLOTS-2.false) c.take_turn.ensures.words;
-      slots_after = rw (c.in-Take.is, lt-ltb m 4 c.if-m-ge-SLOTS-2.false) refl;
+      slots_after = rw c.in-Take.is refl;
     }
 
 pub returns-in-Elect : goal.returns-in-Elect

@@ -1,6 +1,5 @@
 -- No rows, and the number.
 use mathlib.Core.Path.{ap}
-use borrow.Author.Rules.{rules}
 use Rattle.tabulation.specs.declared.Rows.{Rows}
 use Rattle.sheet.proofs.refused.Goals as goal
 
