@@ -45,8 +45,8 @@ loop-offices-preserved-in-All c =
     let said : let a = c.args in let l = c.loop-offices in LineRead (world_at a.r.offices a.logs.now a.slots.now) (line_held a.r.held) a.chunk.now a.out.now (world_at l.offices l.logs l.slots) (line_held l.held) l.out l.at l.printed c.part_end-end.result (line_held c.none-held.result) c.line_held-parsed.result = let a = c.args in let l = c.loop-offices in record { inv = l.invariant; there = c.part_end-end.ensures; inside = c.if-end-chunk.false; empty = ap line_held c.none-held.ensures; read = c.line_held-parsed.ensures ∙ ap line_of (ap line_held c.with-held.ensures ∙ line-held (line_held l.held ++ take (c.part_end-end.result - l.at) (drop l.at a.chunk.now))); } in
     let p = c.print-printed.ensures in
     let full : length c.loop-offices.out ≡ 532480 = search rules in
-    feeds-next (said) _ (say-found _ _ _ _ _ c.in-All.is c.found_offices-reply.ensures ∙ answer-by _ _ _ c.addressee_of-addressee.ensures)
-    _ _ (room full) p.0 p.1
+    feeds-next said _ (say-found _ _ _ _ _ c.in-All.is c.found_offices-reply.ensures ∙ answer-by _ _ _ c.addressee_of-addressee.ensures)
+    _ _ (room full) p.value p.out_after
 
 pub office_turn-turn-requires : goal.office_turn-turn-requires
 office_turn-turn-requires c =
@@ -66,8 +66,8 @@ loop-offices-preserved-in-One c =
     let e = c.office_turn-turn.ensures in
     let p = c.print-printed-in-One.ensures in
     let full : length c.loop-offices.out ≡ 532480 = search rules in
-    feeds-next (said) _ (say-turn _ _ _ _ _ _ c.in-One.is (turn-stored _ _ _ _ _ _ e.0 e.1.0 e.1.1) ∙ answer-by _ _ _ c.addressee_of-addressee.ensures)
-    _ _ (room full) p.0 p.1
+    feeds-next said _ (say-turn _ _ _ _ _ _ c.in-One.is (turn-stored _ _ _ _ _ _ e.value e.logs_after e.slots_after) ∙ answer-by _ _ _ c.addressee_of-addressee.ensures)
+    _ _ (room full) p.value p.out_after
 
 -- ── a line for nobody ──
 pub loop-offices-smaller : goal.loop-offices-smaller
@@ -81,8 +81,8 @@ loop-offices-preserved c =
     let said : let a = c.args in let l = c.loop-offices in LineRead (world_at a.r.offices a.logs.now a.slots.now) (line_held a.r.held) a.chunk.now a.out.now (world_at l.offices l.logs l.slots) (line_held l.held) l.out l.at l.printed c.part_end-end.result (line_held c.none-held.result) c.line_held-parsed.result = let a = c.args in let l = c.loop-offices in record { inv = l.invariant; there = c.part_end-end.ensures; inside = c.if-end-chunk.false; empty = ap line_held c.none-held.ensures; read = c.line_held-parsed.ensures ∙ ap line_of (ap line_held c.with-held.ensures ∙ line-held (line_held l.held ++ take (c.part_end-end.result - l.at) (drop l.at a.chunk.now))); } in
     let p = c.print-printed-in-Nobody.ensures in
     let full : length c.loop-offices.out ≡ 532480 = search rules in
-    feeds-next (said) _ (say-nobody _ _ _ _ c.in-Nobody.is c.question.ensures ∙ answer-by _ _ _ c.addressee_of-addressee.ensures)
-    _ _ (room full) p.0 p.1
+    feeds-next said _ (say-nobody _ _ _ _ c.in-Nobody.is c.question.ensures ∙ answer-by _ _ _ c.addressee_of-addressee.ensures)
+    _ _ (room full) p.value p.out_after
 
 pub slice_bounds-with-count : goal.slice_bounds-with-count
 slice_bounds-with-count c = omega (arith, c.part_end-end.ensures)

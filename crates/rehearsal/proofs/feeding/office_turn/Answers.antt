@@ -7,8 +7,11 @@ use Rattle.rehearsal.proofs.feeding.office_turn.Goals as goal
 
 pub returns : goal.returns
 returns c =
-    let both = let k = c.args.k in
+    let k = c.args.k in
     let size = k * 1024 + 1024 - k * 1024 in
     let whole : size ≡ 1024 = omega arith in
-    let e = c.turn_at.ensures in
-    (rw (e.0, whole), (rw (e.1.0, whole), rw (e.1.1, whole))) in record { value = both.0; logs_after = both.1; slots_after = both.2 }
+    let e = c.turn_at.ensures in record {
+      value = rw (e.value, whole);
+      logs_after = rw (e.log_after, whole);
+      slots_after = rw (e.slots_after, whole);
+    }
