@@ -1,5 +1,6 @@
 // The lines that set a part of a trial's record. A field more is a letter here and a line in `trial_digests`.
 #![tactic(auto)]
+
 ghost use Rattle.std.specs.Prelude.{◌≡◌};
 ghost use Rattle.frame.specs.State.{zero_record};
 ghost use Rattle.trial_records.specs.Setting.{fits_record, with_present, with_codes, with_numbers, set_kept, set_head, with_cells, set_ballots, set_record};

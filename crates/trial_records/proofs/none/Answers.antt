@@ -1,5 +1,4 @@
 -- A founding with zeros is all zero, refused or not.
-use borrow.Author.Rules.{rules}
 use mathlib.Core.Path.{◌≡◌, refl, ap, ◌∙◌}
 use Rattle.lists.proofs.Tests.{pick-cases}
 use Rattle.frame.specs.State.{zero_record}

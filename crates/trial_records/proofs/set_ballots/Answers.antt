@@ -1,5 +1,4 @@
 -- The test of the letter is that by which the definition picks.
-use borrow.Author.Rules.{rules}
 use borrow.Author.Tests.{eq-eqb, ne_eqb}
 use Rattle.lists.specs.Tests.{pick}
 use Rattle.trial_records.specs.Setting.{letter_b, set_ballots}

@@ -13,13 +13,14 @@ use Rattle.table_lines.proofs.lines.put_ballot.Goals as goal
 pub overflow_add-result : goal.overflow_add-result
 overflow_add-result c =
     let room : c.put_entries-next.result < length c.put_entries-next.new.out = let put = c.put_entries-next in omega (arith, put.ensures.0, put.auto.out, shown-short (tail_of c.args.ballot) c.requires.0, c.requires.1.1) in
-    omega (arith, room, c.put_entries-next.auto.out, c.good.0.0)
+    omega (arith, room, c.put_entries-next.auto.out, c.well_formed.0.0)
 
 pub returns : goal.returns
 returns c =
-    let both = let put = c.put_entries-next in
     let a = c.args in
-    put_last a.out.now put.new.out (shown (tail_of a.ballot)) a.at put.result 32 put.ensures.0 put.ensures.1 in record { end = both.0; output = both.1 }
+    let put = c.put_entries-next in
+    let both = put_last a.out.now put.new.out (shown (tail_of a.ballot)) a.at put.result 32 put.ensures.0 put.ensures.1 in
+    record { end = both.0; output = both.1 }
 
 pub slice_bounds-cells-end : goal.slice_bounds-cells-end
 slice_bounds-cells-end c =

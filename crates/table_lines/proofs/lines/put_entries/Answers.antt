@@ -6,7 +6,7 @@ use Rattle.table_lines.proofs.Shown.{DigitsRest, digits-begins, digits-next, dig
 use Rattle.table_lines.proofs.lines.put_entries.Goals as goal
 
 pub overflow_add-result : goal.overflow_add-result
-overflow_add-result c = omega (arith, c.requires.1, c.well-formed.0.0)
+overflow_add-result c = omega (arith, c.requires.1, c.well_formed.0.0)
 
 pub loop-i-preserved : goal.loop-i-preserved
 loop-i-preserved c =

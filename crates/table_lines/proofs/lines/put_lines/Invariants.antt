@@ -8,4 +8,4 @@ use Rattle.table_lines.proofs.Written.{LinesRest, lines-begins, lines_next, line
 use Rattle.table_lines.proofs.lines.put_lines.Given as goal
 
 abbrev pub invariant-loop-place : goal.invariant-loop-place
-invariant-loop-place l = LinesRest «record» l.initial.out l.out l.next l.place
+invariant-loop-place l = LinesRest l.«record» l.initial.out l.out l.next l.place

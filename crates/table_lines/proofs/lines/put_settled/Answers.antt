@@ -24,13 +24,14 @@ overflow_add-result c =
     let settled : take c.elect-elected.result.count c.elect-elected.new.log ≡ settled_from c.args.«record» = ap₂ take (ap (λ (x : Elected). x.count) c.elect-elected.ensures.0) c.elect-elected.ensures.1 in
     let few-settled : few (take c.elect-elected.result.count c.elect-elected.new.log) ≡ true = ap few (settled) ∙ c.requires.0 in
     let room : c.put_entries-next.result < length c.put_entries-next.new.out = let put = c.put_entries-next in omega (arith, put.ensures.0, put.auto.out, shown-short (take c.elect-elected.result.count c.elect-elected.new.log) (few-settled), c.requires.1.1) in
-    omega (arith, room, c.put_entries-next.auto.out, c.good.0.0)
+    omega (arith, room, c.put_entries-next.auto.out, c.well_formed.0.0)
 
 pub returns : goal.returns
 returns c =
     let settled : take c.elect-elected.result.count c.elect-elected.new.log ≡ settled_from c.args.«record» = ap₂ take (ap (λ (x : Elected). x.count) c.elect-elected.ensures.0) c.elect-elected.ensures.1 in
-    let both = let put = c.put_entries-next in
     let a = c.args in
+    let put = c.put_entries-next in
+    let both =
     put_last a.out.now put.new.out (shown (settled_from a.«record»)) a.at put.result 10
     (put.ensures.0 ∙ ap (λ (l : List ℕ). a.at + length (shown l)) (settled)) (put.ensures.1 ∙ ap (λ (l : List ℕ). sets a.out.now a.at (shown l)) (settled)) in record { end = both.0; output = both.1 }
 
