@@ -1,5 +1,6 @@
 // Whom a line is for: all offices, one that is there, or nobody.
 #![tactic(auto)]
+
 ghost use Rattle.std.specs.Prelude.{◌≡◌};
 ghost use Rattle.rehearsal_addressees.specs.Addressees.{at_office, command_addressee, addressee_of};
 

@@ -1,5 +1,6 @@
 // What the rehearsal prints for a line: a letter and up to three items, a number in decimal or a dash.
 #![tactic(auto)]
+
 ghost use Rattle.std.specs.Prelude.{◌≡◌, ◌+◌, ◌≤◌, length};
 ghost use Rattle.std.proofs.lemmas.List.Edits.{sets};
 ghost use Rattle.rehearsal_answers.specs.Answer.{spaced, dashed, spaced_item, printed_of, printed_in};

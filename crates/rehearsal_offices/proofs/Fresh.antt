@@ -45,7 +45,8 @@ module _ (n : ℕ) (ws logs : List ℕ) where
     fresh-ends k h = fill_end zero_record (fresh_from n ws logs 8 0) records (fresh-length 8 0 ∙ sym eight) k (omega arith)
 
 -- a founding by what Found answered at office 0
-module _ (offices : Offices) (n : ℕ) (ws logs : List ℕ) (f : Founded) (a : Answer) (ef : f ≡ found_of n 0 ws (take 1024 logs)) (ea : a ≡ says_one letter_f f.number) where
+module _ (offices : Offices) (n : ℕ) (ws logs : List ℕ) (f : Founded) (a : Answer)
+    (ef : f ≡ found_of n 0 ws (take 1024 logs)) (ea : a ≡ says_one letter_f f.number) where
   number_is : f.number ≡ found_number n ws logs
   number_is = ap (λ (x : Founded). x.number) ef
 

@@ -1,5 +1,6 @@
 // The offices of a rehearsal, and founding them.
 #![tactic(auto)]
+
 use frame::Record;
 
 mod founding;

@@ -1,5 +1,6 @@
 // What an answer says: a letter and its numbers, what both frames show, or a question mark.
 #![tactic(auto)]
+
 ghost use Rattle.std.specs.Prelude.{◌≡◌};
 ghost use Rattle.rehearsal_replies.specs.Answers.{says_one, says_two, item_of, says_frames, question};
 

@@ -1,5 +1,6 @@
 // The digest of numbers, of words and bytes, and of a record.
 #![tactic(auto)]
+
 ghost use Rattle.std.specs.Prelude.{◌≡◌, ◌∷◌, length};
 ghost use Rattle.trial_digests.specs.Digest.{digest_with, digest_from, ballot_numbers, ballots_numbers, kept_numbers, numbers_of};
 

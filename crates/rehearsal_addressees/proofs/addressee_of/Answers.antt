@@ -1,7 +1,6 @@
 -- A command's addressee, or nobody.
 use mathlib.Core.Path.{◌∙◌}
 use Rattle.rehearsal_addressees.specs.Addressees.{addressee_of}
-use borrow.Author.Rules.{rules}
 use Rattle.rehearsal_addressees.proofs.addressee_of.Goals as goal
 
 pub returns-in_default : goal.returns-in_default

@@ -7,7 +7,6 @@ use lib.ListN.{set, length-set}
 use lib.Seq.{sets}
 use Rattle.printing.specs.Printing.{decimal_of, printed_at}
 use Rattle.printing.proofs.Digits.{printed-all}
-use borrow.Author.Rules.{rules}
 use Rattle.rehearsal_answers.proofs.put_spaced.Goals as goal
 
 pub returns : goal.returns
@@ -15,8 +14,6 @@ returns c =
     let a = c.args in
     let spaced = set a.out.now a.at 32 in
     let all : printed_at spaced (a.at + 1) a.n ≡ decimal_of a.n = printed-all spaced (a.at + 1) a.n (simp length-set (omega arith)) in
-    let e = rw all at c.put_number.ensures in
-    (omega (arith, e.0), e.1 ∙ ap (λ (k : ℕ). sets spaced k (decimal_of a.n)) (add-one a.at))
-
-pub shape_of-out : goal.shape_of-out
-shape_of-out c = let a = c.args in c.put_number.auto.out ∙ length-set a.out.now a.at 32
+    let value = rw all at c.put_number.ensures.end in
+    let written = rw all at c.put_number.ensures.output in
+    (omega (arith, value), written ∙ ap (λ (k : ℕ). sets spaced k (decimal_of a.n)) (add-one a.at))

@@ -1,5 +1,4 @@
 -- The digest before is taken as its remainder.
-use borrow.Author.Rules.{rules}
 use Rattle.trial_digests.proofs.Digests.{remainder}
 use Rattle.trial_digests.proofs.with.Goals as goal
 

@@ -1,10 +1,9 @@
 use borrow.Author.Rules.{rules}
 use native.Mathlib.Omega.{arith}
-use mathlib.Core.Path.{◌≡◌, refl}
-use Prim.Native.Nat.{◌-◌}
+use mathlib.Core.Path.{◌≡◌}
 use lib.ListN.{length}
 use Rattle.lists.proofs.Tests.{length-mapped}
-use Rattle.trial_digests.proofs.Digests.{BallotsLeft, ballots-next, ballots-done}
+use Rattle.trial_digests.proofs.Digests.{ballots-next, ballots-done}
 use Rattle.trial_digests.proofs.with_ballots.Goals as goal
 
 pub loop-k-preserved : goal.loop-k-preserved
@@ -16,6 +15,3 @@ pub returns : goal.returns
 returns c =
     let eight : length c.args.ballots ≡ 8 = search (rules, length-mapped) in
     ballots-done _ _ c.loop-k.h c.loop-k.k c.loop-k.invariant (omega (arith, eight))
-
-pub loop-k-init : goal.loop-k-init
-loop-k-init c = refl

@@ -1,11 +1,8 @@
 -- A fold from the front.
-use borrow.Author.Rules.{rules}
-use native.Mathlib.Omega.{arith}
-use mathlib.Core.Path.{◌≡◌, refl, ap, ◌∙◌}
-use Prim.Native.Nat.{ℕ, ◌-◌}
+use mathlib.Core.Path.{◌≡◌}
 use lib.ListN.{length}
-use Rattle.lists.proofs.Fold.{FoldedUpTo, fold_next, fold_done}
-use Rattle.trial_digests.specs.Digest.{digest_with, digest_from}
+use Rattle.lists.proofs.Fold.{FoldedUpTo}
+use Rattle.trial_digests.specs.Digest.{digest_with}
 use Rattle.trial_digests.proofs.with_bytes.Given as goal
 
 abbrev pub invariant-loop-i : goal.invariant-loop-i

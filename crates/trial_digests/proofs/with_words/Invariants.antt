@@ -1,10 +1,7 @@
 -- A fold from the front.
-use borrow.Author.Rules.{rules}
-use native.Mathlib.Omega.{arith}
-use mathlib.Core.Path.{◌≡◌, refl}
-use Prim.Native.Nat.{◌-◌}
+use mathlib.Core.Path.{◌≡◌}
 use lib.ListN.{length}
-use Rattle.lists.proofs.Fold.{FoldedUpTo, fold_next, fold_done}
+use Rattle.lists.proofs.Fold.{FoldedUpTo}
 use Rattle.trial_digests.specs.Digest.{digest_with}
 use Rattle.trial_digests.proofs.with_words.Given as goal
 

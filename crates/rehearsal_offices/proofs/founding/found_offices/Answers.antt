@@ -3,7 +3,6 @@ use mathlib.Core.Path.{sym}
 use native.Mathlib.Omega.{arith}
 use lib.Seq.{length-take-le}
 use Rattle.rehearsal_offices.proofs.Fresh.{found-refused, found-done}
-use borrow.Author.Rules.{rules}
 use Rattle.rehearsal_offices.proofs.founding.found_offices.Goals as goal
 
 pub slice_bounds-found-end : goal.slice_bounds-found-end

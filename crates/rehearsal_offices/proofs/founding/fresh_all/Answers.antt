@@ -1,17 +1,8 @@
-use borrow.Author.Rules.{rules}
-use mathlib.Core.Path.{◌≡◌, refl, ap, ◌∙◌}
+use mathlib.Core.Path.{ap, ◌∙◌}
 use native.Mathlib.Omega.{arith}
-use Prim.Native.Nat.{◌-◌, ◌≤◌}
-use lib.ListN.{length, set}
-use Rattle.lists.proofs.Tests.{length-mapped}
-use Rattle.rehearsal_offices.proofs.Fresh.{fresh_to, fresh-next, fresh-ends}
+use lib.ListN.{set}
+use Rattle.rehearsal_offices.proofs.Fresh.{fresh-next, fresh-ends}
 use Rattle.rehearsal_offices.proofs.founding.fresh_all.Goals as goal
-
-pub loop-k-init : goal.loop-k-init
-loop-k-init c = (search rules, search (rules, length-mapped), refl)
-
-pub fresh_at-one-requires : goal.fresh_at-one-requires
-fresh_at-one-requires c = (omega arith, c.requires)
 
 pub loop-k-preserved : goal.loop-k-preserved
 loop-k-preserved c =

@@ -1,11 +1,8 @@
 -- The invariant: the first k records are fresh.
-use borrow.Author.Rules.{rules}
-use mathlib.Core.Path.{◌≡◌, refl, ap, ◌∙◌}
-use native.Mathlib.Omega.{arith}
-use Prim.Native.Nat.{◌-◌, ◌≤◌}
-use lib.ListN.{length, set}
-use Rattle.lists.proofs.Tests.{length-mapped}
-use Rattle.rehearsal_offices.proofs.Fresh.{fresh_to, fresh-next, fresh-ends}
+use mathlib.Core.Path.{◌≡◌}
+use Prim.Native.Nat.{◌≤◌}
+use lib.ListN.{length}
+use Rattle.rehearsal_offices.proofs.Fresh.{fresh_to}
 use Rattle.rehearsal_offices.proofs.founding.fresh_all.Given as goal
 
 abbrev pub invariant-loop-k : goal.invariant-loop-k

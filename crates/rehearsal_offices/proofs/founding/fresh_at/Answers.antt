@@ -6,7 +6,6 @@ use lib.ListN.{take, drop}
 use Rattle.frame.specs.declared.founding.Founded.{Founded}
 use Rattle.frame.specs.Founding.{found_of}
 use Rattle.rehearsal_offices.specs.Founding.{fresh_at}
-use borrow.Author.Rules.{rules}
 use Rattle.rehearsal_offices.proofs.founding.fresh_at.Goals as goal
 
 pub returns : goal.returns

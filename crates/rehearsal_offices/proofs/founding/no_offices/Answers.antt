@@ -2,7 +2,6 @@
 use mathlib.Core.Path.{◌≡◌, refl, ap, ◌∙◌}
 use mathlib.Core.List.{[], ◌∷◌}
 use lib.ListN.{replicate}
-use borrow.Author.Rules.{rules}
 use Rattle.lists.specs.Tests.{pick}
 use Rattle.protocol.specs.Limits.{long_enough}
 use Rattle.frame.specs.State.{zero_record}
@@ -16,4 +15,6 @@ unfolding found_of long_enough pick
 refused = refl
 
 pub returns : goal.returns
-returns c = ap (λ (x : Record). record { count = 0; records = replicate 8 x; lengths = replicate 4 0 }) (ap (λ (f : Founded). f.«record») c.found-refused.ensures ∙ refused)
+returns c =
+    let zero = ap (λ (f : Founded). f.«record») c.found-refused.ensures ∙ refused in
+    ap (λ (x : Record). record { count = 0; records = replicate 8 x; lengths = replicate 4 0 }) zero

@@ -1,6 +1,0 @@
--- The fields, one by one.
-use borrow.Author.Rules.{rules}
-use Rattle.rehearsal_replies.proofs.says_two.Goals as goal
-
-pub returns : goal.returns
-returns c = rw c.wide.ensures
