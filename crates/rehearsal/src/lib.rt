@@ -1,5 +1,6 @@
 // The rehearsal: lines of input in, lines of output out, over up to eight offices and four message slots.
 #![tactic(auto)]
+
 use rehearsal_answers::Answer;
 use rehearsal_lines::Held;
 use rehearsal_offices::Offices;

@@ -1,5 +1,6 @@
 // One office's turn: its answer to a command, with what that leaves of its record, its log and the message slots.
 #![tactic(auto)]
+
 ghost use Rattle.std.specs.Prelude.{◌≡◌, ◌<◌, length};
 ghost use Rattle.frame.specs.Electing.{elect_words};
 ghost use Rattle.rehearsal_turns.specs.Turns.{stay, issue_turn, send_turn, send_slots, take_turn, take_turn_words, elect_turn, view_turn, turn_at, turn_words, turn_slots};

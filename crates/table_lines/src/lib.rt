@@ -1,5 +1,6 @@
 // What is printed of the small ballot tables: a line for each, with the entries that elect settles, for the weights of an input.
 #![tactic(auto)]
+
 mod answers;
 mod lines;
 

@@ -1,6 +1,5 @@
 -- The call's promise and the answer's.
 use Rattle.rehearsal_turns.proofs.Turning.{issued-turn}
-use borrow.Author.Rules.{rules}
 use Rattle.rehearsal_turns.proofs.issue_turn.Goals as goal
 
 pub returns : goal.returns

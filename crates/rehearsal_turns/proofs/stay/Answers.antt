@@ -1,5 +1,4 @@
 -- The question mark beside what came.
-use borrow.Author.Rules.{rules}
 use Rattle.rehearsal_turns.proofs.stay.Goals as goal
 
 pub returns : goal.returns

@@ -5,7 +5,6 @@ use Prim.Native.Nat.{◌+◌, ◌-◌, ◌*◌}
 use lib.ListN.{take, drop}
 use Rattle.rehearsal_slots.specs.Pieces.{message_in}
 use Rattle.rehearsal_turns.proofs.Turning.{taken-turn, taken-words, message-lent}
-use borrow.Author.Rules.{rules}
 use Rattle.rehearsal_turns.proofs.take_turn.Goals as goal
 
 pub returns : goal.returns
@@ -17,6 +16,9 @@ returns c =
     let s : lent ≡ size = omega arith in
     let e : take lent (drop from a.slots.now) ≡ message_in a.slots.now a.lengths a.m =
     message-lent a.slots.now a.lengths a.m lent c.requires.0
-    c.requires.1 (s ∙ c.within-size.ensures) in record { turn = taken-turn a.record a.lengths a.log.now c.says_one-answer.result a.slots.now a.m lent
-          c.take-taken.result e c.take-taken.ensures.0 c.says_one-answer.ensures; words = taken-words a.record a.lengths a.log.now c.says_one-answer.result a.slots.now a.m lent
-          c.take-taken.new.log e c.take-taken.ensures.1 }
+    c.requires.1 (s ∙ c.within-size.ensures) in record {
+      turn = taken-turn a.record a.lengths a.log.now c.says_one-answer.result a.slots.now a.m lent
+          c.take-taken.result e c.take-taken.ensures.0 c.says_one-answer.ensures;
+      words = taken-words a.record a.lengths a.log.now c.says_one-answer.result a.slots.now a.m lent
+          c.take-taken.new.log e c.take-taken.ensures.1;
+    }

@@ -3,7 +3,6 @@ use borrow.Author.Tests.{le-ltb, lt-ltb}
 use mathlib.Core.Path.{refl}
 use Rattle.lists.specs.Tests.{pick}
 use Rattle.rehearsal_turns.specs.Turns.{turn_at, turn_words, turn_slots}
-use borrow.Author.Rules.{rules}
 use Rattle.rehearsal_turns.proofs.turn_at.Goals as goal
 
 pub returns-then-m-ge-SLOTS : goal.returns-then-m-ge-SLOTS

@@ -1,5 +1,4 @@
 -- A newline is fed where a line is held.
-use borrow.Author.Rules.{rules}
 use mathlib.Core.Path.{◌≡◌, sym, ◌∙◌}
 use lib.ListN.{length}
 use borrow.Author.Tests.{eqb-true, eqb-false}

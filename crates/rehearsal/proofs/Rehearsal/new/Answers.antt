@@ -1,5 +1,4 @@
 -- The fields, one by one.
-use borrow.Author.Rules.{rules}
 use Rattle.rehearsal.proofs.Rehearsal.new.Goals as goal
 
 pub returns : goal.returns

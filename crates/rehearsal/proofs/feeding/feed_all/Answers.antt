@@ -7,7 +7,7 @@ use lib.ListN.{length, take, drop, length-take}
 use Rattle.text_parts.proofs.Ends.{part-within}
 use Rattle.rehearsal_lines.specs.Held.{line_held}
 use Rattle.rehearsal_lines.proofs.Holding.{line-held}
-use Rattle.rehearsal_lines.proofs.Feeding.{FeedRest, feed-begins, feed-ends}
+use Rattle.rehearsal_lines.proofs.Feeding.{feed-begins, feed-ends}
 use Rattle.rehearsal_commands.specs.Command.{line_of}
 use Rattle.rehearsal_addressees.proofs.Present.{addressee-there}
 use Rattle.rehearsal.specs.Lines.{world_at, say_line}
@@ -42,7 +42,7 @@ loop-offices-smaller-in-All c =
 pub loop-offices-preserved-in-All : goal.loop-offices-preserved-in-All
 loop-offices-preserved-in-All c =
     let room : length c.loop-offices.out ≡ 532480 → c.loop-offices.printed + 65 ≤ length c.loop-offices.out = λ full. omega (arith, c.loop-offices.invariant.room, c.requires, full, c.part_end-end.ensures, c.if-end-chunk.false) in
-    let said : let a = c.args in let l = c.loop-offices in LineRead (world_at a.r.offices a.logs.now a.slots.now) (line_held a.r.held) a.chunk.now a.out.now (world_at l.offices l.logs l.slots) (line_held l.held) l.out l.at l.printed c.part_end-end.result (line_held c.none-held.result) c.line_held-parsed.result = let a = c.args in let l = c.loop-offices in record { inv = l.invariant; there = c.part_end-end.ensures; inside = c.if-end-chunk.false; empty = ap line_held c.none-held.ensures; read = c.line_held-parsed.ensures ∙ ap line_of (ap line_held c.with-held.ensures ∙ line-held (line_held l.held ++ take (c.part_end-end.result - l.at) (drop l.at a.chunk.now))); } in
+    let said : let a = c.args in let l = c.loop-offices in LineRead (world_at a.r.offices a.logs.now a.slots.now) (line_held a.r.held) a.chunk.now a.out.now (world_at l.offices l.logs l.slots) (line_held l.held) l.out l.at l.printed c.part_end-end.result (line_held c.none-held.result) c.line_held-parsed.result = let a = c.args in let l = c.loop-offices in record { inv = l.invariant; there = c.part_end-end.ensures; inside = c.if-end-chunk.false; empty = ap line_held c.none-held.ensures; read = c.line_held-parsed.ensures ∙ ap line_of (ap line_held c.with-held.ensures ∙ line-held (line_held l.held ++ take (c.part_end-end.result - l.at) (drop l.at a.chunk.now))) } in
     let p = c.print-printed.ensures in
     let full : length c.loop-offices.out ≡ 532480 = search rules in
     feeds-next said _ (say-found _ _ _ _ _ c.in-All.is c.found_offices-reply.ensures ∙ answer-by _ _ _ c.addressee_of-addressee.ensures)
@@ -62,7 +62,7 @@ loop-offices-smaller-in-One c =
 pub loop-offices-preserved-in-One : goal.loop-offices-preserved-in-One
 loop-offices-preserved-in-One c =
     let room : length c.loop-offices.out ≡ 532480 → c.loop-offices.printed + 65 ≤ length c.loop-offices.out = λ full. omega (arith, c.loop-offices.invariant.room, c.requires, full, c.part_end-end.ensures, c.if-end-chunk.false) in
-    let said : let a = c.args in let l = c.loop-offices in LineRead (world_at a.r.offices a.logs.now a.slots.now) (line_held a.r.held) a.chunk.now a.out.now (world_at l.offices l.logs l.slots) (line_held l.held) l.out l.at l.printed c.part_end-end.result (line_held c.none-held.result) c.line_held-parsed.result = let a = c.args in let l = c.loop-offices in record { inv = l.invariant; there = c.part_end-end.ensures; inside = c.if-end-chunk.false; empty = ap line_held c.none-held.ensures; read = c.line_held-parsed.ensures ∙ ap line_of (ap line_held c.with-held.ensures ∙ line-held (line_held l.held ++ take (c.part_end-end.result - l.at) (drop l.at a.chunk.now))); } in
+    let said : let a = c.args in let l = c.loop-offices in LineRead (world_at a.r.offices a.logs.now a.slots.now) (line_held a.r.held) a.chunk.now a.out.now (world_at l.offices l.logs l.slots) (line_held l.held) l.out l.at l.printed c.part_end-end.result (line_held c.none-held.result) c.line_held-parsed.result = let a = c.args in let l = c.loop-offices in record { inv = l.invariant; there = c.part_end-end.ensures; inside = c.if-end-chunk.false; empty = ap line_held c.none-held.ensures; read = c.line_held-parsed.ensures ∙ ap line_of (ap line_held c.with-held.ensures ∙ line-held (line_held l.held ++ take (c.part_end-end.result - l.at) (drop l.at a.chunk.now))) } in
     let e = c.office_turn-turn.ensures in
     let p = c.print-printed-in-One.ensures in
     let full : length c.loop-offices.out ≡ 532480 = search rules in
@@ -78,7 +78,7 @@ loop-offices-smaller c =
 pub loop-offices-preserved : goal.loop-offices-preserved
 loop-offices-preserved c =
     let room : length c.loop-offices.out ≡ 532480 → c.loop-offices.printed + 65 ≤ length c.loop-offices.out = λ full. omega (arith, c.loop-offices.invariant.room, c.requires, full, c.part_end-end.ensures, c.if-end-chunk.false) in
-    let said : let a = c.args in let l = c.loop-offices in LineRead (world_at a.r.offices a.logs.now a.slots.now) (line_held a.r.held) a.chunk.now a.out.now (world_at l.offices l.logs l.slots) (line_held l.held) l.out l.at l.printed c.part_end-end.result (line_held c.none-held.result) c.line_held-parsed.result = let a = c.args in let l = c.loop-offices in record { inv = l.invariant; there = c.part_end-end.ensures; inside = c.if-end-chunk.false; empty = ap line_held c.none-held.ensures; read = c.line_held-parsed.ensures ∙ ap line_of (ap line_held c.with-held.ensures ∙ line-held (line_held l.held ++ take (c.part_end-end.result - l.at) (drop l.at a.chunk.now))); } in
+    let said : let a = c.args in let l = c.loop-offices in LineRead (world_at a.r.offices a.logs.now a.slots.now) (line_held a.r.held) a.chunk.now a.out.now (world_at l.offices l.logs l.slots) (line_held l.held) l.out l.at l.printed c.part_end-end.result (line_held c.none-held.result) c.line_held-parsed.result = let a = c.args in let l = c.loop-offices in record { inv = l.invariant; there = c.part_end-end.ensures; inside = c.if-end-chunk.false; empty = ap line_held c.none-held.ensures; read = c.line_held-parsed.ensures ∙ ap line_of (ap line_held c.with-held.ensures ∙ line-held (line_held l.held ++ take (c.part_end-end.result - l.at) (drop l.at a.chunk.now))) } in
     let p = c.print-printed-in-Nobody.ensures in
     let full : length c.loop-offices.out ≡ 532480 = search rules in
     feeds-next said _ (say-nobody _ _ _ _ c.in-Nobody.is c.question.ensures ∙ answer-by _ _ _ c.addressee_of-addressee.ensures)

@@ -1,19 +1,9 @@
 -- Each turn answers one line, and the invariant is that what is left, fed from here on, gives what the whole chunk gives.
-use borrow.Author.Rules.{rules}
-use mathlib.Core.Path.{◌≡◌, sym, ap, ◌∙◌}
-use mathlib.Core.List.{◌++◌}
-use native.Mathlib.Omega.{arith}
-use Prim.Native.Nat.{◌+◌, ◌-◌, ◌<◌, ◌≤◌}
-use lib.ListN.{length, take, drop, length-take}
-use Rattle.text_parts.proofs.Ends.{part-within}
+use Prim.Native.Nat.{◌-◌}
+use lib.ListN.{length}
 use Rattle.rehearsal_lines.specs.Held.{line_held}
-use Rattle.rehearsal_lines.proofs.Holding.{line-held}
-use Rattle.rehearsal_lines.proofs.Feeding.{FeedRest, feed-begins, feed-ends}
-use Rattle.rehearsal_commands.specs.Command.{line_of}
-use Rattle.rehearsal_addressees.proofs.Present.{addressee-there}
+use Rattle.rehearsal_lines.proofs.Feeding.{FeedRest}
 use Rattle.rehearsal.specs.Lines.{world_at, say_line}
-use Rattle.rehearsal.proofs.Says.{turn-stored, answer-by, say-found, say-turn, say-nobody}
-use Rattle.rehearsal.proofs.Feeds.{LineRead, feeds-next, feed-answers}
 use Rattle.rehearsal.proofs.feeding.feed_all.Given as goal
 
 abbrev pub invariant-loop-offices : goal.invariant-loop-offices

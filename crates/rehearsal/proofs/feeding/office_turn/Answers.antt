@@ -1,5 +1,4 @@
 -- The office's log is its piece of all logs, and the turn promises what the definition says of it.
-use borrow.Author.Rules.{rules}
 use mathlib.Core.Path.{◌≡◌}
 use native.Mathlib.Omega.{arith}
 use Prim.Native.Nat.{◌+◌, ◌-◌, ◌*◌}

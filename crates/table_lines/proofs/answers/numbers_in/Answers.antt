@@ -4,7 +4,6 @@ use mathlib.Core.Path.{◌≡◌, sym, ap, ◌∙◌}
 use Prim.Native.Nat.{ℕ}
 use lib.ListN.{take}
 use lib.Seq.{length-take-le}
-use borrow.Author.Rules.{rules}
 use Rattle.decimal.specs.Numbers.{numbers_from}
 use Rattle.text_parts.specs.Parts.{part_length}
 use Rattle.text_parts.proofs.Ends.{part-within}

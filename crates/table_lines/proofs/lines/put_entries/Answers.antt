@@ -1,8 +1,7 @@
 use native.Mathlib.Omega.{arith}
-use Prim.Native.Nat.{◌-◌}
 use lib.ListN.{length-set}
 use borrow.Author.Rules.{rules}
-use Rattle.table_lines.proofs.Shown.{DigitsRest, digits-begins, digits-next, digits-ends, put-dash}
+use Rattle.table_lines.proofs.Shown.{digits-begins, digits-next, digits-ends, put-dash}
 use Rattle.table_lines.proofs.lines.put_entries.Goals as goal
 
 pub overflow_add-result : goal.overflow_add-result

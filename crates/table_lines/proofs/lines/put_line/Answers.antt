@@ -5,7 +5,6 @@ use mathlib.Core.List.{List}
 use Prim.Native.Nat.{ℕ, ◌+◌, ◌≤◌}
 use lib.ListN.{length, get_or}
 use lib.Seq.{sets}
-use borrow.Author.Rules.{rules}
 use Rattle.ballots.specs.Ballots.{tail_of, off_end}
 use Rattle.ballots.specs.declared.Ballot.{Ballot}
 use Rattle.frame.specs.Electing.{elect_of}

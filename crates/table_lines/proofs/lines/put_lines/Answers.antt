@@ -1,9 +1,8 @@
 use native.Mathlib.Omega.{arith}
 use mathlib.Core.Path.{◌≡◌}
-use Prim.Native.Nat.{◌-◌}
 use lib.ListN.{length}
 use borrow.Author.Rules.{rules}
-use Rattle.table_lines.proofs.Written.{LinesRest, lines-begins, lines_next, lines-ends}
+use Rattle.table_lines.proofs.Written.{lines-begins, lines_next, lines-ends}
 use Rattle.table_lines.proofs.lines.put_lines.Goals as goal
 
 pub put_line-next-requires : goal.put_line-next-requires

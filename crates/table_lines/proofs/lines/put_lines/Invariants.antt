@@ -1,10 +1,5 @@
 -- The invariant: the lines that are left, written from here on, give all of them; each takes at most 28 bytes.
-use native.Mathlib.Omega.{arith}
-use mathlib.Core.Path.{◌≡◌}
-use Prim.Native.Nat.{◌-◌}
-use lib.ListN.{length}
-use borrow.Author.Rules.{rules}
-use Rattle.table_lines.proofs.Written.{LinesRest, lines-begins, lines_next, lines-ends}
+use Rattle.table_lines.proofs.Written.{LinesRest}
 use Rattle.table_lines.proofs.lines.put_lines.Given as goal
 
 abbrev pub invariant-loop-place : goal.invariant-loop-place

@@ -6,7 +6,6 @@ use mathlib.Core.List.{List}
 use Prim.Native.Nat.{ℕ, ◌+◌, ◌<◌, ◌≤◌}
 use lib.ListN.{length, take, length-replicate}
 use lib.Seq.{sets, length-take-le}
-use borrow.Author.Rules.{rules}
 use Rattle.frame.specs.declared.electing.Elected.{Elected}
 use Rattle.table_lines.specs.Lines.{shown, settled_from, few}
 use Rattle.table_lines.proofs.Shown.{shown-short, put_last}

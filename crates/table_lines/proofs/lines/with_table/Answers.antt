@@ -1,6 +1,5 @@
 -- The record's other fields stay.
 use mathlib.Core.Path.{refl}
-use borrow.Author.Rules.{rules}
 use Rattle.table_lines.proofs.lines.with_table.Goals as goal
 
 pub returns : goal.returns
