@@ -25,7 +25,7 @@ held-start-requires c =
     let sounds : let a = c.args in Sound a.self a.log.now = sound _ _ passed in
     sounds.within
 
--- the held slice_bounds-counts_after-end of the log is there, and its length
+-- the held part of the log is there, and its length
 pub slice_bounds-counts_after-end : goal.slice_bounds-counts_after-end
 slice_bounds-counts_after-end c =
     let passed : let a = c.args in sound_b a.self a.log.now ≡ true = sym c.sound.ensures ∙ c.if-not-sound.false in
