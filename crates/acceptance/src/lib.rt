@@ -1,5 +1,6 @@
 // The number of a take on a sound record, from a message that was read: by the offices and weights that it names, its sender, and the two logs.
 #![tactic(auto)]
+
 ghost use Rattle.std.specs.Prelude.{◌≡◌, ◌*◌, ◌≤◌, length};
 ghost use Rattle.acceptance.specs.Acceptance.{checked_of};
 

@@ -2,7 +2,7 @@
 --     four-answers      of two vectors of one length the answer is one of four, each given exactly when it should be
 --     version-path      the versions behind the log are the offices' paths
 --     whole-vector      where the dropped entries left the kept counts, a version's vector is that of these entries and the version
---     read-back         each vector of a done write is read back, and answers "equal" for what it was written from
+--     read_back         each vector of a done write is read back, and answers "equal" for what it was written from
 -- Assumes nothing.
 use mathlib.Core.Path.{◌≡◌, refl, sym, ap, ap₂, ◌∙◌}
 use mathlib.Core.Bool.{Bool, true, false, true≢false}

@@ -1,6 +1,6 @@
 -- What request (xi) claims of the two calls. The theorems are in proofs/Claims.antt:
 --     four-answers    (a b : List ℕ) → length a ≡ length b → FourAnswers a b
---     read-back       (r : Record) (words out : List ℕ) → write_of r words out .number ≡ 0 → ReadBack r words out
+--     read_back       (r : Record) (words out : List ℕ) → (write_of r words out).number ≡ 0 → ReadBack r words out
 -- Assumes nothing.
 use Rattle.std.specs.Prelude.{◌≡◌, List, [], ◌⊎◌, ◌↔◌, ℕ, ◌*◌, ◌≤◌, get_or, take, drop}
 use Rattle.protocol.specs.Counts.{count_of}

@@ -1,6 +1,7 @@
 // Version vectors for the archive: those of an office's settled log and paths written, and one read and compared with them. A library above
 // `frame`, which uses only what frame's calls promise.
 #![tactic(auto)]
+
 ghost use Rattle.std.specs.Prelude.{◌≡◌};
 ghost use Rattle.archive.specs.Comparison.{compare_of};
 ghost use Rattle.archive.specs.Writing.{write_of, write_bytes};

@@ -1,6 +1,7 @@
 // A walk over words from their end, for up to 64 lines of the frame together, that stops when each line has its edit. Where the words have none for a
 // line, it is the one that is kept of what was before them.
 #![tactic(auto)]
+
 ghost use Rattle.std.specs.Prelude.{◌≡◌, length};
 ghost use Rattle.runs.specs.Runs.{Named};
 ghost use Rattle.backward.specs.Cells.{asked_of, edit_added, new_edits, or_kept, placed, cells_at, walked_of};

@@ -1,5 +1,6 @@
 // An office's ballot in a message, read at a position by its layout alone.
 #![tactic(auto)]
+
 ghost use Rattle.std.specs.Prelude.{◌≡◌, ◌+◌, ◌*◌, ◌≤◌, length, drop};
 ghost use Rattle.ballots.specs.Ballots.{ballot_of};
 ghost use Rattle.numbers.specs.Numbers.{be32, run_at};

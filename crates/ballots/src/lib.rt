@@ -1,5 +1,6 @@
 // A ballot by value: none, and one entry more. The test of eight is in `eight_ballots`.
 #![tactic(auto)]
+
 ghost use Rattle.std.specs.Prelude.{◌≡◌};
 ghost use Rattle.ballots.specs.Ballots.{no_ballot, pushed};
 

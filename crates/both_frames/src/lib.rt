@@ -1,5 +1,6 @@
 // Both frames: the settled and the tentative one of a line, and the settled one of all lines. Calls above `frame`, which use only what it promises.
 #![tactic(auto)]
+
 ghost use Rattle.std.specs.Prelude.{◌≡◌, ◌<◌};
 ghost use Rattle.frame.specs.State.{own_ballot};
 ghost use Rattle.both_frames.specs.Frames.{refused_frame, settled_frame_of, tentative_frame_of, all_lines_of};

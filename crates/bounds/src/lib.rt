@@ -1,5 +1,6 @@
 // Weights known within bounds: the entry that wins an election step whichever weights within the bounds are chosen.
 #![tactic(auto)]
+
 ghost use Rattle.std.specs.Prelude.{◌≡◌, cond, ◌≤◌, take};
 ghost use Rattle.protocol.specs.Counts.{quieter_by};
 ghost use Rattle.tallies.specs.Tallies.{winner_is, no_vote, vote_in, votes_in, SilentFrom};

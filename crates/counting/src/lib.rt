@@ -1,5 +1,6 @@
 // How many entries each office has: in a settled log, by which ties are decided, from counts that stood before it; and in a tail.
 #![tactic(auto)]
+
 ghost use Rattle.std.specs.Prelude.{◌≡◌, cond, ◌<◌, ◌≤◌, eqb, length};
 ghost use Rattle.protocol.specs.Entry.{office_of};
 ghost use Rattle.protocol.specs.Counts.{no_counts, count_of, counted, counts_after};

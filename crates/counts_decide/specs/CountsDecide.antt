@@ -3,7 +3,7 @@
 -- has dropped. The theorems:
 --     lossless          (n : ℕ) (weights : List ℕ) (start : World) → Founded n weights start
 --                       → (cs : List Call) → Lossless n (after start cs)                          proofs/InWorld.antt
---     across-offices    of two offices it is false, by a list of calls that is computed           proofs/AcrossOffices.antt
+--     across-offices    of two offices it is false, by a list of calls that is computed           worked_histories, proofs/AcrossOffices.antt
 -- Assumes nothing.
 use Rattle.std.specs.Prelude.{◌≡◌, List, ◌++◌, ◌⊎◌, ◌↔◌, ℕ, ◌≤◌, ◌<◌, get_or}
 use Rattle.std.proofs.Math.Option.{some}

@@ -1,5 +1,6 @@
 // Answers that hold an enum, as they cross to C: a flag beside a number.
 #![tactic(auto)]
+
 ghost use Rattle.std.specs.Prelude.{◌≡◌};
 ghost use Rattle.crossing.specs.Framed.{across};
 ghost use Rattle.crossing.specs.Foreseen.{foreseen_of};

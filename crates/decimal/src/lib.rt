@@ -1,5 +1,6 @@
 // Decimal numbers read from a text.
 #![tactic(auto)]
+
 mod number;
 mod numbers;
 

@@ -1,5 +1,6 @@
 // The frame as it stood after the first p settled entries, for up to 64 lines together.
 #![tactic(auto)]
+
 ghost use Rattle.std.specs.Prelude.{◌≡◌};
 ghost use Rattle.runs.specs.Runs.{of_frame};
 ghost use Rattle.earlier.specs.Earlier.{earlier_refused, earlier_of};

@@ -1,5 +1,6 @@
 // Whether eight ballots are within the limits: of a record and of a message.
 #![tactic(auto)]
+
 ghost use Rattle.std.specs.Prelude.{◌≡◌, ◌≤◌, eqb, true};
 ghost use Rattle.std.specs.Int.Bits.{bit_and};
 ghost use Rattle.lists.specs.Tests.{all_b};

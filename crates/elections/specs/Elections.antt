@@ -8,7 +8,6 @@ use Rattle.protocol.specs.Vote.{winner}
 use Rattle.protocol.specs.Office.{Office, votes}
 use Rattle.protocol.specs.Elect.{lose, next}
 use Rattle.ballots.specs.Ballots.{tail_of, ballot_of, ballot_fine, is_no_ballot, office_in}
-use Rattle.ballots.specs.declared.Ballot.{Ballot}
 use Rattle.summary.specs.Summary.{summary_next}
 use Rattle.elections.specs.declared.State.{State}
 

@@ -1,5 +1,6 @@
 // What takes and elections change of a record.
 #![tactic(auto)]
+
 use ballots::Ballot;
 use summary::Summary;
 

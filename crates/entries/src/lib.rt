@@ -1,5 +1,6 @@
 // Entries as 32-bit words: the tests of a word, and walks over a slice of them.
 #![tactic(auto)]
+
 ghost use Rattle.std.specs.Prelude.{◌≡◌, leb};
 ghost use Rattle.lists.specs.Tests.{all_b, pick};
 ghost use Rattle.protocol.specs.Entry.{proper, is_entry};

@@ -1,5 +1,6 @@
 // Dropping the first part of the log, which every office is known to have: a call above `frame`.
 #![tactic(auto)]
+
 ghost use Rattle.std.specs.Prelude.{◌≡◌};
 ghost use Rattle.folding.specs.Folding.{fold_of, fold_words};
 

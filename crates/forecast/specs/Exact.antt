@@ -1,13 +1,13 @@
 -- Request (xii), weights known within bounds: what is claimed of every forecast. The theorems are in proofs/Exact:
---     exact            (r : Record) (words lowest highest : List ℕ) → forecast_of r words lowest highest .number ≡ 0 → Exact r words lowest highest
---     refused-none     (r : Record) (words lowest highest : List ℕ) → ((forecast_of r words lowest highest).number ≡ 0 → ⊥) → forecast_of r words lowest highest .winner ≡ Nobody
+--     exact            (r : Record) (words lowest highest : List ℕ) → (forecast_of r words lowest highest).number ≡ 0 → Exact r words lowest highest
+--     refused_none     (r : Record) (words lowest highest : List ℕ) → ((forecast_of r words lowest highest).number ≡ 0 → ⊥) → (forecast_of r words lowest highest).winner ≡ Nobody
 --     before-n         (r : Record) (words lowest highest lowest' highest' : List ℕ) → bounds_of r lowest ≡ bounds_of r lowest' → bounds_of r highest ≡ bounds_of r highest'
 --                          → forecast_of r words lowest highest ≡ forecast_of r words lowest' highest'
 --     weights-aside    (r s : Record) (words lowest highest : List ℕ) → sound_b r words ≡ true → sound_b s words ≡ true → Alike r s
 --                          → forecast_of r words lowest highest ≡ forecast_of s words lowest highest
 --     bounds-met       (r s : Record) (words : List ℕ) → sound_b r words ≡ true → sound_b s words ≡ true → Alike r s
 --                          → forecast_of r words s.summary.present s.summary.present ≡ record { number = 0; winner = winner_is (winner_of s words) }
---     zero-none        (r : Record) (words lowest highest : List ℕ) → all_b (eqb 0) (bounds_of r lowest) ≡ true → forecast_of r words lowest highest .winner ≡ Nobody
+--     zero-none        (r : Record) (words lowest highest : List ℕ) → all_b (eqb 0) (bounds_of r lowest) ≡ true → (forecast_of r words lowest highest).winner ≡ Nobody
 -- Assumes nothing.
 use Rattle.std.specs.Prelude.{◌≡◌, ◌↔◌, List, ℕ}
 use Rattle.protocol.specs.Office.{votes}

@@ -1,5 +1,6 @@
 // A forecast of the first election step, where next round's weights are known only within bounds.
 #![tactic(auto)]
+
 ghost use Rattle.std.specs.Prelude.{◌≡◌};
 ghost use Rattle.forecast.specs.Forecast.{forecast_of};
 

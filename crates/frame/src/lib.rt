@@ -2,6 +2,7 @@
 // frames stand above. A call takes the record by value and its log as a lent slice; its answer has the paper's number, 0 when it is done, behind the
 // next record where there is one.
 #![tactic(auto)]
+
 ghost use Rattle.std.specs.Prelude.{◌≡◌, ◌≤◌};
 ghost use Rattle.frame.specs.Soundness.{sound_b};
 ghost use Rattle.frame.specs.State.{held_length};

@@ -1,5 +1,6 @@
 // The places of the fields of a message's head that depend on n.
 #![tactic(auto)]
+
 ghost use Rattle.std.specs.Prelude.{◌≡◌, ◌≤◌};
 ghost use Rattle.spelling.specs.Spelling.{length_place, dropped_place, head_size};
 

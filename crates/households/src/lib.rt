@@ -1,5 +1,6 @@
 // Household records read strictly, and their weights summed by line.
 #![tactic(auto)]
+
 ghost use Rattle.std.specs.Prelude.{◌≡◌};
 ghost use Rattle.households.specs.Pools.{pools_of, no_pools};
 

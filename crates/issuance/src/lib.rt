@@ -1,6 +1,7 @@
 // The number of an issue, by what it is asked of: the offices, the line and the code, the lengths and the own ballot; and the own ballot with
 // the entry. Public only for the crate above, which proves what the functions require.
 #![tactic(auto)]
+
 ghost use Rattle.std.specs.Prelude.{◌≡◌, ◌<◌, ◌≤◌};
 ghost use Rattle.protocol.specs.Entry.{value};
 ghost use Rattle.protocol.specs.Counts.{count_in};

@@ -1,5 +1,6 @@
 // Issuing an entry: a call above `frame`.
 #![tactic(auto)]
+
 ghost use Rattle.std.specs.Prelude.{◌≡◌, ◌<◌};
 ghost use Rattle.issuing.specs.Issuing.{with_own, issue_of};
 

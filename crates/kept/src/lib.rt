@@ -1,5 +1,6 @@
 // What a record keeps of the entries that were dropped from the front of its log.
 #![tactic(auto)]
+
 ghost use Rattle.std.specs.Prelude.{◌≡◌, ◌≤◌, length, take, drop};
 ghost use Rattle.ballots.specs.Ballots.{words_with};
 ghost use Rattle.kept.specs.Kept.{Roomy, kept_nothing, kept_after};

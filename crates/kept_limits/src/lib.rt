@@ -1,5 +1,6 @@
 // Whether what a record keeps of dropped entries is within its limits.
 #![tactic(auto)]
+
 ghost use Rattle.std.specs.Prelude.{◌≡◌, eqb, drop};
 ghost use Rattle.lists.specs.Tests.{all_b};
 ghost use Rattle.protocol.specs.Limits.{total};

@@ -1,5 +1,6 @@
 // The last edit of a line in a list of words, as it is stored.
 #![tactic(auto)]
+
 ghost use Rattle.std.specs.Prelude.{◌≡◌, eqb};
 ghost use Rattle.protocol.specs.Entry.{line_of};
 ghost use Rattle.protocol.specs.Codes.{cell, of_cell};

@@ -1,5 +1,6 @@
 // The limit of lengths with dropped entries included, for a record and a message alike.
 #![tactic(auto)]
+
 ghost use Rattle.std.specs.Prelude.{◌≡◌, true, map};
 ghost use Rattle.lists.specs.Tests.{all_b};
 ghost use Rattle.protocol.specs.Limits.{lengths_fine};

@@ -1,5 +1,6 @@
 // The limits of the numbers that founding is given, which a record and a message keep: the offices, which of them is the own, and the weights.
 #![tactic(auto)]
+
 ghost use Rattle.std.specs.Prelude.{◌≡◌, eqb, drop};
 ghost use Rattle.lists.specs.Tests.{all_b};
 ghost use Rattle.protocol.specs.Limits.{is_office, total, head_fine};

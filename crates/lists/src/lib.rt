@@ -1,5 +1,6 @@
 // Tests of lists are in specs/, their laws and those of the loops over lists in proofs/.
 #![tactic(auto)]
+
 ghost use Rattle.std.specs.Prelude.{◌≡◌, min};
 ghost use Rattle.lists.specs.Tests.{same};
 

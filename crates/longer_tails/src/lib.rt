@@ -1,5 +1,6 @@
 // Whether a tail begins with words and is longer: by this test alone a ballot is kept beside a longer log, and an offer adopted.
 #![tactic(auto)]
+
 ghost use Rattle.std.specs.Prelude.{◌≡◌};
 ghost use Rattle.protocol.specs.Beginning.{extends};
 

@@ -4,8 +4,8 @@
 --     not-lost         .. → NotLost start cs             all-or-none    .. → AllOrNone start cs             proofs/LostForGood.antt
 --     at-most-once     .. → AtMostOnce start cs                                                             proofs/AtMost.antt
 --     told-lost        .. → ToldLost start cs                                                               proofs/Told.antt
--- What would be false, by lists of calls that are computed: proofs/Examples.antt. A settled log and a path begin with what their office had dropped
--- by then, and an entry is known by its place: e behind p, the entries before it. Assumes nothing.
+-- What would be false, by lists of calls that are computed: worked_histories, proofs/LostEdits.antt. A settled log and a path begin with what their
+-- office had dropped by then, and an entry is known by its place: e behind p, the entries before it. Assumes nothing.
 use Rattle.std.specs.Prelude.{◌≡◌, List, [], ◌∷◌, ◌++◌, Bool, false, ◌⊎◌, ◌↔◌, ℕ, ◌+◌, ◌≤◌, eqb, ltb, length}
 use Rattle.std.proofs.Math.Option.{some}
 use Rattle.lists.specs.Tests.{both, pick, times}

@@ -1,6 +1,7 @@
 // Take's work on ballots. With the settled logs comparable, a path is compared with a longer log by its tail and the words by which that
 // log is longer, so that no path is ever put together.
 #![tactic(auto)]
+
 ghost use Rattle.std.specs.Prelude.{◌≡◌, map, ◌≤◌, ◌<◌, eqb, length, get_or, set};
 ghost use Rattle.lists.specs.Tests.{pick};
 ghost use Rattle.ballots.specs.Ballots.{tail_of, ballot_of, off_end};

@@ -1,5 +1,6 @@
 // The head of a message: whether its fields are within the limits, and what they say.
 #![tactic(auto)]
+
 ghost use Rattle.std.specs.Prelude.{◌≡◌, ◌+◌, ◌*◌, ◌≤◌, length, drop};
 ghost use Rattle.numbers.specs.Numbers.{be16, run_at};
 ghost use Rattle.message_heads.specs.Heads.{head_within, eight_weights, head_reading};

@@ -1,5 +1,6 @@
 // The weights after the moves of a log.
 #![tactic(auto)]
+
 ghost use Rattle.std.specs.Prelude.{◌≡◌, length};
 ghost use Rattle.lists.specs.Tests.{all_b};
 ghost use Rattle.protocol.specs.Moves.{move, weights_after};

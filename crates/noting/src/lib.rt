@@ -1,5 +1,6 @@
 // What an office knows of the others' settled lengths: the least of them, and the longest heard of each.
 #![tactic(auto)]
+
 ghost use Rattle.std.specs.Prelude.{◌≡◌, ◌-◌, ◌<◌, ◌≤◌, min, eqb};
 ghost use Rattle.lists.specs.Tests.{pick};
 ghost use Rattle.protocol.specs.Folding.{least_known, note};

@@ -1,6 +1,7 @@
 // Numbers in bytes, most significant byte first, read at a position. The functions are public only for the crates above, which prove the room that
 // each requires.
 #![tactic(auto)]
+
 ghost use Rattle.std.specs.Prelude.{◌≡◌, ◌+◌, ◌<◌, ◌≤◌, length, drop};
 ghost use Rattle.numbers.specs.Numbers.{be16, be32, be64};
 

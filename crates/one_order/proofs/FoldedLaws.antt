@@ -6,9 +6,9 @@
 use mathlib.Core.Path.{◌≡◌, refl, sym, ap, ap₂, subst, ◌∙◌}
 use mathlib.Core.List.{List, [], ◌∷◌}
 use mathlib.Core.Option.{some}
-use Prim.Native.Nat.{ℕ, zero, suc, ◌+◌, ◌-◌, ◌≤◌, ◌<◌}
+use Prim.Native.Nat.{ℕ, zero, suc, ◌+◌, ◌-◌, ◌<◌}
 use native.Mathlib.Omega.{arith}
-use lib.ListN.{length, get_elem?, length-drop}
+use lib.ListN.{length, get_elem?}
 use borrow.Author.Tests.{ne_eqb, le-ltb}
 use Rattle.lists.specs.Tests.{pick}
 use Rattle.protocol.specs.Beginning.{◌⊑◌, extends}
@@ -18,9 +18,7 @@ use Rattle.protocol.specs.Take.{rebase, catch_up, with_take, refuse_take}
 use Rattle.protocol.specs.Elect.{elect_count}
 use Rattle.protocol.specs.Folding.{FoldedOffice, Packet, settled_length, shorn, caught_up, from_there, note, with_folded_elect, with_folded_take, refuse_folded_take}
 use Rattle.lists.proofs.Tests.{if-cases}
-use Rattle.protocol_laws.proofs.Beginning.{⊑-length}
 use Rattle.one_order.proofs.Lawful.{from-lawful, settled-lawful}
-use Rattle.protocol_laws.proofs.Office.{take-moves}
 use Rattle.one_order.proofs.Twice.{take_twice, elect-twice}
 use Rattle.one_order.proofs.Swap.{EitherOrder, Swaps, either_order}
 use Rattle.protocol.proofs.Effects.{effect_of}

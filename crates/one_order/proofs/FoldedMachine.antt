@@ -4,21 +4,16 @@
 -- Assumes nothing.
 use mathlib.Core.Path.{◌≡◌, refl, sym, ap, subst, ◌∙◌}
 use mathlib.Core.List.{List, [], ◌∷◌}
-use mathlib.Core.Bool.{true}
-use mathlib.Core.Logic.{◌⊎◌}
 use Prim.Native.Nat.{ℕ, ◌<◌, ◌≤◌}
-use Rattle.protocol.specs.Beginning.{◌⊑◌}
 use Rattle.protocol.specs.Vote.{Rule}
 use Rattle.protocol.specs.SettledRule.{by_settled}
-use Rattle.protocol.proofs.World as P
-use Rattle.one_order.proofs.History as H
 use Rattle.one_order.proofs.Lawful.{settled-lawful}
 use Rattle.one_order.proofs.Machine.{Machine, runs, Follows, reached, OneOrderOf, one-order-machine}
 use Rattle.protocol.proofs.FoldedWorld as F
 use Rattle.one_order.proofs.FoldedSound as S
 use Rattle.one_order.proofs.FoldedMoves.{moves}
 use Rattle.one_order.proofs.FoldedKeeps.{keeps, starts, sound-start}
-use Rattle.one_order.proofs.FoldedOrder.{is-issue, never, meets, takes, shared}
+use Rattle.one_order.proofs.FoldedOrder.{is-issue, never}
 
 pub record Folder (founding : List ℕ) (n : ℕ) : Type 1 where
   pub W : Type 0

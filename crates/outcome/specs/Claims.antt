@@ -1,7 +1,7 @@
 -- What is claimed of a report, at one office. The theorems are in proofs/Claims.antt:
---     three-parts     (before after : Record) (words rest : List ℕ) → report_of before after words rest .number ≡ 0 → ThreeParts before after words rest
+--     three-parts     (before after : Record) (words rest : List ℕ) → (report_of before after words rest).number ≡ 0 → ThreeParts before after words rest
 --     refusals        (before after : Record) (words rest : List ℕ) → Refusals before after words rest
---     after-call      (r : Record) (words : List ℕ) (r' : Record) (words' : List ℕ) → sound_b r words ≡ true → Called r words r' words'
+--     after_call      (r : Record) (words : List ℕ) (r' : Record) (words' : List ℕ) → sound_b r words ≡ true → Called r words r' words'
 --                         → (rest : List ℕ) → AfterCall r words r' words' rest
 --     fold-loses-nothing    (r : Record) (words rest : List ℕ) → let a = report_of r (fold_of r words).«record» (fold_words r words) rest in
 --                               (a.settled ≡ 0) × (a.lost ≡ 0)

@@ -1,6 +1,7 @@
 // What became of an edit: of the own office's entries that were pending before a take, elect or fold, how many settled, which are pending still and
 // which are lost. A call above `frame`, `taking` and `folding`, which uses only what their calls promise.
 #![tactic(auto)]
+
 ghost use Rattle.std.specs.Prelude.{◌≡◌, ◌≤◌};
 ghost use Rattle.outcome.specs.Outcome.{follows, report_of, report_words};
 

@@ -1,5 +1,6 @@
 // Whether each office has at most its part of a tail.
 #![tactic(auto)]
+
 ghost use Rattle.std.specs.Prelude.{◌≡◌, ◌≤◌, take};
 ghost use Rattle.protocol.specs.Fair.{fair};
 ghost use Rattle.parts.specs.Bytes.{Holding, low_bytes};

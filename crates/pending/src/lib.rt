@@ -1,5 +1,6 @@
 // What became of an office's pending entries: by its tail before a call, and by the log's words from there on and its tail after the call.
 #![tactic(auto)]
+
 ghost use Rattle.std.specs.Prelude.{◌≡◌, ◌++◌, ◌∷◌, [], ◌+◌, ◌≤◌, length};
 ghost use Rattle.std.proofs.lemmas.List.Edits.{sets};
 ghost use Rattle.own_entries.specs.Parts.{common, entries_of};

@@ -1,5 +1,5 @@
 -- Request (xiv), folding the old part of the log: what is claimed of every fold. The theorems are in proofs/Folds:
---     drops-known    (r : Record) (words : List ℕ) → fold_of r words .number ≡ 0 → DropsKnown r words
+--     drops-known    (r : Record) (words : List ℕ) → (fold_of r words).number ≡ 0 → DropsKnown r words
 --     fold-shows     (r : Record) (words : List ℕ) → ShowsSame r words
 --     fold-twice     (r : Record) (words : List ℕ) → DropsNoMore r words
 -- The last two are of every record, since a refused fold leaves it. Assumes nothing.

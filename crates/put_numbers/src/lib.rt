@@ -1,6 +1,7 @@
 // Numbers in bytes, most significant byte first, written at a position. The functions are public only for the crates above, which prove the room
 // that each requires.
 #![tactic(auto)]
+
 ghost use Rattle.std.specs.Prelude.{◌≡◌, ◌+◌, ◌≤◌, length};
 ghost use Rattle.std.proofs.lemmas.List.Edits.{sets};
 ghost use Rattle.numbers.specs.Numbers.{bytes16, bytes32, bytes64};

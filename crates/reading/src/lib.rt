@@ -1,5 +1,6 @@
 // Reading a message: what it says, or a refusal.
 #![tactic(auto)]
+
 ghost use Rattle.std.specs.Prelude.{◌≡◌};
 ghost use Rattle.spelling.specs.Reading.{reading};
 ghost use Rattle.reading.specs.Read.{log_within, reading_of};

@@ -1,5 +1,6 @@
 // What a message says, as the engine holds it; and the answer for bytes that are no message.
 #![tactic(auto)]
+
 ghost use Rattle.std.specs.Prelude.{◌≡◌};
 ghost use Rattle.readings.specs.Read.{bad_reading};
 

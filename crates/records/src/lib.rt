@@ -1,5 +1,6 @@
 // One record of a message, read at a position by its layout alone: a log record, and the end.
 #![tactic(auto)]
+
 ghost use Rattle.std.specs.Prelude.{◌≡◌, ◌+◌, ◌≤◌, length, drop};
 ghost use Rattle.spelling.specs.Reading.{record_here, record_at, end_ok};
 ghost use Rattle.records.specs.Steps.{bad_log, log_at, entry_at, end_at};

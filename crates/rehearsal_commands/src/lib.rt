@@ -31,7 +31,7 @@ pub enum Parsed {
     Other,
 }
 
-// What a line says. The weights are those of a founding, "the rest zero"; an enum cannot hold an array.
+// What a line says. The weights are those of a founding, "the rest zero".
 #[derive(Clone, Copy)]
 pub struct Line {
     pub parsed: Parsed,

@@ -1,5 +1,6 @@
 // The line that is held until its newline comes.
 #![tactic(auto)]
+
 ghost use Rattle.std.specs.Prelude.{◌≡◌, ◌++◌, eqb, length};
 ghost use Rattle.rehearsal_lines.specs.Held.{line_held, held_of, nothing};
 

@@ -1,5 +1,6 @@
 // The message slots of a rehearsal, and the lengths of their messages after a send.
 #![tactic(auto)]
+
 ghost use Rattle.std.specs.Prelude.{◌≡◌};
 ghost use Rattle.rehearsal_slots.specs.Pieces.{sent_lengths};
 

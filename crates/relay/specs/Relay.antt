@@ -1,8 +1,8 @@
 -- Request (vi): "Relay stations repeat messages and swap them." What that leaves of an office's record and log. The theorems:
---     take-twice      (d : Replica) (s : List ℕ) → Accepts d s → TakeTwice d s                                    proofs/Twice.antt
+--     take_twice      (d : Replica) (s : List ℕ) → Accepts d s → TakeTwice d s                                    proofs/Twice.antt
 --     elect-twice     (d : Replica) → sound_b d.held d.words ≡ true → ElectTwice d                           proofs/Twice.antt
 --     never-unsettles (d : Replica) (s : List ℕ) → NeverUnsettles d (taken d s)                                   proofs/Twice.antt
---     either-order    (n : ℕ) (weights : List ℕ) (start : World) → Founded n weights start
+--     either_order    (n : ℕ) (weights : List ℕ) (start : World) → Founded n weights start
 --                     → (cs : List Call) → EitherOrder (after start cs)                                           proofs/Swap.antt
 -- A `Replica` is a record with the words of its log and the entries that it has dropped, and `says` is what they hold: the settled log, dropped
 -- entries included, and the tails of the ballots. Take and elect are those that the contracts of `taking` and `frame` cite; `taken` and `elected` are

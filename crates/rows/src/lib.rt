@@ -1,5 +1,6 @@
 // How the next place stands, by the votes that eight ballots cast: a row for each supported entry, and which offices are silent.
 #![tactic(auto)]
+
 ghost use Rattle.std.specs.Prelude.{◌≡◌, cond, ◌≤◌, ◌<◌, take};
 ghost use Rattle.tallies.specs.Tallies.{vote_in, votes_in, weight_for};
 ghost use Rattle.lists.specs.Padded.{in_eight};

@@ -1,5 +1,6 @@
 // Sending the record's message: a call above `frame`.
 #![tactic(auto)]
+
 ghost use Rattle.std.specs.Prelude.{◌≡◌};
 ghost use Rattle.sending.specs.Sending.{send_of, send_bytes};
 

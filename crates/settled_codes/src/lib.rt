@@ -1,5 +1,6 @@
 // The last edit of each of the 64 lines, as it is stored: after the entries of a log, and compared.
 #![tactic(auto)]
+
 ghost use Rattle.std.specs.Prelude.{◌≡◌, ◌++◌, replicate, take};
 ghost use Rattle.std.proofs.Math.Option.{some};
 ghost use Rattle.lists.specs.Tests.{same};

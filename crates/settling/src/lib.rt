@@ -1,5 +1,6 @@
 // The settled part of the lent log that is not dropped: a call above `frame`.
 #![tactic(auto)]
+
 ghost use Rattle.std.specs.Prelude.{◌≡◌};
 ghost use Rattle.settling.specs.Settling.{settled_of, settled_number};
 

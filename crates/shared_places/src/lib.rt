@@ -1,5 +1,6 @@
 // Request (viii): two settled logs compared from their ends, the office's own and a message's.
 #![tactic(auto)]
+
 ghost use Rattle.std.specs.Prelude.{◌≡◌, ◌*◌, ◌≤◌, length, take};
 ghost use Rattle.numbers.specs.Numbers.{run_at};
 ghost use Rattle.spelling.specs.Reading.{record_at};

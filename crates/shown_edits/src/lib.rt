@@ -1,5 +1,6 @@
 // What a frame shows for a line: a code, or no edit yet; and what a stored code says.
 #![tactic(auto)]
+
 ghost use Rattle.std.specs.Prelude.{◌≡◌};
 ghost use Rattle.shown_edits.specs.Shown.{stored_edit};
 

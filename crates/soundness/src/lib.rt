@@ -1,5 +1,6 @@
 // When a record with its log is sound, by the record's fields.
 #![tactic(auto)]
+
 ghost use Rattle.std.specs.Prelude.{◌≡◌, leb};
 ghost use Rattle.lists.specs.Tests.{both};
 ghost use Rattle.protocol.specs.Limits.{head_fine};

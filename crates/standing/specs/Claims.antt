@@ -1,14 +1,14 @@
 -- What is claimed of how the next place stands. The theorems are in proofs/Claims:
---     shows            (r : Record) (words : List ℕ) → standing_of r words .number ≡ 0 → Shows r words (standing_of r words)
---     decides          (r : Record) (words : List ℕ) → standing_of r words .number ≡ 0 → Decides r words (standing_of r words)
+--     shows            (r : Record) (words : List ℕ) → (standing_of r words).number ≡ 0 → Shows r words (standing_of r words)
+--     decides          (r : Record) (words : List ℕ) → (standing_of r words).number ≡ 0 → Decides r words (standing_of r words)
 --     one-vote-more    (r s : Record) (words words' : List ℕ) (k e : ℕ)
---                          → standing_of r words .number ≡ 0 → standing_of s words' .number ≡ 0 → OneVoteMore r words s words' k e
+--                          → (standing_of r words).number ≡ 0 → (standing_of s words').number ≡ 0 → OneVoteMore r words s words' k e
 --                          → Adds (standing_of r words) (standing_of s words') k e (weight_of r.summary.present k)
---     same-log         (r s : Record) (words words' : List ℕ) → standing_of r words .number ≡ 0 → standing_of s words' .number ≡ 0
---                          → r.kept ≡ s.kept → held_by r words .log ≡ held_by s words' .log → r.summary.present ≡ s.summary.present
+--     same_log         (r s : Record) (words words' : List ℕ) → (standing_of r words).number ≡ 0 → (standing_of s words').number ≡ 0
+--                          → r.kept ≡ s.kept → (held_by r words).log ≡ (held_by s words').log → r.summary.present ≡ s.summary.present
 --     ballot-heard     (r : Record) (words : List ℕ) (k e : ℕ) (b : Ballot) (t : List ℕ)
---                          → k < r.n → get_or r.ballots k off_end .len ≡ 0 → tail_of b ≡ e ∷ t
---                          → standing_of r words .number ≡ 0 → standing_of (with_ballot r k b) words .number ≡ 0
+--                          → k < r.n → (get_or r.ballots k off_end).len ≡ 0 → tail_of b ≡ e ∷ t
+--                          → (standing_of r words).number ≡ 0 → (standing_of (with_ballot r k b) words).number ≡ 0
 --                          → Adds (standing_of r words) (standing_of (with_ballot r k b) words) k e (weight_of r.summary.present k)
 --     refused-zeros    (r : Record) (words : List ℕ) → ((standing_of r words).number ≡ 0 → ⊥) → standing_of r words ≡ refused
 -- Assumes nothing.

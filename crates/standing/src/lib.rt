@@ -1,5 +1,6 @@
 // How the next place stands: what a record's ballots say of the next election step.
 #![tactic(auto)]
+
 ghost use Rattle.std.specs.Prelude.{◌≡◌};
 ghost use Rattle.standing.specs.Standing.{standing_of};
 

@@ -1,5 +1,6 @@
 // What the entries of a settled log have done, as a record holds it: the weights after its moves, and the last edit of each line.
 #![tactic(auto)]
+
 ghost use Rattle.std.specs.Prelude.{◌≡◌};
 ghost use Rattle.summary.specs.Summary.{start_with, summary_after, summary_next, same_summary};
 

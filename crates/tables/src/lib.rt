@@ -1,5 +1,6 @@
 // The 2197 ballot tables of three offices with tails of 0 to 2 entries, by their place in the list.
 #![tactic(auto)]
+
 ghost use Rattle.std.specs.Prelude.{◌≡◌, map, ◌<◌};
 ghost use Rattle.protocol.specs.Entry.{value};
 ghost use Rattle.ballots.specs.Ballots.{ballot_of};

@@ -1,5 +1,6 @@
 // Taking a message: a call above `frame`.
 #![tactic(auto)]
+
 ghost use Rattle.std.specs.Prelude.{◌≡◌, ◌+◌, ◌<◌, ◌≤◌};
 ghost use Rattle.frame.specs.State.{state_in, with_kept, with_noted, with_state};
 ghost use Rattle.taking.specs.Taking.{take_of, take_words};

@@ -1,5 +1,6 @@
 // One election step: the entry that wins by eight votes, their weights and the offices' counts of entries.
 #![tactic(auto)]
+
 ghost use Rattle.std.specs.Prelude.{◌≡◌, cond, ◌≤◌};
 ghost use Rattle.protocol.specs.Counts.{quieter_by};
 ghost use Rattle.protocol.specs.Vote.{tally, unheard, supported, beats_all, winner};

@@ -1,5 +1,6 @@
 // The parts of a text that a mark ends.
 #![tactic(auto)]
+
 ghost use Rattle.std.specs.Prelude.{◌≡◌, ◌+◌, drop};
 ghost use Rattle.text_parts.specs.Parts.{part_length};
 

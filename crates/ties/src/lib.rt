@@ -1,5 +1,6 @@
 // Which of two entries is above the other: by two weights, and in a tie the one whose office has fewer settled entries, then the lower value.
 #![tactic(auto)]
+
 ghost use Rattle.std.specs.Prelude.{◌≡◌};
 ghost use Rattle.protocol.specs.Entry.{office_of};
 ghost use Rattle.protocol.specs.Counts.{count_of, quieter_by};

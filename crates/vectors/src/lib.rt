@@ -1,5 +1,6 @@
 // The vectors of an office's versions, written to a buffer. The functions are public only for the crates above, which prove what each requires.
 #![tactic(auto)]
+
 ghost use Rattle.std.specs.Prelude.{◌≡◌, ◌+◌, ◌*◌, ◌≤◌, length, take};
 ghost use Rattle.std.proofs.lemmas.List.Edits.{sets};
 ghost use Rattle.numbers.specs.Numbers.{bytes64, run};

@@ -1,6 +1,7 @@
 // A vector read and compared with those of an office's versions. The functions are public only for the crate above, which proves what each
 // requires.
 #![tactic(auto)]
+
 ghost use Rattle.std.specs.Prelude.{◌≡◌, ◌++◌, ◌-◌, ◌*◌, ◌≤◌, length, replicate, take};
 ghost use Rattle.vectors.specs.Vectors.{Countable, versions_in};
 ghost use Rattle.versions.specs.Versions.{answers_to, compared_to, counts_in, is_vector, nine};

@@ -1,5 +1,6 @@
 // The vote that a ballot casts, the votes of eight ballots, and a ballot without the entry that was settled.
 #![tactic(auto)]
+
 ghost use Rattle.std.specs.Prelude.{◌≡◌, true, map, ◌≤◌, drop};
 ghost use Rattle.ballots.specs.Ballots.{tail_of, ballot_of, ballot_shape};
 ghost use Rattle.tallies.specs.Tallies.{cast};

@@ -1,5 +1,6 @@
 // An entry as a 32-bit word: its value, and the parts of a word.
 #![tactic(auto)]
+
 ghost use Rattle.std.specs.Prelude.{◌≡◌, ◌<◌};
 ghost use Rattle.protocol.specs.Entry.{value, office_of, line_of, code_of};
 

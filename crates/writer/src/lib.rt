@@ -1,5 +1,6 @@
 // Writing the message of a record to a buffer. `write` is public only for the crate above, which proves what it requires.
 #![tactic(auto)]
+
 ghost use Rattle.std.specs.Prelude.{◌≡◌, ◌+◌, ◌*◌, ◌<◌, ◌≤◌, length, take};
 ghost use Rattle.std.proofs.lemmas.List.Edits.{sets};
 ghost use Rattle.ballots.specs.Ballots.{tail_of};

@@ -1,7 +1,6 @@
 -- The tests of the definition, in its order; the logs come last.
 use mathlib.Core.Bool.{false}
 use mathlib.Core.Path.{◌≡◌, refl, sym, ◌∙◌}
-use borrow.Author.Rules.{rules}
 use borrow.Author.Tests.{not-true, not-false}
 use Rattle.lists.specs.Tests.{pick}
 use Rattle.shared_places.specs.FromEnd.{compares}

@@ -1,8 +1,6 @@
 -- The refusals in the order of their numbers; what the leaf requires is in every sound record, and in bytes that are a vector.
 use mathlib.Core.Path.{◌≡◌, sym, ◌∙◌}
 use mathlib.Core.Bool.{true}
-use borrow.Author.Rules.{rules}
-use borrow.Author.Tests.{not-true, not-false}
 use Rattle.versions.specs.Versions.{is_vector}
 use Rattle.versions.proofs.Order.{sized}
 use Rattle.frame.specs.Soundness.{Sound, sound_b}

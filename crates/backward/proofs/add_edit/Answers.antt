@@ -1,5 +1,4 @@
 -- The line has an edit, or it is not named: nothing is stored. Else the word's.
-use borrow.Author.Rules.{rules}
 use Rattle.backward.proofs.Cells.{added-kept, added-stored}
 use Rattle.backward.proofs.add_edit.Goals as goal
 

@@ -1,9 +1,9 @@
 use borrow.Author.Rules.{rules}
 use mathlib.Core.Path.{◌≡◌, refl}
-use Prim.Native.Nat.{◌-◌, ◌≤◌}
+use Prim.Native.Nat.{◌≤◌}
 use native.Mathlib.Omega.{arith}
 use lib.ListN.{length, get_or}
-use Rattle.backward.proofs.Placed.{named-at, Placing, placing-again, placing-ends}
+use Rattle.backward.proofs.Placed.{named-at, placing-again, placing-ends}
 use Rattle.backward.proofs.answers.Goals as goal
 
 pub loop-i-init : goal.loop-i-init

@@ -1,8 +1,8 @@
 use borrow.Author.Rules.{rules}
-use Prim.Native.Nat.{ℕ, ◌-◌, ◌≤◌}
+use Prim.Native.Nat.{ℕ, ◌≤◌}
 use native.Mathlib.Omega.{arith}
-use lib.ListN.{length, get_or}
-use Rattle.backward.proofs.Cells.{lacking-most, Asking, asking-begins, asking-again, asking-ends}
+use lib.ListN.{get_or}
+use Rattle.backward.proofs.Cells.{lacking-most, asking-begins, asking-again, asking-ends}
 use Rattle.backward.proofs.Placed.{named-at}
 use Rattle.backward.proofs.ask.Goals as goal
 

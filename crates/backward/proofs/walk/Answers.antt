@@ -1,9 +1,8 @@
-use borrow.Author.Rules.{rules}
 use mathlib.Core.Path.{◌≡◌}
-use mathlib.Core.Logic.{◌⊎◌, inl, inr, ⊎_elim}
+use mathlib.Core.Logic.{◌⊎◌, inl, inr}
 use Prim.Native.Nat.{suc, ◌-◌}
 use native.Mathlib.Omega.{arith}
-use Rattle.backward.proofs.Cells.{Walking, walking-begins, walking-again, new-within, walking-ends}
+use Rattle.backward.proofs.Cells.{walking-begins, walking-again, new-within, walking-ends}
 use Rattle.backward.proofs.walk.Goals.{else-loop-left-test, then-loop-left-test+then-end-eq0}
 use Rattle.backward.proofs.walk.Goals as goal
 
@@ -28,10 +27,10 @@ pub returns : goal.returns
 returns c =
     let l = c.loop-left in
     let over : (l.left ≡ 0) ⊎ (l.end ≡ 0) =
-        elim c.loop-left-test.branch [
-          else-loop-left-test w ↦ inl (omega (arith, w.loop-left-test.false))
-          | then-loop-left-test+then-end-eq0 w ↦ inr w.if-end-eq0.true
-        ] in
+    elim c.loop-left-test.branch [
+      | else-loop-left-test w ↦ inl (omega (arith, w.loop-left-test.false))
+      | then-loop-left-test+then-end-eq0 w ↦ inr w.if-end-eq0.true
+    ] in
     walking-ends c.args.lines.now c.args.words.now c.requires l.left l.cells l.end l.invariant over c.args.codes _ c.answers-edits.ensures
 
 pub add_edit-left-requires : goal.add_edit-left-requires

@@ -1,5 +1,4 @@
 -- The definition, field by field.
-use borrow.Author.Rules.{rules}
 use Rattle.ballot_records.specs.BallotSteps.{bad_ballot}
 use Rattle.ballot_records.proofs.bad_ballot.Goals as goal
 

@@ -4,7 +4,6 @@ use mathlib.Core.Bool.{true}
 use mathlib.Core.Path.{◌∙◌, ◌≡◌, sym}
 use native.Mathlib.Omega.{arith}
 use lib.ListN.{drop, length}
-use borrow.Author.Rules.{rules}
 use Rattle.spelling.specs.Reading.{ballot_next}
 use Rattle.ballot_records.proofs.Ballots.{step_cut, step-long, step-none, step-read, step_room, step-short}
 use Rattle.ballot_records.proofs.ballot_at.Goals.{Then-ballot_next}

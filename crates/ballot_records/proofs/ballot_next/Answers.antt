@@ -1,6 +1,5 @@
 -- Each failing test shows that no mark stands at the position, or no room for it; past them the office decides.
 use native.Mathlib.Omega.{arith}
-use borrow.Author.Rules.{rules}
 use Rattle.records.proofs.Marks.{next-no, next-yes}
 use Rattle.ballot_records.proofs.ballot_next.Goals as goal
 

@@ -1,10 +1,6 @@
-use Prim.Native.Nat.{◌-◌}
 use mathlib.Core.Path.{◌∙◌}
-use lib.ListN.{replicate}
-use borrow.Author.Rules.{rules}
-use Rattle.numbers.specs.Numbers.{be32}
 use Rattle.numbers.proofs.Runs.{run_at-length}
-use Rattle.numbers.proofs.Steps.{Filling, filling-again, filling-begins, filling-ends}
+use Rattle.numbers.proofs.Steps.{filling-again, filling-begins, filling-ends}
 use Rattle.ballot_records.proofs.values_at.Goals as goal
 
 pub returns : goal.returns

@@ -1,11 +1,7 @@
 -- The invariant: what is left to store from the position on gives all that is to be stored.
-use Prim.Native.Nat.{◌-◌}
-use mathlib.Core.Path.{◌∙◌}
 use lib.ListN.{replicate}
-use borrow.Author.Rules.{rules}
 use Rattle.numbers.specs.Numbers.{be32}
-use Rattle.numbers.proofs.Runs.{run_at-length}
-use Rattle.numbers.proofs.Steps.{Filling, filling-again, filling-begins, filling-ends}
+use Rattle.numbers.proofs.Steps.{Filling}
 use Rattle.ballot_records.proofs.values_at.Given as goal
 
 abbrev pub invariant-loop-i : goal.invariant-loop-i

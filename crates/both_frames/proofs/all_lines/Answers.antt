@@ -1,7 +1,5 @@
 -- A sound record holds the codes of its settled log.
 use mathlib.Core.Path.{sym, ◌∙◌}
-use borrow.Author.Tests.{not-true, not-false}
-use borrow.Author.Rules.{rules}
 use Rattle.frame.proofs.Sound.{sound}
 use Rattle.both_frames.proofs.Shown.{lines-unsound, lines-shown}
 use Rattle.both_frames.proofs.all_lines.Goals as goal

@@ -2,8 +2,6 @@
 use native.Mathlib.Omega.{arith}
 use mathlib.Core.Bool.{true}
 use mathlib.Core.Path.{◌≡◌, sym, ◌∙◌}
-use borrow.Author.Tests.{not-true, not-false}
-use borrow.Author.Rules.{rules}
 use Rattle.frame.specs.Soundness.{sound_b}
 use Rattle.frame.proofs.Sound.{sound}
 use Rattle.both_frames.proofs.Shown.{frame-unsound, frame-shown, shown-past, shown-done, stored-shown}

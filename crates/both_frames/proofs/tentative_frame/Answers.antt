@@ -6,8 +6,6 @@ use mathlib.Core.List.{List, ◌++◌}
 use Prim.Native.Nat.{ℕ}
 use lib.ListN.{get_or}
 use lib.Seq.{length-take-le}
-use borrow.Author.Tests.{not-true, not-false}
-use borrow.Author.Rules.{rules}
 use Rattle.protocol.specs.Codes.{cell, of_cell}
 use Rattle.protocol.specs.Frames.{edit_after}
 use Rattle.ballots.specs.Ballots.{tail_of}

@@ -1,9 +1,8 @@
 use native.Mathlib.Omega.{arith}
 use mathlib.Core.Path.{◌≡◌, refl}
-use Prim.Native.Nat.{◌-◌, ◌≤◌}
-use lib.ListN.{length, take, drop}
+use Prim.Native.Nat.{◌≤◌}
+use lib.ListN.{length}
 use borrow.Author.Rules.{rules}
-use Rattle.bounds.specs.Bounds.{fits}
 use Rattle.bounds.proofs.Walks.{fit_next, fit-stop, fit-done}
 use Rattle.bounds.proofs.fit.Goals as goal
 

@@ -1,11 +1,8 @@
 -- A walk from the front: what is left of the bounds fits as all of them do.
-use native.Mathlib.Omega.{arith}
-use mathlib.Core.Path.{◌≡◌, refl}
-use Prim.Native.Nat.{◌-◌, ◌≤◌}
-use lib.ListN.{length, take, drop}
-use borrow.Author.Rules.{rules}
+use mathlib.Core.Path.{◌≡◌}
+use Prim.Native.Nat.{◌≤◌}
+use lib.ListN.{take, drop}
 use Rattle.bounds.specs.Bounds.{fits}
-use Rattle.bounds.proofs.Walks.{fit_next, fit-stop, fit-done}
 use Rattle.bounds.proofs.fit.Given as goal
 
 abbrev pub invariant-loop-i : goal.invariant-loop-i

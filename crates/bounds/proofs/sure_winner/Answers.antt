@@ -1,12 +1,9 @@
 use native.Mathlib.Omega.{arith}
 use mathlib.Core.Path.{◌≡◌, refl}
-use Prim.Native.Nat.{◌-◌, ◌≤◌}
-use lib.ListN.{length, take, drop}
+use Prim.Native.Nat.{◌≤◌}
+use lib.ListN.{length}
 use borrow.Author.Rules.{rules}
-use Rattle.protocol.specs.Counts.{quieter_by}
-use Rattle.protocol.specs.Vote.{supported, first_that}
-use Rattle.tallies.specs.Tallies.{winner_is, votes_in}
-use Rattle.bounds.specs.Bounds.{wins_worst, sure_winner}
+use Rattle.bounds.specs.Bounds.{sure_winner}
 use Rattle.bounds.proofs.Walks.{sure_next, sure-stop, sure-done}
 use Rattle.bounds.proofs.sure_winner.Goals as goal
 

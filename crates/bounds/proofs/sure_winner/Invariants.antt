@@ -1,14 +1,11 @@
 -- A walk from the front: the first among what is left of the votes is the first of all.
-use native.Mathlib.Omega.{arith}
-use mathlib.Core.Path.{◌≡◌, refl}
-use Prim.Native.Nat.{◌-◌, ◌≤◌}
-use lib.ListN.{length, take, drop}
-use borrow.Author.Rules.{rules}
+use mathlib.Core.Path.{◌≡◌}
+use Prim.Native.Nat.{◌≤◌}
+use lib.ListN.{take, drop}
 use Rattle.protocol.specs.Counts.{quieter_by}
 use Rattle.protocol.specs.Vote.{supported, first_that}
 use Rattle.tallies.specs.Tallies.{winner_is, votes_in}
 use Rattle.bounds.specs.Bounds.{wins_worst, sure_winner}
-use Rattle.bounds.proofs.Walks.{sure_next, sure-stop, sure-done}
 use Rattle.bounds.proofs.sure_winner.Given as goal
 
 abbrev pub invariant-loop-i : goal.invariant-loop-i

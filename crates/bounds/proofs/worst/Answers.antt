@@ -1,11 +1,8 @@
 use native.Mathlib.Omega.{arith}
 use mathlib.Core.Path.{◌≡◌, refl}
-use Prim.Native.Nat.{◌-◌, ◌≤◌}
-use lib.ListN.{length, take, replicate}
+use Prim.Native.Nat.{◌≤◌}
+use lib.ListN.{length}
 use borrow.Author.Rules.{rules}
-use Rattle.lists.proofs.Fill.{filled}
-use Rattle.tallies.specs.Tallies.{votes_in}
-use Rattle.bounds.specs.Bounds.{worst}
 use Rattle.bounds.proofs.Walks.{worst-next, worst-done}
 use Rattle.bounds.proofs.worst.Goals as goal
 

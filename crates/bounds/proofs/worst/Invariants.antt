@@ -1,13 +1,10 @@
 -- A walk that writes each office's weight over zeros.
-use native.Mathlib.Omega.{arith}
-use mathlib.Core.Path.{◌≡◌, refl}
-use Prim.Native.Nat.{◌-◌, ◌≤◌}
-use lib.ListN.{length, take, replicate}
-use borrow.Author.Rules.{rules}
+use mathlib.Core.Path.{◌≡◌}
+use Prim.Native.Nat.{◌≤◌}
+use lib.ListN.{take, replicate}
 use Rattle.lists.proofs.Fill.{filled}
 use Rattle.tallies.specs.Tallies.{votes_in}
 use Rattle.bounds.specs.Bounds.{worst}
-use Rattle.bounds.proofs.Walks.{worst-next, worst-done}
 use Rattle.bounds.proofs.worst.Given as goal
 
 abbrev pub invariant-loop-i : goal.invariant-loop-i

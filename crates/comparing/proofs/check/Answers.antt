@@ -1,5 +1,4 @@
 -- How far each log begins behind the other is `later`'s; the parts that are compared are the logs from there on.
-use borrow.Author.Rules.{rules}
 use borrow.Author.Tests.{not-true, not-false}
 use native.Mathlib.Omega.{arith}
 use mathlib.Core.Bool.{true, false, not}

@@ -1,5 +1,4 @@
 -- An office of 8 or more has no count, and the store of the definition leaves the others.
-use borrow.Author.Rules.{rules}
 use native.Mathlib.Omega.{arith}
 use mathlib.Core.Path.{ap}
 use Rattle.protocol.specs.Counts.{count_of}

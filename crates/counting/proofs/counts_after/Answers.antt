@@ -2,10 +2,9 @@ use borrow.Author.Rules.{rules}
 use native.Mathlib.Omega.{arith}
 use mathlib.Core.Path.{◌≡◌, refl, ap, ◌∙◌}
 use mathlib.Core.List.{List}
-use Prim.Native.Nat.{ℕ, ◌-◌, ◌<◌, ◌≤◌}
+use Prim.Native.Nat.{ℕ, ◌<◌}
 use lib.ListN.{length}
-use Rattle.lists.proofs.Fill.{filled}
-use Rattle.protocol.specs.Counts.{count_in, count_of, counts_after}
+use Rattle.protocol.specs.Counts.{count_in, count_of}
 use Rattle.protocol_laws.proofs.Counts.{count-of}
 use Rattle.counting.proofs.Counting.{counts-fit, counts-next, counts-done}
 use Rattle.counting.proofs.counts_after.Goals.{After-in_words-more}

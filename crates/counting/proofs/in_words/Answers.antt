@@ -1,8 +1,6 @@
 use borrow.Author.Rules.{rules}
 use native.Mathlib.Omega.{arith}
-use Prim.Native.Nat.{◌-◌, ◌≤◌}
-use lib.ListN.{length}
-use Rattle.counting.proofs.Tails.{Counting, tail-first, tail-room, tail-next, tail-done}
+use Rattle.counting.proofs.Tails.{tail-first, tail-room, tail-next, tail-done}
 use Rattle.counting.proofs.in_words.Goals as goal
 
 pub loop-i-init : goal.loop-i-init

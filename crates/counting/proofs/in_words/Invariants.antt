@@ -1,9 +1,7 @@
 -- A walk from the front: the cells hold the counts of the words so far.
-use borrow.Author.Rules.{rules}
-use native.Mathlib.Omega.{arith}
-use Prim.Native.Nat.{◌-◌, ◌≤◌}
+use Prim.Native.Nat.{◌≤◌}
 use lib.ListN.{length}
-use Rattle.counting.proofs.Tails.{Counting, tail-first, tail-room, tail-next, tail-done}
+use Rattle.counting.proofs.Tails.{Counting}
 use Rattle.counting.proofs.in_words.Given as goal
 
 abbrev pub invariant-loop-i : goal.invariant-loop-i

@@ -2,10 +2,7 @@ use borrow.Author.Rules.{rules}
 use native.Mathlib.Omega.{arith}
 use mathlib.Core.Path.{◌≡◌, refl, ◌∙◌}
 use mathlib.Core.List.{[], ◌∷◌}
-use Prim.Native.Nat.{◌-◌, ◌≤◌}
 use lib.ListN.{length}
-use Rattle.lists.proofs.Fill.{filled}
-use Rattle.protocol.specs.Counts.{counts_after}
 use Rattle.counting.proofs.Counting.{one_entry, after_one, counts-here, counts-next, counts-done}
 use Rattle.counting.proofs.one_more.Goals.{Start}
 use Rattle.counting.proofs.one_more.Goals as goal
@@ -23,8 +20,7 @@ overflow_add-next c =
 
 pub loop-k-preserved : goal.loop-k-preserved
 loop-k-preserved c =
-    let l = c.loop-k in
-    (
+    let l = c.loop-k in (
       search rules,
       counts-next c.args.counts (c.args.word ∷ []) l.next l.k (eight (goal.at.loop-k-preserved c).Start) l.invariant.1
           (omega arith) c.one_of.result (c.one_of.ensures.0 ∙ one_entry l.k c.args.word),

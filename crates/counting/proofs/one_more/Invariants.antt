@@ -1,13 +1,9 @@
 -- A walk over the offices: the first counts are those after a log of the one entry, the others still those before it.
-use borrow.Author.Rules.{rules}
-use native.Mathlib.Omega.{arith}
-use mathlib.Core.Path.{◌≡◌, refl, ◌∙◌}
+use mathlib.Core.Path.{◌≡◌}
 use mathlib.Core.List.{[], ◌∷◌}
-use Prim.Native.Nat.{◌-◌, ◌≤◌}
-use lib.ListN.{length}
+use Prim.Native.Nat.{◌≤◌}
 use Rattle.lists.proofs.Fill.{filled}
 use Rattle.protocol.specs.Counts.{counts_after}
-use Rattle.counting.proofs.Counting.{one_entry, after_one, counts-here, counts-next, counts-done}
 use Rattle.counting.proofs.one_more.Given as goal
 
 abbrev pub invariant-loop-k : goal.invariant-loop-k

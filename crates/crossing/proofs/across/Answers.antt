@@ -1,5 +1,4 @@
 -- In each arm the edit is what the pattern says.
-use borrow.Author.Rules.{rules}
 use Rattle.crossing.proofs.across.Goals as goal
 
 pub returns-in-Code : goal.returns-in-Code

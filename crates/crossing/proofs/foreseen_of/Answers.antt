@@ -1,5 +1,4 @@
 -- In each arm the winner is what the pattern says.
-use borrow.Author.Rules.{rules}
 use Rattle.crossing.specs.Foreseen.{foreseen_of}
 use Rattle.crossing.proofs.foreseen_of.Goals as goal
 

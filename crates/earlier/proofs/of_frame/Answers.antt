@@ -2,14 +2,12 @@ use borrow.Author.Rules.{rules}
 use borrow.Author.Tests.{leb-true, le-leb, ltb-true, lt-ltb}
 use native.Mathlib.Omega.{arith}
 use mathlib.Core.Path.{◌≡◌, refl}
-use mathlib.Core.Bool.{Bool}
-use Prim.Native.Nat.{ℕ, ◌-◌, ◌≤◌}
+use Prim.Native.Nat.{ℕ}
 use lib.Dec.{leb, ltb}
-use lib.ListN.{length, get_or}
+use lib.ListN.{get_or}
 use Rattle.lists.specs.Tests.{both}
 use Rattle.lists.proofs.Tests.{alike}
-use Rattle.lists.proofs.Walk.{AllWith, with-next, with-done}
-use Rattle.runs.specs.Runs.{of_frame}
+use Rattle.lists.proofs.Walk.{with-next, with-done}
 use Rattle.earlier.proofs.of_frame.Invariants.{is_line}
 use Rattle.earlier.proofs.of_frame.Goals as goal
 

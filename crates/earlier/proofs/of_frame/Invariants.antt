@@ -1,15 +1,9 @@
 -- A walk that makes every test, so that it runs on vectors.
-use borrow.Author.Rules.{rules}
-use borrow.Author.Tests.{leb-true, le-leb, ltb-true, lt-ltb}
-use native.Mathlib.Omega.{arith}
-use mathlib.Core.Path.{◌≡◌, refl}
 use mathlib.Core.Bool.{Bool}
-use Prim.Native.Nat.{ℕ, ◌-◌, ◌≤◌}
-use lib.Dec.{leb, ltb}
-use lib.ListN.{length, get_or}
-use Rattle.lists.specs.Tests.{both}
-use Rattle.lists.proofs.Tests.{alike}
-use Rattle.lists.proofs.Walk.{AllWith, with-next, with-done}
+use Prim.Native.Nat.{ℕ, ◌≤◌}
+use lib.Dec.{leb}
+use lib.ListN.{length}
+use Rattle.lists.proofs.Walk.{AllWith}
 use Rattle.runs.specs.Runs.{of_frame}
 use Rattle.earlier.proofs.of_frame.Given as goal
 

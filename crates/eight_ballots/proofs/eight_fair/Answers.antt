@@ -1,11 +1,10 @@
 use borrow.Author.Rules.{rules}
 use native.Mathlib.Omega.{arith}
 use mathlib.Core.Path.{◌≡◌, refl}
-use Prim.Native.Nat.{◌-◌, ◌≤◌}
 use lib.ListN.{length}
-use Rattle.lists.specs.Tests.{all_b, both}
+use Rattle.lists.specs.Tests.{both}
 use Rattle.lists.proofs.Tests.{all-at}
-use Rattle.lists.proofs.Walk.{AllWith, with-next, with-done}
+use Rattle.lists.proofs.Walk.{with-next, with-done}
 use Rattle.ballots.specs.Ballots.{off_end}
 use Rattle.eight_ballots.specs.Fours.{fair_tail, padded_entries}
 use Rattle.eight_ballots.proofs.eight_fair.Goals as goal

@@ -1,13 +1,8 @@
 -- A walk from the front that makes every test.
-use borrow.Author.Rules.{rules}
-use native.Mathlib.Omega.{arith}
-use mathlib.Core.Path.{◌≡◌, refl, ◌∙◌}
-use Prim.Native.Nat.{◌-◌, ◌≤◌}
-use lib.ListN.{length}
-use Rattle.lists.specs.Tests.{all_b, both}
-use Rattle.lists.proofs.Walk.{AllWith, with-next, with-done}
+use Prim.Native.Nat.{◌≤◌}
+use Rattle.lists.specs.Tests.{all_b}
+use Rattle.lists.proofs.Walk.{AllWith}
 use Rattle.protocol.specs.Entry.{is_entry}
-use Rattle.eight_ballots.proofs.Fours.{all-cells}
 use Rattle.eight_ballots.proofs.entry_cells.Given as goal
 
 abbrev pub invariant-loop-i : goal.invariant-loop-i

@@ -1,10 +1,10 @@
 use mathlib.Core.Path.{◌≡◌, refl, sym, ap, ◌∙◌}
 use mathlib.Core.Bool.{Bool, true, ◌&&◌}
-use Prim.Native.Nat.{ℕ, ◌-◌, ◌≤◌}
+use Prim.Native.Nat.{ℕ, ◌≤◌}
 use native.Mathlib.Omega.{arith}
 use lib.Dec.{ltb}
-use lib.ListN.{length, get_or, drop}
-use borrow.Author.Tests.{not-true, not-false, le-leb, lt-ltb, ltb-true}
+use lib.ListN.{length, get_or}
+use borrow.Author.Tests.{le-leb, lt-ltb, ltb-true}
 use borrow.Author.Rules.{rules}
 use Rattle.lists.specs.Tests.{both, all_b}
 use Rattle.lists.proofs.Tests.{all-mono, all-at, all_of, both_true, both-false-0, both-false-1, both-passed}
@@ -63,12 +63,12 @@ returns-then-not-four_unused c =
     let eight : length c.args.all ≡ 8 = search rules in
     let tests : ballots_fine c.args.n c.args.held c.args.all ≡ both (fit_from c.args.n c.args.held 0 c.args.all) (both (all_b (entry_cells c.args.n) c.args.all) (all_b (rest_fine c.args.n) c.args.all)) = fine-tests-all c.args.n c.args.held c.requires.0 c.requires.1.1 c.args.all eight in
     let fitting : fit_from c.args.n c.args.held 0 c.args.all ≡ true = let l = c.loop-i in sym (fit-done c.args.n c.args.held c.args.all l.fit l.i l.invariant.1 (omega (arith, c.loop-i-test.false, eight))) ∙ c.if-not-fit.false in
-    let entries-all : all_b (entry_cells c.args.n) c.args.all ≡ true = let n = c.args.n in 
-        elim c.if-not-four_coding.branch [
-          then-not-four_coding+else-not-eight_entries w ↦ sym w.eight_entries.ensures ∙ w.if-not-eight_entries.false
-          | else-not-four_coding w ↦ all-mono (coding_cells n) (entry_cells n) (coding-cells n) c.args.all
-              (sym (eight-tests (coding_cells n) c.args.all eight _ _ c.four_coding.ensures c.four_coding-2.ensures) ∙ w.if-not-four_coding.false)
-        ] in
+    let entries-all : all_b (entry_cells c.args.n) c.args.all ≡ true = let n = c.args.n in
+    elim c.if-not-four_coding.branch [
+      | then-not-four_coding+else-not-eight_entries w ↦ sym w.eight_entries.ensures ∙ w.if-not-eight_entries.false
+      | else-not-four_coding w ↦ all-mono (coding_cells n) (entry_cells n) (coding-cells n) c.args.all
+          (sym (eight-tests (coding_cells n) c.args.all eight _ _ c.four_coding.ensures c.four_coding-2.ensures) ∙ w.if-not-four_coding.false)
+    ] in
     let rest : both (all_b unused_zero c.args.all) (all_b (fair_tail c.args.n) c.args.all) ≡ ballots_fine c.args.n c.args.held c.args.all = all_both unused_zero (fair_tail c.args.n) c.args.all ∙ sym (tests ∙ both-passed _ _ _ fitting entries-all) in
     let unused : (c.four_unused.result && c.four_unused-2.result) ≡ all_b unused_zero c.args.all = eight-tests unused_zero c.args.all eight _ _ c.four_unused.ensures c.four_unused-2.ensures in
     sym (sym rest ∙ both-false-0 _ _ (sym unused ∙ c.if-not-four_unused.true))
@@ -79,14 +79,13 @@ eight_fair-requires c =
     let eight : length c.args.all ≡ 8 = search rules in
     let fitting : fit_from c.args.n c.args.held 0 c.args.all ≡ true = let l = c.loop-i in sym (fit-done c.args.n c.args.held c.args.all l.fit l.i l.invariant.1 (omega (arith, c.loop-i-test.false, eight))) ∙ c.if-not-fit.false in
     let few : (k : ℕ) → ltb k 8 ≡ true → (get_or c.args.all k off_end).len ≤ 32 = λ k h. fit-few c.args.n c.args.held 0 c.args.all fitting k (omega (arith, ltb-true k 8 h, eight)) in
-    let entries-all : all_b (entry_cells c.args.n) c.args.all ≡ true = let n = c.args.n in 
-        elim c.if-not-four_coding.branch [
-          then-not-four_coding+else-not-eight_entries w ↦ sym w.eight_entries.ensures ∙ w.if-not-eight_entries.false
-          | else-not-four_coding w ↦ all-mono (coding_cells n) (entry_cells n) (coding-cells n) c.args.all
-              (sym (eight-tests (coding_cells n) c.args.all eight _ _ c.four_coding.ensures c.four_coding-2.ensures) ∙ w.if-not-four_coding.false)
-        ] in
-    let unused : (c.four_unused.result && c.four_unused-2.result) ≡ all_b unused_zero c.args.all = eight-tests unused_zero c.args.all eight _ _ c.four_unused.ensures c.four_unused-2.ensures in
-    (
+    let entries-all : all_b (entry_cells c.args.n) c.args.all ≡ true = let n = c.args.n in
+    elim c.if-not-four_coding.branch [
+      | then-not-four_coding+else-not-eight_entries w ↦ sym w.eight_entries.ensures ∙ w.if-not-eight_entries.false
+      | else-not-four_coding w ↦ all-mono (coding_cells n) (entry_cells n) (coding-cells n) c.args.all
+          (sym (eight-tests (coding_cells n) c.args.all eight _ _ c.four_coding.ensures c.four_coding-2.ensures) ∙ w.if-not-four_coding.false)
+    ] in
+    let unused : (c.four_unused.result && c.four_unused-2.result) ≡ all_b unused_zero c.args.all = eight-tests unused_zero c.args.all eight _ _ c.four_unused.ensures c.four_unused-2.ensures in (
       c.requires.0,
       (
         c.requires.1.0,
@@ -102,12 +101,12 @@ returns c =
     let eight : length c.args.all ≡ 8 = search rules in
     let tests : ballots_fine c.args.n c.args.held c.args.all ≡ both (fit_from c.args.n c.args.held 0 c.args.all) (both (all_b (entry_cells c.args.n) c.args.all) (all_b (rest_fine c.args.n) c.args.all)) = fine-tests-all c.args.n c.args.held c.requires.0 c.requires.1.1 c.args.all eight in
     let fitting : fit_from c.args.n c.args.held 0 c.args.all ≡ true = let l = c.loop-i in sym (fit-done c.args.n c.args.held c.args.all l.fit l.i l.invariant.1 (omega (arith, c.loop-i-test.false, eight))) ∙ c.if-not-fit.false in
-    let entries-all : all_b (entry_cells c.args.n) c.args.all ≡ true = let n = c.args.n in 
-        elim c.if-not-four_coding.branch [
-          then-not-four_coding+else-not-eight_entries w ↦ sym w.eight_entries.ensures ∙ w.if-not-eight_entries.false
-          | else-not-four_coding w ↦ all-mono (coding_cells n) (entry_cells n) (coding-cells n) c.args.all
-              (sym (eight-tests (coding_cells n) c.args.all eight _ _ c.four_coding.ensures c.four_coding-2.ensures) ∙ w.if-not-four_coding.false)
-        ] in
+    let entries-all : all_b (entry_cells c.args.n) c.args.all ≡ true = let n = c.args.n in
+    elim c.if-not-four_coding.branch [
+      | then-not-four_coding+else-not-eight_entries w ↦ sym w.eight_entries.ensures ∙ w.if-not-eight_entries.false
+      | else-not-four_coding w ↦ all-mono (coding_cells n) (entry_cells n) (coding-cells n) c.args.all
+          (sym (eight-tests (coding_cells n) c.args.all eight _ _ c.four_coding.ensures c.four_coding-2.ensures) ∙ w.if-not-four_coding.false)
+    ] in
     let rest : both (all_b unused_zero c.args.all) (all_b (fair_tail c.args.n) c.args.all) ≡ ballots_fine c.args.n c.args.held c.args.all = all_both unused_zero (fair_tail c.args.n) c.args.all ∙ sym (tests ∙ both-passed _ _ _ fitting entries-all) in
     let unused : (c.four_unused.result && c.four_unused-2.result) ≡ all_b unused_zero c.args.all = eight-tests unused_zero c.args.all eight _ _ c.four_unused.ensures c.four_unused-2.ensures in
     c.eight_fair.ensures ∙ ap (λ (t : Bool). both t (all_b (fair_tail c.args.n) c.args.all)) (sym (sym unused ∙ c.if-not-four_unused.false)) ∙ rest

@@ -3,7 +3,6 @@ use native.Mathlib.Omega.{arith}
 use Prim.Native.Nat.{◌+◌, ◌-◌}
 use lib.Dec.{leb}
 use borrow.Author.Tests.{lt-ltb, le-ltb, le-leb, leb-true, lt-leb}
-use borrow.Author.Rules.{rules}
 use Rattle.lists.proofs.Tests.{alike}
 use Rattle.lists.specs.Tests.{both, pick}
 use Rattle.eight_ballots.specs.Fours.{fits_at}

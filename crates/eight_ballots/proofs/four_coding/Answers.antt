@@ -1,14 +1,14 @@
 use borrow.Author.Rules.{rules}
 use native.Mathlib.Omega.{arith}
 use mathlib.Core.Path.{◌≡◌, ◌∙◌}
-use Prim.Native.Nat.{ℕ, ◌+◌, ◌-◌, ◌<◌, ◌≤◌}
+use Prim.Native.Nat.{ℕ, ◌+◌, ◌<◌, ◌≤◌}
 use mathlib.Core.List.{List}
 use lib.Bits.{bit_or}
 use lib.ListN.{length, get_or}
-use Rattle.lists.specs.Tests.{all_b, both}
+use Rattle.lists.specs.Tests.{both}
 use Rattle.entries.specs.Carries.{is_coding, no_carry}
 use Rattle.entries.proofs.Carries.{no-carry-zero, raised-next}
-use Rattle.lists.proofs.Walk.{AllWith, with-done}
+use Rattle.lists.proofs.Walk.{with-done}
 use Rattle.eight_ballots.specs.Fours.{coding_cells}
 use Rattle.ballots.specs.declared.Ballot.{Ballot}
 use Rattle.eight_ballots.proofs.Fours.{all-cells, four-tests}

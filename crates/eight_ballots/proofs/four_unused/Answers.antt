@@ -5,7 +5,7 @@ use mathlib.Core.Path.{◌≡◌, ap, ◌∙◌}
 use Prim.Native.Nat.{ℕ, ◌-◌, ◌≤◌}
 use lib.ListN.{length}
 use Rattle.eight_ballots.specs.Fours.{mask_words, unused_zero}
-use Rattle.eight_ballots.proofs.Fours.{Unused, four-none, four-tests, mask-length, masked-next, unused-begins, unused-ends, unused-none}
+use Rattle.eight_ballots.proofs.Fours.{four-none, four-tests, mask-length, masked-next, unused-begins, unused-ends, unused-none}
 use Rattle.eight_ballots.proofs.four_unused.Goals as goal
 
 -- the facts on numbers, away from the places of the code

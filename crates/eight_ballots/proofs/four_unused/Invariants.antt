@@ -1,12 +1,6 @@
 -- Four walks in one, each of which joins the cells under their masks.
-use borrow.Author.Rules.{rules}
-use native.Mathlib.Omega.{arith}
-use mathlib.Core.Bool.{true}
-use mathlib.Core.Path.{◌≡◌, ap, ◌∙◌}
-use Prim.Native.Nat.{ℕ, ◌-◌, ◌≤◌}
-use lib.ListN.{length}
-use Rattle.eight_ballots.specs.Fours.{mask_words, unused_zero}
-use Rattle.eight_ballots.proofs.Fours.{Unused, four-none, four-tests, mask-length, masked-next, unused-begins, unused-ends, unused-none}
+use Prim.Native.Nat.{◌≤◌}
+use Rattle.eight_ballots.proofs.Fours.{Unused}
 use Rattle.eight_ballots.proofs.four_unused.Given as goal
 
 abbrev pub invariant-loop-i : goal.invariant-loop-i

@@ -1,12 +1,9 @@
 -- The first half is overwritten by zeros, one word after the other.
-use Prim.Native.Nat.{◌-◌, ◌≤◌}
-use mathlib.Core.Path.{◌≡◌, refl, ap, ◌∙◌}
-use native.Mathlib.Omega.{arith}
-use lib.ListN.{get_or, replicate}
-use borrow.Author.Rules.{rules}
-use Rattle.lists.proofs.Fill.{filled, front-step, fill-rest}
+use Prim.Native.Nat.{◌≤◌}
+use mathlib.Core.Path.{◌≡◌}
+use lib.ListN.{replicate}
+use Rattle.lists.proofs.Fill.{filled}
 use Rattle.eight_ballots.specs.Fours.{mask_words}
-use Rattle.eight_ballots.proofs.Fours.{mask-length, mask-used}
 use Rattle.eight_ballots.proofs.masks.Given as goal
 
 abbrev pub invariant-loop-i : goal.invariant-loop-i

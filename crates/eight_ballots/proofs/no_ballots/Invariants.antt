@@ -1,12 +1,8 @@
 -- A walk that makes every test: what was found so far and the rest give the answer.
-use borrow.Author.Rules.{rules}
-use native.Mathlib.Omega.{arith}
-use mathlib.Core.Path.{◌≡◌, refl}
-use Prim.Native.Nat.{◌-◌, ◌≤◌}
-use lib.ListN.{length}
-use Rattle.lists.specs.Tests.{all_b, both}
-use Rattle.lists.proofs.Walk.{AllWith, with-next, with-done}
-use Rattle.ballots.specs.Ballots.{empty_ballot, off_end}
+use Prim.Native.Nat.{◌≤◌}
+use Rattle.lists.specs.Tests.{all_b}
+use Rattle.lists.proofs.Walk.{AllWith}
+use Rattle.ballots.specs.Ballots.{empty_ballot}
 use Rattle.eight_ballots.proofs.no_ballots.Given as goal
 
 abbrev pub invariant-loop-i : goal.invariant-loop-i

@@ -1,11 +1,10 @@
 use borrow.Author.Rules.{rules}
 use native.Mathlib.Omega.{arith}
 use mathlib.Core.Path.{◌≡◌, refl}
-use Prim.Native.Nat.{◌-◌, ◌≤◌}
 use lib.Dec.{eqb}
 use lib.ListN.{length}
-use Rattle.lists.specs.Tests.{all_b, both}
-use Rattle.lists.proofs.Walk.{AllWith, with-next, with-done}
+use Rattle.lists.specs.Tests.{both}
+use Rattle.lists.proofs.Walk.{with-next, with-done}
 use Rattle.eight_ballots.proofs.zero_cells.Goals as goal
 
 pub loop-i-init : goal.loop-i-init

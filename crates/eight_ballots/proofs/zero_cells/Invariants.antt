@@ -1,12 +1,8 @@
 -- A walk from the front that makes every test.
-use borrow.Author.Rules.{rules}
-use native.Mathlib.Omega.{arith}
-use mathlib.Core.Path.{◌≡◌, refl}
-use Prim.Native.Nat.{◌-◌, ◌≤◌}
+use Prim.Native.Nat.{◌≤◌}
 use lib.Dec.{eqb}
-use lib.ListN.{length}
-use Rattle.lists.specs.Tests.{all_b, both}
-use Rattle.lists.proofs.Walk.{AllWith, with-next, with-done}
+use Rattle.lists.specs.Tests.{all_b}
+use Rattle.lists.proofs.Walk.{AllWith}
 use Rattle.eight_ballots.proofs.zero_cells.Given as goal
 
 abbrev pub invariant-loop-i : goal.invariant-loop-i

@@ -1,10 +1,8 @@
 use borrow.Author.Rules.{rules}
 use mathlib.Core.Path.{◌∙◌}
-use Prim.Native.Nat.{◌-◌, ◌≤◌}
-use lib.ListN.{length}
-use Rattle.lists.specs.Tests.{all_b, both}
+use Rattle.lists.specs.Tests.{both}
 use Rattle.entries.specs.Carries.{is_coding, no_carry}
-use Rattle.lists.proofs.Walk.{AllWith, with-done}
+use Rattle.lists.proofs.Walk.{with-done}
 use Rattle.entries.proofs.Carries.{no-carry-zero, raised-next}
 use Rattle.entries.proofs.all_coding.Goals as goal
 

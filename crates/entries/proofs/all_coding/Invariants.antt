@@ -1,12 +1,9 @@
 -- A walk from the front that joins every raised word: what was joined so far and what is left of the words answer as all of them do.
-use borrow.Author.Rules.{rules}
-use mathlib.Core.Path.{◌∙◌}
-use Prim.Native.Nat.{◌-◌, ◌≤◌}
+use Prim.Native.Nat.{◌≤◌}
 use lib.ListN.{length}
-use Rattle.lists.specs.Tests.{all_b, both}
+use Rattle.lists.specs.Tests.{all_b}
 use Rattle.entries.specs.Carries.{is_coding, no_carry}
-use Rattle.lists.proofs.Walk.{AllWith, with-done}
-use Rattle.entries.proofs.Carries.{no-carry-zero, raised-next}
+use Rattle.lists.proofs.Walk.{AllWith}
 use Rattle.entries.proofs.all_coding.Given as goal
 
 abbrev pub invariant-loop-i : goal.invariant-loop-i

@@ -1,10 +1,8 @@
 use borrow.Author.Rules.{rules}
 use mathlib.Core.Path.{refl, sym, ◌∙◌}
-use Prim.Native.Nat.{◌-◌, ◌≤◌}
-use lib.ListN.{length}
-use Rattle.lists.specs.Tests.{all_b, both}
+use Rattle.lists.specs.Tests.{both}
 use Rattle.lists.proofs.Tests.{all-mono}
-use Rattle.lists.proofs.Walk.{AllWith, with-next, with-done}
+use Rattle.lists.proofs.Walk.{with-next, with-done}
 use Rattle.protocol.specs.Entry.{is_entry}
 use Rattle.entries.specs.Carries.{is_coding}
 use Rattle.entries.proofs.Word.{coding-entry}

@@ -1,14 +1,9 @@
 -- Words that all code lines are entries. Otherwise a walk from the front that makes every test.
-use borrow.Author.Rules.{rules}
-use mathlib.Core.Path.{refl, sym, ◌∙◌}
-use Prim.Native.Nat.{◌-◌, ◌≤◌}
+use Prim.Native.Nat.{◌≤◌}
 use lib.ListN.{length}
-use Rattle.lists.specs.Tests.{all_b, both}
-use Rattle.lists.proofs.Tests.{all-mono}
-use Rattle.lists.proofs.Walk.{AllWith, with-next, with-done}
+use Rattle.lists.specs.Tests.{all_b}
+use Rattle.lists.proofs.Walk.{AllWith}
 use Rattle.protocol.specs.Entry.{is_entry}
-use Rattle.entries.specs.Carries.{is_coding}
-use Rattle.entries.proofs.Word.{coding-entry}
 use Rattle.entries.proofs.all_entries.Given as goal
 
 abbrev pub invariant-loop-i : goal.invariant-loop-i

@@ -1,5 +1,4 @@
 -- The tests of the definition, for at most 256 offices: the office's, and that of the line and the code.
-use borrow.Author.Rules.{rules}
 use native.Mathlib.Omega.{arith}
 use mathlib.Core.Path.{sym, ap, ◌∙◌}
 use Prim.Native.Nat.{◌/◌}

@@ -1,5 +1,4 @@
 -- The definition's sum: at most 256 offices, so each part fits. It carries where the word is no entry that codes a line.
-use borrow.Author.Rules.{rules}
 use native.Mathlib.Omega.{arith}
 use mathlib.Core.Path.{◌≡◌, ap, ◌∙◌}
 use Prim.Native.Nat.{ℕ, ◌+◌, ◌-◌, ◌*◌, ◌/◌, ◌%◌}

@@ -1,6 +1,5 @@
 -- The part of the log behind the entries that are held is lent and filled; it comes back as stores into the whole.
 use native.Mathlib.Omega.{arith}
-use borrow.Author.Rules.{rules}
 use Rattle.extending.proofs.Logs.{extend-stores}
 use Rattle.extending.proofs.extend.Goals as goal
 

@@ -1,16 +1,10 @@
 -- The invariant: what is left to store from the position on gives all that is to be stored.
 use Prim.Native.Nat.{◌≤◌, ◌-◌, ◌+◌, ◌*◌}
-use mathlib.Core.Path.{◌≡◌, refl, sym, ◌∙◌}
-use native.Mathlib.Nat.{sub-zero}
-use native.Mathlib.Omega.{arith}
-use lib.ListN.{length, drop, length-set}
+use mathlib.Core.Path.{◌≡◌}
+use lib.ListN.{length, drop}
 use lib.Seq.{sets}
-use borrow.Author.Rules.{rules}
 use Rattle.numbers.specs.Numbers.{run_at}
 use Rattle.spelling.specs.Reading.{record_at}
-use Rattle.records.proofs.Marks.{entry-step}
-use Rattle.numbers.proofs.Steps.{fill_end}
-use Rattle.extending.proofs.Logs.{fill-turn}
 use Rattle.extending.proofs.fill.Given as goal
 
 abbrev pub invariant-loop-i : goal.invariant-loop-i

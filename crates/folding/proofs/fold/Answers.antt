@@ -2,8 +2,6 @@
 use native.Mathlib.Omega.{arith}
 use mathlib.Core.Path.{◌≡◌, sym, ◌∙◌}
 use mathlib.Core.Bool.{true}
-use borrow.Author.Rules.{rules}
-use borrow.Author.Tests.{not-true, not-false}
 use Rattle.frame.specs.Soundness.{sound_b, Sound}
 use Rattle.frame.proofs.Sound.{sound}
 use Rattle.frame.proofs.State.{room-for}

@@ -1,8 +1,6 @@
 -- The refusals in the order of their numbers; then the winner by the votes of the ballots and the counts of the settled log.
 use mathlib.Core.Bool.{true}
 use mathlib.Core.Path.{◌≡◌, sym, ◌∙◌}
-use borrow.Author.Tests.{not-true, not-false}
-use borrow.Author.Rules.{rules}
 use Rattle.bounds.specs.Bounds.{fits}
 use Rattle.frame.specs.Soundness.{sound_b, Sound}
 use Rattle.frame.proofs.Sound.{sound}

@@ -1,4 +1,4 @@
-use Prim.Native.Nat.{ℕ, ◌+◌, ◌-◌, ◌<◌}
+use Prim.Native.Nat.{ℕ, ◌+◌, ◌<◌}
 use mathlib.Core.Path.{◌≡◌, refl, sym, ◌∙◌}
 use mathlib.Core.List.{List}
 use mir.Val.{Fits}
@@ -7,7 +7,7 @@ use borrow.Author.Rules.{rules}
 use native.Mathlib.Omega.{arith}
 use lib.ListN.{get_or, drop}
 use lib.Seq.{get_or-drop}
-use Rattle.households.proofs.Walk.{Pooling, here-true, no-mark, no_line, refused-length, refused-many, pooling-begins, pooling-again, pooling-fails, pooling-ends}
+use Rattle.households.proofs.Walk.{here-true, no-mark, no_line, refused-length, refused-many, pooling-begins, pooling-again, pooling-fails, pooling-ends}
 use Rattle.households.proofs.pool.Goals.{After-be16_at}
 use Rattle.households.proofs.pool.Goals as goal
 

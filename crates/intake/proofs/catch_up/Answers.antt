@@ -1,5 +1,4 @@
 -- A longer log is written past the held length; any other leaves the words.
-use borrow.Author.Rules.{rules}
 use native.Mathlib.Omega.{arith}
 use mathlib.Core.Path.{◌∙◌}
 use Rattle.intake.proofs.Caught.{keeps, grows}

@@ -1,5 +1,4 @@
 -- What the drop and the take at one beginning make is the protocol's folded take by `intaken`.
-use borrow.Author.Rules.{rules}
 use Rattle.intake.proofs.Dropping.{droppable, aligned, intaken}
 use Rattle.intake.proofs.take_in.Goals as goal
 

@@ -1,6 +1,5 @@
 -- The entry's three numbers fit their places in its value.
 use mathlib.Core.Path.{ap, ◌∙◌}
-use borrow.Author.Rules.{rules}
 use Rattle.ballots.specs.Ballots.{pushed}
 use Rattle.issuance.proofs.issued.Goals as goal
 

@@ -1,9 +1,7 @@
-use borrow.Author.Rules.{rules}
 use native.Mathlib.Omega.{arith}
-use mathlib.Core.Path.{◌≡◌, refl, ◌∙◌}
-use Prim.Native.Nat.{◌-◌, ◌≤◌}
-use lib.ListN.{length, length-set}
-use Rattle.kept.proofs.Moved.{Moved, moved-next, moved-end}
+use mathlib.Core.Path.{refl, ◌∙◌}
+use lib.ListN.{length-set}
+use Rattle.kept.proofs.Moved.{moved-next, moved-end}
 use Rattle.kept.proofs.move_down.Goals as goal
 
 pub loop-i-init : goal.loop-i-init

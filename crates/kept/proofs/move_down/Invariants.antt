@@ -1,10 +1,8 @@
 -- A walk from the front of the log: what was stored so far is the beginning of the part that is moved, and everything behind it still stands.
-use borrow.Author.Rules.{rules}
-use native.Mathlib.Omega.{arith}
-use mathlib.Core.Path.{◌≡◌, refl, ◌∙◌}
+use mathlib.Core.Path.{◌≡◌}
 use Prim.Native.Nat.{◌-◌, ◌≤◌}
-use lib.ListN.{length, length-set}
-use Rattle.kept.proofs.Moved.{Moved, moved-next, moved-end}
+use lib.ListN.{length}
+use Rattle.kept.proofs.Moved.{Moved}
 use Rattle.kept.proofs.move_down.Given as goal
 
 abbrev pub invariant-loop-i : goal.invariant-loop-i

@@ -1,9 +1,8 @@
 use borrow.Author.Rules.{rules}
 use native.Mathlib.Omega.{arith}
 use mathlib.Core.Path.{◌≡◌}
-use Prim.Native.Nat.{◌-◌, ◌≤◌}
 use lib.ListN.{length}
-use Rattle.kept_limits.proofs.Left.{Left, left-next, left-short, left_end}
+use Rattle.kept_limits.proofs.Left.{left-next, left-short, left_end}
 use Rattle.kept_limits.proofs.add_up.Goals as goal
 
 pub loop-i-init : goal.loop-i-init

@@ -1,10 +1,9 @@
 use borrow.Author.Rules.{rules}
 use native.Mathlib.Omega.{arith}
 use mathlib.Core.Path.{◌≡◌, refl}
-use Prim.Native.Nat.{◌-◌, ◌≤◌}
 use lib.ListN.{length}
-use Rattle.lists.specs.Tests.{both, all_b}
-use Rattle.lists.proofs.Walk.{AllWith, with-next, with-done}
+use Rattle.lists.specs.Tests.{both}
+use Rattle.lists.proofs.Walk.{with-next, with-done}
 use Rattle.kept.specs.Kept.{is_kept_code}
 use Rattle.kept_limits.proofs.codes_fine.Goals as goal
 

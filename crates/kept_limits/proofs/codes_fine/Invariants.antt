@@ -1,11 +1,7 @@
 -- A walk from the front that makes every test.
-use borrow.Author.Rules.{rules}
-use native.Mathlib.Omega.{arith}
-use mathlib.Core.Path.{◌≡◌, refl}
-use Prim.Native.Nat.{◌-◌, ◌≤◌}
-use lib.ListN.{length}
-use Rattle.lists.specs.Tests.{both, all_b}
-use Rattle.lists.proofs.Walk.{AllWith, with-next, with-done}
+use Prim.Native.Nat.{◌≤◌}
+use Rattle.lists.specs.Tests.{all_b}
+use Rattle.lists.proofs.Walk.{AllWith}
 use Rattle.kept.specs.Kept.{is_kept_code}
 use Rattle.kept_limits.proofs.codes_fine.Given as goal
 

@@ -1,7 +1,7 @@
 -- The tests in an order of their own: the counts and what must be zero, then with nothing dropped what a record starts with, else the total and the
 -- codes. What the definition says of lengths and weights beside that follows from the types.
 use borrow.Author.Rules.{rules}
-use borrow.Author.Tests.{eqb-true, eq-eqb, lt-ltb, not-true, not-false}
+use borrow.Author.Tests.{eqb-true, eq-eqb, lt-ltb}
 use native.Mathlib.Omega.{arith}
 use mathlib.Core.Path.{◌≡◌, sym, ap, ◌∙◌}
 use mathlib.Core.Bool.{true, true≢false}

@@ -1,10 +1,9 @@
 use borrow.Author.Rules.{rules}
 use native.Mathlib.Omega.{arith}
 use mathlib.Core.Path.{◌≡◌, refl, sym, ◌∙◌}
-use Prim.Native.Nat.{◌-◌, ◌≤◌}
 use lib.ListN.{length}
-use Rattle.lists.specs.Tests.{all_b, both}
-use Rattle.lists.proofs.Walk.{AllWith, with-next, with-done}
+use Rattle.lists.specs.Tests.{both}
+use Rattle.lists.proofs.Walk.{with-next, with-done}
 use Rattle.protocol.specs.Limits.{length_limit}
 use Rattle.ballots.specs.Ballots.{off_end}
 use Rattle.lengths.proofs.Limit.{in_room, few-fine, past-fails, lens-tails}

@@ -6,7 +6,7 @@ use mir.Syntax.{w16}
 use mir.Val.{Fits}
 use lib.Dec.{eqb}
 use lib.ListN.{length, get_or}
-use borrow.Author.Tests.{lt-ltb, eq-eqb, not-true, not-false}
+use borrow.Author.Tests.{lt-ltb, eq-eqb}
 use borrow.Author.Rules.{rules}
 use Rattle.lists.specs.Tests.{both, all_b}
 use Rattle.lists.proofs.Tests.{all_of, both-false-0}

@@ -4,9 +4,7 @@ use Rattle.limits.proofs.Sums.{sum-next, sum_done}
 use borrow.Author.Rules.{rules}
 use native.Mathlib.Omega.{arith}
 use mathlib.Core.Path.{◌≡◌}
-use Prim.Native.Nat.{◌+◌, ◌-◌, ◌*◌, ◌≤◌}
-use lib.ListN.{length, get_or, drop}
-use Rattle.protocol.specs.Limits.{total}
+use lib.ListN.{length, get_or}
 use Rattle.limits.proofs.total.Goals as goal
 
 pub loop-i-init : goal.loop-i-init

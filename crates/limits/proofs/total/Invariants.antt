@@ -1,12 +1,7 @@
 -- A walk from the front: the sum so far with the sum of what is left is the whole sum, and cannot pass 8 times 65535.
-use mir.Val.{Fits}
-use mir.Syntax.{w16}
-use Rattle.limits.proofs.Sums.{sum-next, sum_done}
-use borrow.Author.Rules.{rules}
-use native.Mathlib.Omega.{arith}
 use mathlib.Core.Path.{◌≡◌}
-use Prim.Native.Nat.{◌+◌, ◌-◌, ◌*◌, ◌≤◌}
-use lib.ListN.{length, get_or, drop}
+use Prim.Native.Nat.{◌+◌, ◌*◌, ◌≤◌}
+use lib.ListN.{drop}
 use Rattle.protocol.specs.Limits.{total}
 use Rattle.limits.proofs.total.Given as goal
 

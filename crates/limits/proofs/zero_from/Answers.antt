@@ -1,12 +1,10 @@
 use borrow.Author.Rules.{rules}
 use native.Mathlib.Omega.{arith}
 use mathlib.Core.Path.{◌≡◌, refl, sym}
-use Prim.Native.Nat.{◌-◌}
-use lib.ListN.{length, drop}
+use lib.ListN.{length}
 use lib.Dec.{eqb}
 use borrow.Author.Tests.{eq-eqb, ne_eqb}
-use Rattle.lists.specs.Tests.{all_b}
-use Rattle.lists.proofs.Walk.{AllRest, all-next, all-stop, all_done}
+use Rattle.lists.proofs.Walk.{all-next, all-stop, all_done}
 use Rattle.limits.proofs.zero_from.Goals as goal
 
 pub loop-i-init : goal.loop-i-init

@@ -1,13 +1,8 @@
 -- A walk from place n on: what is left of the weights answers as all from place n on do.
-use borrow.Author.Rules.{rules}
-use native.Mathlib.Omega.{arith}
-use mathlib.Core.Path.{◌≡◌, refl, sym}
-use Prim.Native.Nat.{◌-◌}
-use lib.ListN.{length, drop}
+use lib.ListN.{drop}
 use lib.Dec.{eqb}
-use borrow.Author.Tests.{eq-eqb, ne_eqb}
 use Rattle.lists.specs.Tests.{all_b}
-use Rattle.lists.proofs.Walk.{AllRest, all-next, all-stop, all_done}
+use Rattle.lists.proofs.Walk.{AllRest}
 use Rattle.limits.proofs.zero_from.Given as goal
 
 abbrev pub invariant-loop-i : goal.invariant-loop-i

@@ -1,9 +1,7 @@
 use borrow.Author.Rules.{rules}
 use native.Mathlib.Omega.{arith}
 use mathlib.Core.Path.{◌≡◌, refl, sym, ◌∙◌}
-use Prim.Native.Nat.{◌-◌, ◌≤◌}
-use lib.ListN.{length, drop}
-use Rattle.lists.specs.Tests.{same}
+use lib.ListN.{length}
 use Rattle.lists.proofs.Same.{same_next, same_stop, same-done}
 use Rattle.lists.proofs.same_eight.Goals.{Start}
 use Rattle.lists.proofs.same_eight.Goals as goal

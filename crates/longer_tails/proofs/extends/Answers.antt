@@ -1,8 +1,5 @@
-use mathlib.Core.Path.{◌≡◌, refl, sym, ◌∙◌}
-use Prim.Native.Nat.{◌-◌, ◌≤◌, ◌<◌}
+use mathlib.Core.Path.{refl, sym, ◌∙◌}
 use native.Mathlib.Omega.{arith}
-use lib.ListN.{length, drop}
-use Rattle.protocol.specs.Beginning.{extends}
 use Rattle.longer_tails.proofs.Walks.{not-longer, extends-next, extends-stop, extends-done}
 use borrow.Author.Rules.{rules}
 use Rattle.longer_tails.proofs.extends.Goals as goal

@@ -1,11 +1,8 @@
 -- A walk from the front: the rests answer as the lists do. The tail is longer than the words, so that its rest is never empty.
-use mathlib.Core.Path.{◌≡◌, refl, sym, ◌∙◌}
-use Prim.Native.Nat.{◌-◌, ◌≤◌, ◌<◌}
-use native.Mathlib.Omega.{arith}
+use mathlib.Core.Path.{◌≡◌}
+use Prim.Native.Nat.{◌≤◌, ◌<◌}
 use lib.ListN.{length, drop}
 use Rattle.protocol.specs.Beginning.{extends}
-use Rattle.longer_tails.proofs.Walks.{not-longer, extends-next, extends-stop, extends-done}
-use borrow.Author.Rules.{rules}
 use Rattle.longer_tails.proofs.extends.Given as goal
 
 abbrev pub invariant-loop-i : goal.invariant-loop-i

@@ -1,13 +1,8 @@
 -- A walk from the front: the first i cells are the first i words, and the others are still zero.
-use native.Mathlib.Omega.{arith}
-use mathlib.Core.Path.{◌≡◌, refl, ap, ap₂, ◌∙◌}
-use mathlib.Core.List.{List, ◌++◌}
-use Prim.Native.Nat.{ℕ, ◌-◌, ◌≤◌}
-use lib.ListN.{length, get_or, set, replicate}
-use lib.Seq.{take_all}
-use Rattle.merging.proofs.Walks.{zeros-behind}
-use Rattle.lists.proofs.Fill.{filled, front-step}
-use borrow.Author.Rules.{rules}
+use mathlib.Core.Path.{◌≡◌}
+use Prim.Native.Nat.{◌≤◌}
+use lib.ListN.{length, replicate}
+use Rattle.lists.proofs.Fill.{filled}
 use Rattle.merging.proofs.ballot_of.Given as goal
 
 abbrev pub invariant-loop-i : goal.invariant-loop-i

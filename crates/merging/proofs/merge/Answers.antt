@@ -1,13 +1,11 @@
 use borrow.Author.Rules.{rules}
 use native.Mathlib.Omega.{arith}
 use mathlib.Core.Path.{◌≡◌, refl, ap, ◌∙◌}
-use mathlib.Core.Logic.{⊎_elim}
-use Prim.Native.Nat.{◌-◌, ◌≤◌}
+use Prim.Native.Nat.{◌≤◌}
 use lib.ListN.{length, get_or, set}
-use Rattle.lists.proofs.Fill.{filled}
 use Rattle.ballots.specs.Ballots.{off_end}
 use Rattle.merging.specs.Merging.{past_ballot, adopted_ballot}
-use Rattle.merging.proofs.Turn.{merged, all-merged, left-past, left-offer, next-merged}
+use Rattle.merging.proofs.Turn.{all-merged, left-past, left-offer, next-merged}
 use Rattle.merging.proofs.merge.Goals.{then-len-grown, else-len-grown, then-offer_len-between, else-offer_len-between}
 use Rattle.merging.proofs.merge.Goals as goal
 
@@ -27,15 +25,15 @@ loop-i-preserved c =
     let here = c.loop-i-test.true in
     let left = left-past a.grown.now a.between.now a.ballots a.offers a.own a.sender l.i (omega (arith, full, here)) l.next l.invariant.1 c.requires.1 in
     let brought : first ≡ set l.next l.i (past_ballot a.grown.now (get_or l.next l.i off_end)) =
-        elim c.if-len-grown.branch [
-          then-len-grown w ↦ w.next-is ∙ ap (set l.next l.i) w.past_ballot.ensures
-          | else-len-grown w ↦ w.next-is ∙ left w.if-len-grown.false
-        ] in
+    elim c.if-len-grown.branch [
+      | then-len-grown w ↦ w.next-is ∙ ap (set l.next l.i) w.past_ballot.ensures
+      | else-len-grown w ↦ w.next-is ∙ left w.if-len-grown.false
+    ] in
     let offered : c.if-offer_len-between.next ≡ set first l.i (adopted_ballot (get_or first l.i off_end) (past_ballot a.between.now (get_or a.offers g.result off_end))) =
-        elim c.if-offer_len-between.branch [
-          then-offer_len-between w ↦ w.next-is ∙ ap (set first l.i) w.offered.ensures
-          | else-offer_len-between w ↦ w.next-is ∙ left-offer a.between.now first l.i (get_or a.offers g.result off_end) (omega (arith, w.if-offer_len-between.false))
-        ] in (
+    elim c.if-offer_len-between.branch [
+      | then-offer_len-between w ↦ w.next-is ∙ ap (set first l.i) w.offered.ensures
+      | else-offer_len-between w ↦ w.next-is ∙ left-offer a.between.now first l.i (get_or a.offers g.result off_end) (omega (arith, w.if-offer_len-between.false))
+    ] in (
       omega (arith, here),
       next-merged a.grown.now a.between.now a.ballots a.offers a.own a.sender l.i (omega (arith, full, here)) l.next l.invariant.1
           (omega (arith, full, here)) g.result g.ensures.0 first c.if-offer_len-between.next brought offered,

@@ -4,7 +4,6 @@ use mathlib.Core.Path.{◌≡◌, sym, ◌∙◌}
 use Prim.Native.Nat.{◌<◌}
 use lib.ListN.{length, length-take, length-drop}
 use lib.Seq.{length-take-le}
-use borrow.Author.Tests.{not-true, not-false}
 use Rattle.merging.proofs.Walks.{past-none, past-some, past_room}
 use borrow.Author.Rules.{rules}
 use Rattle.merging.proofs.past_ballot.Goals as goal

@@ -5,8 +5,6 @@ use mathlib.Core.List.{List}
 use Prim.Native.Nat.{ℕ, ◌-◌, ◌≤◌}
 use native.Mathlib.Omega.{arith}
 use lib.Dec.{leb}
-use borrow.Author.Rules.{rules}
-use borrow.Author.Tests.{not-true, not-false}
 use Rattle.protocol.specs.Limits.{is_office}
 use Rattle.spelling.specs.Reading.{count_at, dropped_at, sender_at, settled_at}
 use Rattle.message_heads.proofs.Heads.{dropped-is, office-facts, settled_is, within-last, within-not}

@@ -4,8 +4,6 @@ use mathlib.Core.Bool.{true}
 use mathlib.Core.Path.{◌≡◌, sym, ◌∙◌}
 use mathlib.Core.List.{List}
 use native.Mathlib.Omega.{arith}
-use borrow.Author.Rules.{rules}
-use borrow.Author.Tests.{not-false, not-true}
 use Rattle.spelling.specs.Reading.{dropped_at, settled_at}
 use Rattle.message_heads.specs.Heads.{head_within}
 use Rattle.message_heads.proofs.Heads.{Within, dropped-is, head-made, head-refused, settled_is, within-facts}

@@ -1,8 +1,4 @@
-use Prim.Native.Nat.{◌-◌}
-use lib.ListN.{replicate}
-use borrow.Author.Rules.{rules}
-use Rattle.numbers.specs.Numbers.{be16}
-use Rattle.numbers.proofs.Steps.{Filling, filling-again, filling-begins, filling-ends}
+use Rattle.numbers.proofs.Steps.{filling-again, filling-begins, filling-ends}
 use Rattle.message_heads.specs.Heads.{eight_weights}
 use Rattle.message_heads.proofs.weights_at.Goals as goal
 

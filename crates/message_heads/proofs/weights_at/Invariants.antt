@@ -1,10 +1,7 @@
 -- The invariant: what is left to store from the position on gives all that is to be stored.
-use Prim.Native.Nat.{◌-◌}
 use lib.ListN.{replicate}
-use borrow.Author.Rules.{rules}
 use Rattle.numbers.specs.Numbers.{be16}
-use Rattle.numbers.proofs.Steps.{Filling, filling-again, filling-begins, filling-ends}
-use Rattle.message_heads.specs.Heads.{eight_weights}
+use Rattle.numbers.proofs.Steps.{Filling}
 use Rattle.message_heads.proofs.weights_at.Given as goal
 
 abbrev pub invariant-loop-i : goal.invariant-loop-i

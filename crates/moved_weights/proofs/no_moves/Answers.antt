@@ -1,10 +1,7 @@
 use borrow.Author.Rules.{rules}
 use mathlib.Core.Path.{refl}
-use Prim.Native.Nat.{◌-◌, ◌≤◌, ◌/◌, ◌%◌}
-use lib.Dec.{eqb}
-use lib.ListN.{length}
-use Rattle.lists.specs.Tests.{all_b, both}
-use Rattle.lists.proofs.Walk.{AllWith, with-done}
+use Rattle.lists.specs.Tests.{both}
+use Rattle.lists.proofs.Walk.{with-done}
 use Rattle.moved_weights.specs.NoMove.{no_move}
 use Rattle.moved_weights.proofs.Moves.{moves_next}
 use Rattle.moved_weights.proofs.no_moves.Goals as goal

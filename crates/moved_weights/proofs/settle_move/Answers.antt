@@ -1,5 +1,4 @@
 -- Each test that fails says why the entry moves nothing; where none does, the two stores are the move.
-use borrow.Author.Rules.{rules}
 use native.Mathlib.Omega.{arith}
 use Rattle.moved_weights.proofs.Moves.{stays, stays-far, stays-poor, stays-full, shifted}
 use Rattle.moved_weights.proofs.settle_move.Goals as goal

@@ -1,8 +1,7 @@
 use borrow.Author.Rules.{rules}
 use mathlib.Core.Path.{◌≡◌, refl, sym, ap, ◌∙◌}
-use Prim.Native.Nat.{◌-◌, ◌≤◌}
 use lib.ListN.{length}
-use Rattle.lists.proofs.Fold.{FoldedUpTo, fold_next, fold_done}
+use Rattle.lists.proofs.Fold.{fold_next, fold_done}
 use Rattle.protocol.specs.Moves.{move, weights_after}
 use Rattle.protocol_laws.proofs.Moves.{move-length}
 use Rattle.moved_weights.proofs.Moves.{no-moves-stay}

@@ -1,12 +1,9 @@
 -- A log without moves leaves the weights. Otherwise a walk from the front.
-use borrow.Author.Rules.{rules}
-use mathlib.Core.Path.{◌≡◌, refl, sym, ap, ◌∙◌}
-use Prim.Native.Nat.{◌-◌, ◌≤◌}
+use mathlib.Core.Path.{◌≡◌}
+use Prim.Native.Nat.{◌≤◌}
 use lib.ListN.{length}
-use Rattle.lists.proofs.Fold.{FoldedUpTo, fold_next, fold_done}
-use Rattle.protocol.specs.Moves.{move, weights_after}
-use Rattle.protocol_laws.proofs.Moves.{move-length}
-use Rattle.moved_weights.proofs.Moves.{no-moves-stay}
+use Rattle.lists.proofs.Fold.{FoldedUpTo}
+use Rattle.protocol.specs.Moves.{move}
 use Rattle.moved_weights.proofs.weights_after.Given as goal
 
 abbrev pub invariant-loop-i : goal.invariant-loop-i

@@ -1,7 +1,6 @@
 use borrow.Author.Rules.{rules}
 use native.Mathlib.Omega.{arith}
-use mathlib.Core.Path.{◌≡◌, refl}
-use Prim.Native.Nat.{◌-◌, ◌≤◌}
+use mathlib.Core.Path.{refl}
 use Rattle.protocol.specs.Folding.{least_known}
 use Rattle.noting.proofs.Least.{known_next, known-done}
 use Rattle.noting.proofs.least_known.Goals as goal

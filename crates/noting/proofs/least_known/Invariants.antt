@@ -1,10 +1,7 @@
 -- A walk from the front: what is known of the offices so far.
-use borrow.Author.Rules.{rules}
-use native.Mathlib.Omega.{arith}
-use mathlib.Core.Path.{◌≡◌, refl}
-use Prim.Native.Nat.{◌-◌, ◌≤◌}
+use mathlib.Core.Path.{◌≡◌}
+use Prim.Native.Nat.{◌≤◌}
 use Rattle.protocol.specs.Folding.{least_known}
-use Rattle.noting.proofs.Least.{known_next, known-done}
 use Rattle.noting.proofs.least_known.Given as goal
 
 abbrev pub invariant-loop-j : goal.invariant-loop-j

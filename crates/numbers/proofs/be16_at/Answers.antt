@@ -3,7 +3,6 @@ use Rattle.numbers.specs.Numbers.{be16}
 use native.Mathlib.Nat.{add-zero}
 use lib.Seq.{get_or-drop}
 use native.Mathlib.Omega.{arith}
-use borrow.Author.Rules.{rules}
 use Rattle.numbers.proofs.be16_at.Goals as goal
 
 pub returns : goal.returns

@@ -1,7 +1,6 @@
 -- The two halves of the definition, read one after the other.
 use Rattle.numbers.specs.Numbers.{be64}
 use lib.Seq.{drop-drop}
-use borrow.Author.Rules.{rules}
 use Rattle.numbers.proofs.be64_at.Goals as goal
 
 pub returns : goal.returns

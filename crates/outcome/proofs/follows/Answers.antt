@@ -1,8 +1,6 @@
 -- Each test of the definition in its turn; the last one decides.
-use borrow.Author.Rules.{rules}
 use mathlib.Core.Path.{sym, ◌∙◌}
 use native.Mathlib.Omega.{arith}
-use borrow.Author.Tests.{not-true, not-false}
 use Rattle.lists.proofs.Same.{same_true}
 use Rattle.outcome.proofs.Facts.{follows-not, follows-other, follows-last}
 use Rattle.outcome.proofs.follows.Goals as goal

@@ -1,11 +1,9 @@
 -- Soundness, then whether the one record could follow the other; then the own tail before is compared with the log and the own tail after.
-use borrow.Author.Rules.{rules}
 use mathlib.Core.Path.{sym, ◌∙◌}
 use Prim.Native.Nat.{◌-◌, ◌<◌, ◌≤◌}
 use lib.ListN.{length}
 use native.Mathlib.Omega.{arith}
 use lib.Seq.{length-take-le}
-use borrow.Author.Tests.{not-true, not-false}
 use Rattle.frame.specs.Soundness.{Sound}
 use Rattle.frame.proofs.Sound.{sound}
 use Rattle.outcome.proofs.Facts.{Follows, followed}

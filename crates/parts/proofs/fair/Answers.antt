@@ -1,11 +1,11 @@
 use borrow.Author.Rules.{rules}
 use native.Mathlib.Omega.{arith}
 use mathlib.Core.Path.{◌≡◌, ◌∙◌}
-use Prim.Native.Nat.{◌-◌, ◌<◌, ◌≤◌}
+use Prim.Native.Nat.{◌<◌}
 use lib.ListN.{length}
 use lib.Seq.{length-take-le}
 use Rattle.parts.proofs.Few.{few-fair}
-use Rattle.parts.proofs.Bytes.{part-most, Raised, raised-first, office-below, raised-next, raised-room, raised-fair}
+use Rattle.parts.proofs.Bytes.{part-most, raised-first, office-below, raised-next, raised-room, raised-fair}
 use Rattle.parts.proofs.fair.Goals as goal
 
 pub returns-then-len-part : goal.returns-then-len-part

@@ -1,9 +1,7 @@
 use borrow.Author.Rules.{rules}
 use native.Mathlib.Omega.{arith}
-use mathlib.Core.Path.{◌≡◌, refl}
-use Prim.Native.Nat.{◌-◌, ◌≤◌}
+use mathlib.Core.Path.{refl}
 use Rattle.lists.specs.Tests.{both}
-use Rattle.parts.specs.Bytes.{low_bytes}
 use Rattle.parts.proofs.Bytes.{low-next, low-done}
 use Rattle.parts.proofs.low_bytes.Goals as goal
 

@@ -1,11 +1,8 @@
 -- A walk from the lowest byte that makes every test.
-use borrow.Author.Rules.{rules}
-use native.Mathlib.Omega.{arith}
-use mathlib.Core.Path.{◌≡◌, refl}
+use mathlib.Core.Path.{◌≡◌}
 use Prim.Native.Nat.{◌-◌, ◌≤◌}
 use Rattle.lists.specs.Tests.{both}
 use Rattle.parts.specs.Bytes.{low_bytes}
-use Rattle.parts.proofs.Bytes.{low-next, low-done}
 use Rattle.parts.proofs.low_bytes.Given as goal
 
 abbrev pub invariant-loop-k : goal.invariant-loop-k

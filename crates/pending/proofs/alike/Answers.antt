@@ -1,9 +1,5 @@
 use borrow.Author.Rules.{rules}
-use mathlib.Core.Path.{◌≡◌}
-use Prim.Native.Nat.{◌+◌, ◌-◌, ◌≤◌, min}
 use native.Mathlib.Omega.{arith}
-use lib.ListN.{length, drop}
-use Rattle.own_entries.specs.Parts.{common}
 use Rattle.own_entries.proofs.Common.{common-next, common-stop, common-done}
 use Rattle.pending.proofs.alike.Goals as goal
 

@@ -1,11 +1,8 @@
 -- A walk from the front: the words passed, with the common beginning of what is left, are the common beginning of all.
-use borrow.Author.Rules.{rules}
 use mathlib.Core.Path.{◌≡◌}
-use Prim.Native.Nat.{◌+◌, ◌-◌, ◌≤◌, min}
-use native.Mathlib.Omega.{arith}
+use Prim.Native.Nat.{◌+◌, ◌≤◌, min}
 use lib.ListN.{length, drop}
 use Rattle.own_entries.specs.Parts.{common}
-use Rattle.own_entries.proofs.Common.{common-next, common-stop, common-done}
 use Rattle.pending.proofs.alike.Given as goal
 
 abbrev pub invariant-loop-i : goal.invariant-loop-i

@@ -1,9 +1,7 @@
 use borrow.Author.Rules.{rules}
-use mathlib.Core.Path.{◌≡◌, ap}
-use Prim.Native.Nat.{◌+◌, ◌-◌, ◌≤◌}
+use mathlib.Core.Path.{ap}
 use native.Mathlib.Omega.{arith}
-use lib.ListN.{length, drop}
-use Rattle.own_entries.specs.Parts.{entries_of}
+use lib.ListN.{length}
 use Rattle.own_entries.proofs.Own.{count_next, own-done}
 use Rattle.pending.proofs.count_of.Goals as goal
 

@@ -1,11 +1,8 @@
 -- A walk from the front: the count so far with the count of what is left is the whole count, and at most the words passed.
-use borrow.Author.Rules.{rules}
-use mathlib.Core.Path.{◌≡◌, ap}
-use Prim.Native.Nat.{◌+◌, ◌-◌, ◌≤◌}
-use native.Mathlib.Omega.{arith}
+use mathlib.Core.Path.{◌≡◌}
+use Prim.Native.Nat.{◌+◌, ◌≤◌}
 use lib.ListN.{length, drop}
 use Rattle.own_entries.specs.Parts.{entries_of}
-use Rattle.own_entries.proofs.Own.{count_next, own-done}
 use Rattle.pending.proofs.count_of.Given as goal
 
 abbrev pub invariant-loop-i : goal.invariant-loop-i

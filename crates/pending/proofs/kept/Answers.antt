@@ -1,5 +1,4 @@
 -- Where the log's words end within the tail, what is behind them is compared with the tail behind the log; else the log decides.
-use borrow.Author.Rules.{rules}
 use mathlib.Core.Path.{refl, sym, ap, ◌∙◌}
 use mathlib.Core.List.{List}
 use Prim.Native.Nat.{ℕ}

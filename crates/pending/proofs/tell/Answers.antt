@@ -17,17 +17,17 @@ slice_bounds-count_of-end c = sym (length-take-le _ _ c.alike-first.ensures.1)
 
 pub returns-then-rest-pending : goal.returns-then-rest-pending
 returns-then-rest-pending c =
-    let cut : let a = c.args in Cut a.own a.tail.now a.log.now (a.log.now ++ a.after.now) c.alike-first.result c.kept-both.result c.count_of-settled.result c.count_of-pending.result c.count_of-lost.result = let a = c.args in record { low = ⊑-append a.log.now a.after.now; first = c.alike-first.ensures.0; both = c.kept-both.ensures.0; of-settled = c.count_of-settled.ensures.0; of-pending = c.count_of-pending.ensures.0; of-lost = c.count_of-lost.ensures.0; } in
+    let cut : let a = c.args in Cut a.own a.tail.now a.log.now (a.log.now ++ a.after.now) c.alike-first.result c.kept-both.result c.count_of-settled.result c.count_of-pending.result c.count_of-lost.result = let a = c.args in record { low = ⊑-append a.log.now a.after.now; first = c.alike-first.ensures.0; both = c.kept-both.ensures.0; of-settled = c.count_of-settled.ensures.0; of-pending = c.count_of-pending.ensures.0; of-lost = c.count_of-lost.ensures.0 } in
     let both = tell-short cut c.args.rest.now c.if-rest-pending.true in record { told = both.0; words = both.1 }
 
 pub write_of-requires : goal.write_of-requires
 write_of-requires c =
-    let cut : let a = c.args in Cut a.own a.tail.now a.log.now (a.log.now ++ a.after.now) c.alike-first.result c.kept-both.result c.count_of-settled.result c.count_of-pending.result c.count_of-lost.result = let a = c.args in record { low = ⊑-append a.log.now a.after.now; first = c.alike-first.ensures.0; both = c.kept-both.ensures.0; of-settled = c.count_of-settled.ensures.0; of-pending = c.count_of-pending.ensures.0; of-lost = c.count_of-lost.ensures.0; } in
+    let cut : let a = c.args in Cut a.own a.tail.now a.log.now (a.log.now ++ a.after.now) c.alike-first.result c.kept-both.result c.count_of-settled.result c.count_of-pending.result c.count_of-lost.result = let a = c.args in record { low = ⊑-append a.log.now a.after.now; first = c.alike-first.ensures.0; both = c.kept-both.ensures.0; of-settled = c.count_of-settled.ensures.0; of-pending = c.count_of-pending.ensures.0; of-lost = c.count_of-lost.ensures.0 } in
     tell-room cut c.args.rest.now c.if-rest-pending.false
 
 pub returns : goal.returns
 returns c =
-    let cut : let a = c.args in Cut a.own a.tail.now a.log.now (a.log.now ++ a.after.now) c.alike-first.result c.kept-both.result c.count_of-settled.result c.count_of-pending.result c.count_of-lost.result = let a = c.args in record { low = ⊑-append a.log.now a.after.now; first = c.alike-first.ensures.0; both = c.kept-both.ensures.0; of-settled = c.count_of-settled.ensures.0; of-pending = c.count_of-pending.ensures.0; of-lost = c.count_of-lost.ensures.0; } in
+    let cut : let a = c.args in Cut a.own a.tail.now a.log.now (a.log.now ++ a.after.now) c.alike-first.result c.kept-both.result c.count_of-settled.result c.count_of-pending.result c.count_of-lost.result = let a = c.args in record { low = ⊑-append a.log.now a.after.now; first = c.alike-first.ensures.0; both = c.kept-both.ensures.0; of-settled = c.count_of-settled.ensures.0; of-pending = c.count_of-pending.ensures.0; of-lost = c.count_of-lost.ensures.0 } in
     let both = tell-done cut c.args.rest.now c.if-rest-pending.false c.write_of.new.out c.write_of.ensures in record { told = both.0; words = both.1 }
 
 pub kept-both-requires : goal.kept-both-requires

@@ -1,9 +1,8 @@
 use borrow.Author.Rules.{rules}
 use mathlib.Core.List.{[], ◌∷◌}
-use Prim.Native.Nat.{◌-◌, ◌≤◌}
 use native.Mathlib.Omega.{arith}
-use lib.ListN.{length, get_or, drop}
-use Rattle.lists.proofs.Stores.{Left, left-all, left-next, left-none}
+use lib.ListN.{get_or}
+use Rattle.lists.proofs.Stores.{left-all, left-next, left-none}
 use Rattle.own_entries.specs.Parts.{entries_of}
 use Rattle.own_entries.proofs.Own.{own-next, own-done, count_next}
 use Rattle.pending.proofs.write_of.Goals as goal

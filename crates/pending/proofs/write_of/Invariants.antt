@@ -1,12 +1,8 @@
 -- A walk from the front: what is left to store, from the place on, gives all that is to be stored.
-use borrow.Author.Rules.{rules}
-use mathlib.Core.List.{[], ◌∷◌}
-use Prim.Native.Nat.{◌-◌, ◌≤◌}
-use native.Mathlib.Omega.{arith}
-use lib.ListN.{length, get_or, drop}
-use Rattle.lists.proofs.Stores.{Left, left-all, left-next, left-none}
+use Prim.Native.Nat.{◌≤◌}
+use lib.ListN.{length, drop}
+use Rattle.lists.proofs.Stores.{Left}
 use Rattle.own_entries.specs.Parts.{entries_of}
-use Rattle.own_entries.proofs.Own.{own-next, own-done, count_next}
 use Rattle.pending.proofs.write_of.Given as goal
 
 abbrev pub invariant-loop-i : goal.invariant-loop-i

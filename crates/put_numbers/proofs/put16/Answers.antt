@@ -3,7 +3,6 @@ use Rattle.numbers.specs.Numbers.{bytes16}
 use native.Mathlib.Numerals.{add-one}
 use lib.ListN.{length-set}
 use native.Mathlib.Omega.{arith}
-use borrow.Author.Rules.{rules}
 use Rattle.put_numbers.proofs.put16.Goals as goal
 
 pub returns : goal.returns

@@ -3,7 +3,6 @@ use Rattle.numbers.specs.Numbers.{bytes32}
 use native.Mathlib.Numerals.{add-one, add-two, add-three}
 use lib.ListN.{length-set}
 use native.Mathlib.Omega.{arith}
-use borrow.Author.Rules.{rules}
 use Rattle.put_numbers.proofs.put32.Goals as goal
 
 pub returns : goal.returns

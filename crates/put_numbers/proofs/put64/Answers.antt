@@ -5,7 +5,6 @@ use mathlib.Core.List.{List}
 use mathlib.Core.Path.{◌≡◌, sym}
 use lib.Seq.{sets}
 use Rattle.lists.proofs.Stores.{sets-append}
-use borrow.Author.Rules.{rules}
 use Rattle.put_numbers.proofs.put64.Goals as goal
 
 halves : (l l1 l2 : List ℕ) (at v : ℕ) → l1 ≡ sets l at (bytes32 (v / 4294967296)) → l2 ≡ sets l1 (at + 4) (bytes32 (v % 4294967296)) → l2 ≡ sets l at (bytes64 v)

@@ -1,10 +1,7 @@
-use Prim.Native.Nat.{◌≤◌, ◌-◌}
-use mathlib.Core.Path.{◌≡◌, sym, ◌∙◌}
+use mathlib.Core.Path.{sym, ◌∙◌}
 use borrow.Author.Rules.{rules}
-use borrow.Author.Tests.{not-false, not-true}
 use native.Mathlib.Omega.{arith}
-use Rattle.reading.specs.Read.{log_within}
-use Rattle.reading.proofs.Ballots.{left_at, log-begins, log-ends, log-fails, log-refused, log-turn}
+use Rattle.reading.proofs.Ballots.{log-begins, log-ends, log-fails, log-refused, log-turn}
 use Rattle.reading.proofs.log_within.Goals as goal
 
 pub loop-i-init : goal.loop-i-init
@@ -19,12 +16,11 @@ returns-then-not-is_entry c =
     (sym c.is_entry.ensures ∙ c.if-not-is_entry.true) ∙ c.loop-i.invariant.1
 
 pub loop-i-preserved : goal.loop-i-preserved
-loop-i-preserved c =
-    (
-      omega arith,
-      log-turn _ _ _ _ _ _ c.loop-i-test.true c.read_log-step.ensures c.if-not-ok.false
-          (sym c.is_entry.ensures ∙ c.if-not-is_entry.false) ∙ c.loop-i.invariant.1,
-    )
+loop-i-preserved c = (
+  omega arith,
+  log-turn _ _ _ _ _ _ c.loop-i-test.true c.read_log-step.ensures c.if-not-ok.false
+      (sym c.is_entry.ensures ∙ c.if-not-is_entry.false) ∙ c.loop-i.invariant.1,
+)
 
 pub returns : goal.returns
 returns c = log-ends _ _ c.loop-i.at _ _ c.loop-i-test.false ∙ c.loop-i.invariant.1

@@ -1,11 +1,8 @@
 -- A walk: what is left to test from the position on gives what there was to test at the start.
-use Prim.Native.Nat.{◌≤◌, ◌-◌}
-use mathlib.Core.Path.{◌≡◌, sym, ◌∙◌}
-use borrow.Author.Rules.{rules}
-use borrow.Author.Tests.{not-false, not-true}
-use native.Mathlib.Omega.{arith}
+use Prim.Native.Nat.{◌≤◌}
+use mathlib.Core.Path.{◌≡◌}
 use Rattle.reading.specs.Read.{log_within}
-use Rattle.reading.proofs.Ballots.{left_at, log-begins, log-ends, log-fails, log-refused, log-turn}
+use Rattle.reading.proofs.Ballots.{left_at}
 use Rattle.reading.proofs.log_within.Given as goal
 
 abbrev pub invariant-loop-i : goal.invariant-loop-i

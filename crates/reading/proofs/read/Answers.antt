@@ -4,7 +4,6 @@ use mathlib.Core.List.{List}
 use mathlib.Core.Path.{◌≡◌, refl, sym, ap, ap₂, ◌∙◌}
 use native.Mathlib.Omega.{arith}
 use lib.ListN.{drop, length, replicate, take}
-use borrow.Author.Rules.{rules}
 use borrow.Author.Tests.{not-false, not-true}
 use Rattle.ballots.specs.Ballots.{no_ballot}
 use Rattle.lists.specs.Tests.{both}
@@ -17,7 +16,7 @@ use Rattle.readings.specs.declared.Reading.{Reading}
 use Rattle.message_heads.specs.Heads.{head_said, head_within}
 use Rattle.message_heads.proofs.Heads.{Within, head_passed, settled-fits, within-facts}
 use Rattle.reading.specs.Read.{ballots_of}
-use Rattle.reading.proofs.Ballots.{Left, again, all-stored, begins-left, decides, fails, skipped}
+use Rattle.reading.proofs.Ballots.{again, all-stored, begins-left, decides, fails, skipped}
 use Rattle.reading.proofs.Whole.{Parts, fine-shapes, no-ballots, no-head, no_lengths, no-log, no-tails, read_all, rest-at, said-beside, stored-fine, stored-tails}
 use Rattle.reading.proofs.read.Goals.{then-b-gt0, else-b-gt0}
 use Rattle.reading.proofs.read.Goals as goal
@@ -41,7 +40,7 @@ returns-then-not-log_within c =
     let head : Reading = c.read_head-m.result in
     let rest : List ℕ = take (length msg - head.head) (drop head.head msg) in
     let passed : (head_within msg ≡ true) × (head ≡ head_said msg (replicate 8 no_ballot)) = let e = c.read_head-m.ensures in let p = head_passed msg (ap (λ (r : Reading). r.ok) (sym e) ∙ c.if-not-m.false) in (p.0, e ∙ p.1) in
-    let parts : Parts msg head.n head.held rest = let e = passed.1 in record { bytes = λ i. omega (arith, c.type_inv.msg i); within = passed.0; count = ap (λ (r : Reading). r.n) e; held = ap (λ (r : Reading). r.held) e; rest-is = rest-at msg head.head (ap (λ (r : Reading). r.head) e); } in
+    let parts : Parts msg head.n head.held rest = let e = passed.1 in record { bytes = λ i. omega (arith, c.type_inv.msg i); within = passed.0; count = ap (λ (r : Reading). r.n) e; held = ap (λ (r : Reading). r.held) e; rest-is = rest-at msg head.head (ap (λ (r : Reading). r.head) e) } in
     c.bad_reading.ensures ∙ no-log _ _ _ _ parts (sym c.log_within.ensures ∙ c.if-not-log_within.true)
 
 pub loop-o-init : goal.loop-o-init
@@ -59,7 +58,7 @@ returns-then-not-step c =
     let head : Reading = c.read_head-m.result in
     let rest : List ℕ = take (length msg - head.head) (drop head.head msg) in
     let passed : (head_within msg ≡ true) × (head ≡ head_said msg (replicate 8 no_ballot)) = let e = c.read_head-m.ensures in let p = head_passed msg (ap (λ (r : Reading). r.ok) (sym e) ∙ c.if-not-m.false) in (p.0, e ∙ p.1) in
-    let parts : Parts msg head.n head.held rest = let e = passed.1 in record { bytes = λ i. omega (arith, c.type_inv.msg i); within = passed.0; count = ap (λ (r : Reading). r.n) e; held = ap (λ (r : Reading). r.held) e; rest-is = rest-at msg head.head (ap (λ (r : Reading). r.head) e); } in
+    let parts : Parts msg head.n head.held rest = let e = passed.1 in record { bytes = λ i. omega (arith, c.type_inv.msg i); within = passed.0; count = ap (λ (r : Reading). r.n) e; held = ap (λ (r : Reading). r.held) e; rest-is = rest-at msg head.head (ap (λ (r : Reading). r.head) e) } in
     c.bad_reading-then-not-step.ensures ∙ no-ballots _ _ _ _ parts (fails c.loop-o.invariant.1 c.loop-o-test.true c.read_ballot-step.ensures (not-true _ c.if-not-step.true))
 
 pub bounds-m-o : goal.bounds-m-o
@@ -69,7 +68,7 @@ bounds-m-o c =
     let passed : (head_within msg ≡ true) × (head ≡ head_said msg (replicate 8 no_ballot)) = let e = c.read_head-m.ensures in let p = head_passed msg (ap (λ (r : Reading). r.ok) (sym e) ∙ c.if-not-m.false) in (p.0, e ∙ p.1) in
     let facts : Within msg = within-facts msg passed.0 in
     let rest : List ℕ = take (length msg - head.head) (drop head.head msg) in
-    let parts : Parts msg head.n head.held rest = let e = passed.1 in record { bytes = λ i. omega (arith, c.type_inv.msg i); within = passed.0; count = ap (λ (r : Reading). r.n) e; held = ap (λ (r : Reading). r.held) e; rest-is = rest-at msg head.head (ap (λ (r : Reading). r.head) e); } in
+    let parts : Parts msg head.n head.held rest = let e = passed.1 in record { bytes = λ i. omega (arith, c.type_inv.msg i); within = passed.0; count = ap (λ (r : Reading). r.n) e; held = ap (λ (r : Reading). r.held) e; rest-is = rest-at msg head.head (ap (λ (r : Reading). r.head) e) } in
     omega (arith, facts, parts.count)
 
 pub loop-o-preserved : goal.loop-o-preserved
@@ -78,7 +77,7 @@ loop-o-preserved c =
     let here = c.loop-o-test.true in
     let good = not-false _ c.if-not-step.false in
     elim c.if-b-gt0.branch [
-      then-b-gt0 w ↦ rw w.m-is (said-beside _ l.m _ l.invariant.0, again l.invariant.1 here c.read_ballot-step.ensures good)
+      | then-b-gt0 w ↦ rw w.m-is (said-beside _ l.m _ l.invariant.0, again l.invariant.1 here c.read_ballot-step.ensures good)
       | else-b-gt0 w ↦ rw w.m-is (l.invariant.0, skipped l.invariant.1 here c.read_ballot-step.ensures good (omega (arith, w.if-b-gt0.false)))
     ]
 
@@ -90,7 +89,7 @@ fine-requires c =
     let passed : (head_within msg ≡ true) × (head ≡ head_said msg (replicate 8 no_ballot)) = let e = c.read_head-m.ensures in let p = head_passed msg (ap (λ (r : Reading). r.ok) (sym e) ∙ c.if-not-m.false) in (p.0, e ∙ p.1) in
     let facts : Within msg = within-facts msg passed.0 in
     let rest : List ℕ = take (length msg - head.head) (drop head.head msg) in
-    let parts : Parts msg head.n head.held rest = let e = passed.1 in record { bytes = λ i. omega (arith, c.type_inv.msg i); within = passed.0; count = ap (λ (r : Reading). r.n) e; held = ap (λ (r : Reading). r.held) e; rest-is = rest-at msg head.head (ap (λ (r : Reading). r.head) e); } in
+    let parts : Parts msg head.n head.held rest = let e = passed.1 in record { bytes = λ i. omega (arith, c.type_inv.msg i); within = passed.0; count = ap (λ (r : Reading). r.n) e; held = ap (λ (r : Reading). r.held) e; rest-is = rest-at msg head.head (ap (λ (r : Reading). r.head) e) } in
     let n = parts.count in
     (omega (arith, facts, n), (omega (arith, facts, n), omega (arith, facts.held-few, parts.held)))
 
@@ -100,7 +99,7 @@ returns-then-not-end-fine c =
     let head : Reading = c.read_head-m.result in
     let rest : List ℕ = take (length msg - head.head) (drop head.head msg) in
     let passed : (head_within msg ≡ true) × (head ≡ head_said msg (replicate 8 no_ballot)) = let e = c.read_head-m.ensures in let p = head_passed msg (ap (λ (r : Reading). r.ok) (sym e) ∙ c.if-not-m.false) in (p.0, e ∙ p.1) in
-    let parts : Parts msg head.n head.held rest = let e = passed.1 in record { bytes = λ i. omega (arith, c.type_inv.msg i); within = passed.0; count = ap (λ (r : Reading). r.n) e; held = ap (λ (r : Reading). r.held) e; rest-is = rest-at msg head.head (ap (λ (r : Reading). r.head) e); } in
+    let parts : Parts msg head.n head.held rest = let e = passed.1 in record { bytes = λ i. omega (arith, c.type_inv.msg i); within = passed.0; count = ap (λ (r : Reading). r.n) e; held = ap (λ (r : Reading). r.held) e; rest-is = rest-at msg head.head (ap (λ (r : Reading). r.head) e) } in
     let facts : Within msg = within-facts msg passed.0 in
     let stored : c.loop-o.m.ballots ≡ ballots_of head.n (tails_at (drop (6 * head.held) rest) 0 head.n) = all-stored c.loop-o.invariant.1 c.loop-o-test.false (omega (arith, facts, parts.count)) in
     let last : let bs = drop (6 * head.held) rest in (c.read_end-end.result.ok && c.fine.result) ≡ both (ballots_ok bs 0 head.n) (tails_fine head.n head.held (eight_tails head.n (tails_at bs 0 head.n))) = and_both _ _ ∙ ap₂ both (sym (decides c.loop-o.invariant.1 c.loop-o-test.false c.read_end-end.ensures)) (c.fine.ensures ∙ stored-fine _ _ _ _ stored) in
@@ -113,7 +112,7 @@ overflow_add-m c =
     let passed : (head_within msg ≡ true) × (head ≡ head_said msg (replicate 8 no_ballot)) = let e = c.read_head-m.ensures in let p = head_passed msg (ap (λ (r : Reading). r.ok) (sym e) ∙ c.if-not-m.false) in (p.0, e ∙ p.1) in
     let facts : Within msg = within-facts msg passed.0 in
     let rest : List ℕ = take (length msg - head.head) (drop head.head msg) in
-    let parts : Parts msg head.n head.held rest = let e = passed.1 in record { bytes = λ i. omega (arith, c.type_inv.msg i); within = passed.0; count = ap (λ (r : Reading). r.n) e; held = ap (λ (r : Reading). r.held) e; rest-is = rest-at msg head.head (ap (λ (r : Reading). r.head) e); } in
+    let parts : Parts msg head.n head.held rest = let e = passed.1 in record { bytes = λ i. omega (arith, c.type_inv.msg i); within = passed.0; count = ap (λ (r : Reading). r.n) e; held = ap (λ (r : Reading). r.held) e; rest-is = rest-at msg head.head (ap (λ (r : Reading). r.head) e) } in
     let p = parts in
     omega (arith, ap (λ (r : Reading). r.dropped) c.loop-o.invariant.0, p.held, settled-fits msg p.bytes facts)
 
@@ -126,7 +125,7 @@ returns-then-not-within c =
     let head : Reading = c.read_head-m.result in
     let rest : List ℕ = take (length msg - head.head) (drop head.head msg) in
     let passed : (head_within msg ≡ true) × (head ≡ head_said msg (replicate 8 no_ballot)) = let e = c.read_head-m.ensures in let p = head_passed msg (ap (λ (r : Reading). r.ok) (sym e) ∙ c.if-not-m.false) in (p.0, e ∙ p.1) in
-    let parts : Parts msg head.n head.held rest = let e = passed.1 in record { bytes = λ i. omega (arith, c.type_inv.msg i); within = passed.0; count = ap (λ (r : Reading). r.n) e; held = ap (λ (r : Reading). r.held) e; rest-is = rest-at msg head.head (ap (λ (r : Reading). r.head) e); } in
+    let parts : Parts msg head.n head.held rest = let e = passed.1 in record { bytes = λ i. omega (arith, c.type_inv.msg i); within = passed.0; count = ap (λ (r : Reading). r.n) e; held = ap (λ (r : Reading). r.held) e; rest-is = rest-at msg head.head (ap (λ (r : Reading). r.head) e) } in
     let facts : Within msg = within-facts msg passed.0 in
     let stored : c.loop-o.m.ballots ≡ ballots_of head.n (tails_at (drop (6 * head.held) rest) 0 head.n) = all-stored c.loop-o.invariant.1 c.loop-o-test.false (omega (arith, facts, parts.count)) in
     let bounded : c.within.result ≡ lengths_fine (dropped_at msg + head.held) (eight_tails head.n (tails_at (drop (6 * head.held) rest) 0 head.n)) = let d = ap (λ (r : Reading). r.dropped + head.held) c.loop-o.invariant.0 in c.within.ensures ∙ ap₂ lengths_fine d (stored-tails _ _ _ stored) in
@@ -138,7 +137,7 @@ returns c =
     let head : Reading = c.read_head-m.result in
     let rest : List ℕ = take (length msg - head.head) (drop head.head msg) in
     let passed : (head_within msg ≡ true) × (head ≡ head_said msg (replicate 8 no_ballot)) = let e = c.read_head-m.ensures in let p = head_passed msg (ap (λ (r : Reading). r.ok) (sym e) ∙ c.if-not-m.false) in (p.0, e ∙ p.1) in
-    let parts : Parts msg head.n head.held rest = let e = passed.1 in record { bytes = λ i. omega (arith, c.type_inv.msg i); within = passed.0; count = ap (λ (r : Reading). r.n) e; held = ap (λ (r : Reading). r.held) e; rest-is = rest-at msg head.head (ap (λ (r : Reading). r.head) e); } in
+    let parts : Parts msg head.n head.held rest = let e = passed.1 in record { bytes = λ i. omega (arith, c.type_inv.msg i); within = passed.0; count = ap (λ (r : Reading). r.n) e; held = ap (λ (r : Reading). r.held) e; rest-is = rest-at msg head.head (ap (λ (r : Reading). r.head) e) } in
     let facts : Within msg = within-facts msg passed.0 in
     let stored : c.loop-o.m.ballots ≡ ballots_of head.n (tails_at (drop (6 * head.held) rest) 0 head.n) = all-stored c.loop-o.invariant.1 c.loop-o-test.false (omega (arith, facts, parts.count)) in
     let last : let bs = drop (6 * head.held) rest in (c.read_end-end.result.ok && c.fine.result) ≡ both (ballots_ok bs 0 head.n) (tails_fine head.n head.held (eight_tails head.n (tails_at bs 0 head.n))) = and_both _ _ ∙ ap₂ both (sym (decides c.loop-o.invariant.1 c.loop-o-test.false c.read_end-end.ensures)) (c.fine.ensures ∙ stored-fine _ _ _ _ stored) in
@@ -157,7 +156,7 @@ overflow_mul-at c =
     let passed : (head_within msg ≡ true) × (head ≡ head_said msg (replicate 8 no_ballot)) = let e = c.read_head-m.ensures in let p = head_passed msg (ap (λ (r : Reading). r.ok) (sym e) ∙ c.if-not-m.false) in (p.0, e ∙ p.1) in
     let facts : Within msg = within-facts msg passed.0 in
     let rest : List ℕ = take (length msg - head.head) (drop head.head msg) in
-    let parts : Parts msg head.n head.held rest = let e = passed.1 in record { bytes = λ i. omega (arith, c.type_inv.msg i); within = passed.0; count = ap (λ (r : Reading). r.n) e; held = ap (λ (r : Reading). r.held) e; rest-is = rest-at msg head.head (ap (λ (r : Reading). r.head) e); } in
+    let parts : Parts msg head.n head.held rest = let e = passed.1 in record { bytes = λ i. omega (arith, c.type_inv.msg i); within = passed.0; count = ap (λ (r : Reading). r.n) e; held = ap (λ (r : Reading). r.held) e; rest-is = rest-at msg head.head (ap (λ (r : Reading). r.head) e) } in
     omega (arith, facts.held-few, parts.held)
 
 pub offset_bounds-m-o : goal.offset_bounds-m-o

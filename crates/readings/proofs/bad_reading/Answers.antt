@@ -1,5 +1,4 @@
 -- The definition, field by field.
-use borrow.Author.Rules.{rules}
 use Rattle.readings.specs.Read.{bad_reading}
 use Rattle.readings.proofs.bad_reading.Goals as goal
 

@@ -1,7 +1,6 @@
 -- The test answers which of the two steps it is.
 use mathlib.Core.Path.{◌∙◌, sym}
 use native.Mathlib.Omega.{arith}
-use borrow.Author.Rules.{rules}
 use Rattle.records.proofs.Marks.{end-bad, end-good, end-room}
 use Rattle.records.proofs.end_at.Goals as goal
 

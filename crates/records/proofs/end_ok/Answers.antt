@@ -1,6 +1,5 @@
 -- Each failing test shows that the end does not stand at the position; past them its second byte decides.
 use native.Mathlib.Omega.{arith}
-use borrow.Author.Rules.{rules}
 use Rattle.records.proofs.Marks.{end-no, end-yes}
 use Rattle.records.proofs.end_ok.Goals as goal
 

@@ -1,7 +1,6 @@
 -- Where there is no room the step is a bad one; else the value is read.
 use mathlib.Core.Path.{◌∙◌}
 use native.Mathlib.Omega.{arith}
-use borrow.Author.Rules.{rules}
 use Rattle.records.proofs.Marks.{entry-bad, entry-good}
 use Rattle.records.proofs.entry_at.Goals as goal
 

@@ -3,7 +3,6 @@ use Prim.Native.Nat.{◌+◌, ◌≤◌}
 use mathlib.Core.Path.{◌∙◌, sym}
 use native.Mathlib.Omega.{arith}
 use lib.ListN.{length}
-use borrow.Author.Rules.{rules}
 use Rattle.records.proofs.Marks.{log-bad, log-good, log-room}
 use Rattle.records.proofs.log_at.Goals.{Then-record_here}
 use Rattle.records.proofs.log_at.Goals as goal

@@ -1,7 +1,6 @@
 -- The value stands after the two bytes of the mark.
 use mathlib.Core.Path.{◌∙◌}
 use lib.Seq.{drop-drop}
-use borrow.Author.Rules.{rules}
 use Rattle.spelling.specs.Reading.{record_at}
 use Rattle.records.proofs.record_at.Goals as goal
 

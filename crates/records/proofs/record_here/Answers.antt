@@ -1,7 +1,6 @@
 -- Each failing test shows that no mark stands at the position, or no room for a record; past them it stands.
 use Prim.Native.Nat.{◌+◌}
 use native.Mathlib.Omega.{arith}
-use borrow.Author.Rules.{rules}
 use Rattle.records.proofs.Marks.{log-no, log-yes, mark-number}
 use Rattle.records.proofs.record_here.Goals as goal
 

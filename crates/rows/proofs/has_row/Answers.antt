@@ -1,9 +1,8 @@
 use native.Mathlib.Omega.{arith}
 use mathlib.Core.Path.{◌≡◌, refl}
-use Prim.Native.Nat.{◌-◌, ◌≤◌}
-use lib.ListN.{length, take, drop}
+use Prim.Native.Nat.{◌≤◌}
+use lib.ListN.{length}
 use borrow.Author.Rules.{rules}
-use Rattle.rows.specs.Rows.{is_in}
 use Rattle.rows.proofs.Walks.{in-next, in-stop, in-done}
 use Rattle.rows.proofs.has_row.Goals as goal
 

@@ -1,11 +1,8 @@
 -- A walk from the front: whether the entry is among what is left of the rows.
-use native.Mathlib.Omega.{arith}
-use mathlib.Core.Path.{◌≡◌, refl}
-use Prim.Native.Nat.{◌-◌, ◌≤◌}
-use lib.ListN.{length, take, drop}
-use borrow.Author.Rules.{rules}
+use mathlib.Core.Path.{◌≡◌}
+use Prim.Native.Nat.{◌≤◌}
+use lib.ListN.{take, drop}
 use Rattle.rows.specs.Rows.{is_in}
-use Rattle.rows.proofs.Walks.{in-next, in-stop, in-done}
 use Rattle.rows.proofs.has_row.Given as goal
 
 abbrev pub invariant-loop-i : goal.invariant-loop-i

@@ -1,9 +1,8 @@
 use native.Mathlib.Omega.{arith}
 use mathlib.Core.Path.{◌≡◌}
-use Prim.Native.Nat.{◌-◌, ◌≤◌}
 use lib.ListN.{length}
 use borrow.Author.Rules.{rules}
-use Rattle.rows.proofs.Walks.{SoFar, rows_none, rows_few, rows_next, rows-done}
+use Rattle.rows.proofs.Walks.{rows_none, rows_few, rows_next, rows-done}
 use Rattle.rows.proofs.of_votes.Goals as goal
 
 pub loop-i-init : goal.loop-i-init

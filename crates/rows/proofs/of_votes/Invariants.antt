@@ -1,10 +1,6 @@
 -- A walk over the votes: the rows so far, and those that what is left of the votes adds to them.
-use native.Mathlib.Omega.{arith}
-use mathlib.Core.Path.{◌≡◌}
-use Prim.Native.Nat.{◌-◌, ◌≤◌}
-use lib.ListN.{length}
-use borrow.Author.Rules.{rules}
-use Rattle.rows.proofs.Walks.{SoFar, rows_none, rows_few, rows_next, rows-done}
+use Prim.Native.Nat.{◌≤◌}
+use Rattle.rows.proofs.Walks.{SoFar}
 use Rattle.rows.proofs.of_votes.Given as goal
 
 abbrev pub invariant-loop-i : goal.invariant-loop-i

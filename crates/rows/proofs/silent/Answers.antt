@@ -1,11 +1,8 @@
 use native.Mathlib.Omega.{arith}
 use mathlib.Core.Path.{◌≡◌, refl}
-use Prim.Native.Nat.{◌-◌, ◌≤◌}
-use lib.ListN.{length, replicate}
+use Prim.Native.Nat.{◌≤◌}
+use lib.ListN.{length}
 use borrow.Author.Rules.{rules}
-use Rattle.lists.proofs.Fill.{filled}
-use Rattle.tallies.specs.Tallies.{votes_in}
-use Rattle.rows.specs.Rows.{marks}
 use Rattle.rows.proofs.Walks.{marks-next, marks-done}
 use Rattle.rows.proofs.silent.Goals as goal
 

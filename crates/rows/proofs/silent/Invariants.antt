@@ -1,13 +1,10 @@
 -- A walk that writes each office's mark over zeros.
-use native.Mathlib.Omega.{arith}
-use mathlib.Core.Path.{◌≡◌, refl}
-use Prim.Native.Nat.{◌-◌, ◌≤◌}
-use lib.ListN.{length, replicate}
-use borrow.Author.Rules.{rules}
+use mathlib.Core.Path.{◌≡◌}
+use Prim.Native.Nat.{◌≤◌}
+use lib.ListN.{replicate}
 use Rattle.lists.proofs.Fill.{filled}
 use Rattle.tallies.specs.Tallies.{votes_in}
 use Rattle.rows.specs.Rows.{marks}
-use Rattle.rows.proofs.Walks.{marks-next, marks-done}
 use Rattle.rows.proofs.silent.Given as goal
 
 abbrev pub invariant-loop-i : goal.invariant-loop-i

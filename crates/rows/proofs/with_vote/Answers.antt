@@ -1,5 +1,4 @@
 -- No vote and an entry that has its row leave the rows; another entry's row is written behind them.
-use borrow.Author.Rules.{rules}
 use Rattle.rows.proofs.Walks.{vote-none, vote-again, vote-new}
 use Rattle.rows.proofs.with_vote.Goals as goal
 

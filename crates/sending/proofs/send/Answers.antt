@@ -1,8 +1,6 @@
 -- Soundness is tested once; what the writer requires is in every sound record.
 use native.Mathlib.Omega.{arith}
 use mathlib.Core.Path.{refl, sym, ◌∙◌}
-use borrow.Author.Rules.{rules}
-use borrow.Author.Tests.{not-true, not-false}
 use Rattle.frame.specs.Soundness.{Sound}
 use Rattle.sending.proofs.Sends.{send-unsound, send-short, send-done, writable-with}
 use Rattle.frame.proofs.Sound.{sound}

@@ -2,9 +2,9 @@ use borrow.Author.Rules.{rules}
 use native.Mathlib.Omega.{arith}
 use mathlib.Core.Path.{◌≡◌, refl, sym, ap, ap₂, ◌∙◌}
 use mathlib.Core.List.{List, [], ◌∷◌}
-use Prim.Native.Nat.{ℕ, ◌-◌, ◌≤◌}
+use Prim.Native.Nat.{ℕ}
 use lib.ListN.{length, set}
-use Rattle.lists.proofs.Fold.{FoldedUpTo, fold_next, fold_done}
+use Rattle.lists.proofs.Fold.{fold_next, fold_done}
 use Rattle.protocol.specs.Codes.{coded, codes_after}
 use Rattle.settled_codes.proofs.Cells.{codes-made}
 use Rattle.settled_codes.proofs.codes_after.Goals as goal

@@ -1,11 +1,11 @@
 use borrow.Author.Rules.{rules}
 use mathlib.Core.Path.{◌≡◌, refl, sym, ap₂, ◌∙◌}
 use mathlib.Core.List.{List}
-use Prim.Native.Nat.{ℕ, ◌-◌, ◌<◌, ◌≤◌}
+use Prim.Native.Nat.{ℕ, ◌<◌}
 use native.Mathlib.Omega.{arith}
 use lib.ListN.{length, replicate, take, set}
 use lib.Seq.{get_or-take, length-take-le}
-use Rattle.lists.proofs.Fill.{filled, fill_step, fill_end}
+use Rattle.lists.proofs.Fill.{fill_step, fill_end}
 use Rattle.settled_codes.proofs.narrowed.Goals.{Start}
 use Rattle.settled_codes.proofs.narrowed.Goals as goal
 

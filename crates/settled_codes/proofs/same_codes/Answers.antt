@@ -1,10 +1,9 @@
 use borrow.Author.Rules.{rules}
 use native.Mathlib.Omega.{arith}
 use mathlib.Core.Path.{◌≡◌, refl}
-use Prim.Native.Nat.{◌-◌, ◌≤◌}
 use lib.ListN.{length}
 use Rattle.lists.specs.Tests.{both}
-use Rattle.settled_codes.proofs.Cells.{SameWith, same-with-next, same-with-done}
+use Rattle.settled_codes.proofs.Cells.{same-with-next, same-with-done}
 use Rattle.settled_codes.proofs.same_codes.Goals.{Start}
 use Rattle.settled_codes.proofs.same_codes.Goals as goal
 

@@ -1,11 +1,6 @@
 -- A walk from the front that compares every line: what was found so far and what is left of the codes answer as all of them do.
-use borrow.Author.Rules.{rules}
-use native.Mathlib.Omega.{arith}
-use mathlib.Core.Path.{◌≡◌, refl}
-use Prim.Native.Nat.{◌-◌, ◌≤◌}
-use lib.ListN.{length}
-use Rattle.lists.specs.Tests.{both}
-use Rattle.settled_codes.proofs.Cells.{SameWith, same-with-next, same-with-done}
+use Prim.Native.Nat.{◌≤◌}
+use Rattle.settled_codes.proofs.Cells.{SameWith}
 use Rattle.settled_codes.proofs.same_codes.Given as goal
 
 abbrev pub invariant-loop-i : goal.invariant-loop-i

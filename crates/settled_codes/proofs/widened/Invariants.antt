@@ -1,12 +1,8 @@
 -- A walk that copies: the first cells are the codes, the others still zero.
-use borrow.Author.Rules.{rules}
-use mathlib.Core.Path.{◌≡◌, refl, ap, ◌∙◌}
-use mathlib.Core.List.{List, ◌++◌}
-use Prim.Native.Nat.{ℕ, ◌-◌, ◌≤◌}
-use native.Mathlib.Omega.{arith}
-use lib.ListN.{length, get_or, replicate, set}
-use lib.Seq.{take_all}
-use Rattle.lists.proofs.Fill.{filled, front-step}
+use mathlib.Core.Path.{◌≡◌}
+use Prim.Native.Nat.{◌≤◌}
+use lib.ListN.{replicate}
+use Rattle.lists.proofs.Fill.{filled}
 use Rattle.settled_codes.proofs.widened.Given as goal
 
 abbrev pub invariant-loop-i : goal.invariant-loop-i

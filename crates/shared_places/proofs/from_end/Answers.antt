@@ -1,12 +1,11 @@
 use native.Mathlib.Omega.{arith}
 use mathlib.Core.Path.{◌≡◌, sym, ◌∙◌}
-use Prim.Native.Nat.{◌-◌, ◌*◌, ◌≤◌}
+use Prim.Native.Nat.{◌-◌, ◌*◌}
 use lib.ListN.{get_or}
-use borrow.Author.Rules.{rules}
 use Rattle.numbers.specs.Numbers.{run_at}
 use Rattle.spelling.specs.Reading.{record_at}
 use Rattle.records.proofs.Marks.{entry-step}
-use Rattle.shared_places.proofs.Walk.{Walked, walk_first, walk-next, walk-met, walk-done, record-at}
+use Rattle.shared_places.proofs.Walk.{walk_first, walk-next, walk-met, walk-done, record-at}
 use Rattle.shared_places.proofs.from_end.Goals as goal
 
 pub loop-i-init : goal.loop-i-init

@@ -1,13 +1,8 @@
 -- The invariant: the places passed are the same in both.
-use native.Mathlib.Omega.{arith}
-use mathlib.Core.Path.{◌≡◌, sym, ◌∙◌}
-use Prim.Native.Nat.{◌-◌, ◌*◌, ◌≤◌}
-use lib.ListN.{get_or}
-use borrow.Author.Rules.{rules}
+use Prim.Native.Nat.{◌≤◌}
 use Rattle.numbers.specs.Numbers.{run_at}
 use Rattle.spelling.specs.Reading.{record_at}
-use Rattle.records.proofs.Marks.{entry-step}
-use Rattle.shared_places.proofs.Walk.{Walked, walk_first, walk-next, walk-met, walk-done, record-at}
+use Rattle.shared_places.proofs.Walk.{Walked}
 use Rattle.shared_places.proofs.from_end.Given as goal
 
 abbrev pub invariant-loop-i : goal.invariant-loop-i

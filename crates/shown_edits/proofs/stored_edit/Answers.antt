@@ -1,6 +1,5 @@
 -- 0, or a number above it.
 use native.Mathlib.Omega.{arith}
-use borrow.Author.Rules.{rules}
 use mathlib.Core.Path.{sym, ap}
 use Rattle.shown_edits.specs.Shown.{stored_edit}
 use Rattle.shown_edits.proofs.Stored.{code-said}

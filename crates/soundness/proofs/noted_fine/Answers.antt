@@ -1,10 +1,9 @@
 use borrow.Author.Rules.{rules}
 use native.Mathlib.Omega.{arith}
 use mathlib.Core.Path.{◌≡◌, refl, ap}
-use Prim.Native.Nat.{◌-◌, ◌≤◌}
 use lib.Dec.{leb}
 use lib.ListN.{length, get_or}
-use Rattle.soundness.proofs.Noted.{Walked, limits-next, limits-done}
+use Rattle.soundness.proofs.Noted.{limits-next, limits-done}
 use Rattle.soundness.proofs.noted_fine.Goals as goal
 
 pub loop-i-init : goal.loop-i-init

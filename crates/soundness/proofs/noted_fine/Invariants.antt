@@ -1,11 +1,6 @@
 -- A walk that makes every test: each place by the most that may be noted there.
-use borrow.Author.Rules.{rules}
-use native.Mathlib.Omega.{arith}
-use mathlib.Core.Path.{◌≡◌, refl, ap}
-use Prim.Native.Nat.{◌-◌, ◌≤◌}
-use lib.Dec.{leb}
-use lib.ListN.{length, get_or}
-use Rattle.soundness.proofs.Noted.{Walked, limits-next, limits-done}
+use Prim.Native.Nat.{◌≤◌}
+use Rattle.soundness.proofs.Noted.{Walked}
 use Rattle.soundness.proofs.noted_fine.Given as goal
 
 abbrev pub invariant-loop-i : goal.invariant-loop-i

@@ -1,8 +1,7 @@
 -- The tests in the order of the contract; each failing one ends it.
-use borrow.Author.Rules.{rules}
 use native.Mathlib.Omega.{arith}
 use mathlib.Core.Path.{sym, ◌∙◌}
-use borrow.Author.Tests.{le-leb, lt-leb, not-true, not-false}
+use borrow.Author.Tests.{le-leb, lt-leb}
 use Rattle.lists.specs.Tests.{both}
 use Rattle.lists.proofs.Tests.{both-false-0, both-false-1}
 use Rattle.soundness.proofs.numbers_fine.Goals as goal

@@ -6,8 +6,7 @@ use Prim.Native.Nat.{ℕ, ◌≤◌}
 use lib.Dec.{leb}
 use lib.ListN.{length, take}
 use lib.Seq.{length-take-le}
-use borrow.Author.Tests.{leb-true, le-leb, not-true, not-false}
-use borrow.Author.Rules.{rules}
+use borrow.Author.Tests.{leb-true, le-leb}
 use Rattle.lists.specs.Tests.{both, all_b}
 use Rattle.lists.proofs.Tests.{both-0, both-1, both_true}
 use Rattle.protocol.specs.Limits.{head_fine}

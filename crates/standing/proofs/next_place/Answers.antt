@@ -1,8 +1,6 @@
 -- A record that is not sound is refused; of one that is, each part of the answer is that of the votes its ballots cast.
 use mathlib.Core.Bool.{true}
 use mathlib.Core.Path.{◌≡◌, sym, ◌∙◌}
-use borrow.Author.Tests.{not-true, not-false}
-use borrow.Author.Rules.{rules}
 use Rattle.frame.specs.Soundness.{sound_b, Sound}
 use Rattle.frame.proofs.Sound.{sound}
 use Rattle.standing.proofs.Answer.{standing-unsound, standing-done}

@@ -1,5 +1,4 @@
 -- The places of the three tails are the digits of the table's place, to base 13.
-use borrow.Author.Rules.{rules}
 use Rattle.tables.proofs.Made.{made-last, made_table}
 use Rattle.tables.proofs.table_at.Goals as goal
 

@@ -1,7 +1,6 @@
 -- Place 0 has no entry, places 1 to 3 have one and places 4 to 12 two.
 use native.Mathlib.Omega.{arith}
 use mathlib.Core.Path.{ap, ◌∙◌}
-use borrow.Author.Rules.{rules}
 use Rattle.ballots.specs.Ballots.{pushed}
 use Rattle.ballots.specs.declared.Ballot.{Ballot}
 use Rattle.tables.proofs.Made.{made_none, made-past, made_one, made-two}

@@ -5,7 +5,6 @@ use mathlib.Core.Bool.{false}
 use Prim.Native.Nat.{◌≤◌}
 use lib.ListN.{length, length-drop}
 use borrow.Author.Rules.{rules}
-use borrow.Author.Tests.{not-true, not-false}
 use Rattle.reading.proofs.Answers.{rest-of-message}
 use Rattle.frame.specs.Soundness.{Sound}
 use Rattle.lists.specs.Tests.{pick}

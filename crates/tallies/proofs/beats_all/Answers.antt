@@ -1,13 +1,11 @@
 use native.Mathlib.Omega.{arith}
 use mathlib.Core.Path.{◌≡◌, refl}
-use Prim.Native.Nat.{◌-◌, ◌≤◌}
-use lib.ListN.{length, drop}
-use borrow.Author.Tests.{not-true, not-false}
+use Prim.Native.Nat.{◌≤◌}
+use lib.ListN.{length}
 use borrow.Author.Rules.{rules}
 use Rattle.protocol.specs.Counts.{quieter_by}
-use Rattle.protocol.specs.Vote.{supported, beats_all}
 use Rattle.tallies.specs.Tallies.{votes_in}
-use Rattle.tallies.proofs.Walks.{votes_from, beats-next, beats-stop, beats-done}
+use Rattle.tallies.proofs.Walks.{beats-next, beats-stop, beats-done}
 use Rattle.tallies.proofs.beats_all.Goals.{Start}
 use Rattle.tallies.proofs.beats_all.Goals as goal
 

@@ -1,14 +1,11 @@
 -- A walk from the front: what is left of the votes answers as all of them do.
-use native.Mathlib.Omega.{arith}
-use mathlib.Core.Path.{◌≡◌, refl}
-use Prim.Native.Nat.{◌-◌, ◌≤◌}
-use lib.ListN.{length, drop}
-use borrow.Author.Tests.{not-true, not-false}
-use borrow.Author.Rules.{rules}
+use mathlib.Core.Path.{◌≡◌}
+use Prim.Native.Nat.{◌≤◌}
+use lib.ListN.{drop}
 use Rattle.protocol.specs.Counts.{quieter_by}
 use Rattle.protocol.specs.Vote.{supported, beats_all}
 use Rattle.tallies.specs.Tallies.{votes_in}
-use Rattle.tallies.proofs.Walks.{votes_from, beats-next, beats-stop, beats-done}
+use Rattle.tallies.proofs.Walks.{votes_from}
 use Rattle.tallies.proofs.beats_all.Given as goal
 
 abbrev pub invariant-loop-i : goal.invariant-loop-i

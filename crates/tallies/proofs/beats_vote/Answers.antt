@@ -1,5 +1,4 @@
 -- No vote is no rival, and an entry is none of itself; any other is compared by its T.
-use borrow.Author.Rules.{rules}
 use mathlib.Core.Path.{◌∙◌}
 use Rattle.protocol.specs.Counts.{quieter_by}
 use Rattle.tallies.specs.Tallies.{votes_in}

@@ -1,12 +1,12 @@
 use native.Mathlib.Omega.{arith}
 use mathlib.Core.Path.{◌≡◌, refl, sym, ◌∙◌}
-use Prim.Native.Nat.{◌-◌, ◌≤◌}
-use lib.ListN.{length, drop}
+use Prim.Native.Nat.{◌≤◌}
+use lib.ListN.{length}
 use borrow.Author.Rules.{rules}
 use Rattle.protocol.specs.Counts.{quieter_by}
-use Rattle.protocol.specs.Vote.{supported, first_winner, winner}
-use Rattle.tallies.specs.Tallies.{winner_is, no_vote, votes_in}
-use Rattle.tallies.proofs.Walks.{votes_from, weight-none, winner-next, winner-stop, winner-done}
+use Rattle.protocol.specs.Vote.{winner}
+use Rattle.tallies.specs.Tallies.{no_vote, votes_in}
+use Rattle.tallies.proofs.Walks.{weight-none, winner-next, winner-stop, winner-done}
 use Rattle.tallies.proofs.find_winner.Goals.{Start}
 use Rattle.tallies.proofs.find_winner.Goals as goal
 

@@ -1,13 +1,11 @@
 -- A walk from the front: the winner among what is left of the votes is the winner of all.
-use native.Mathlib.Omega.{arith}
-use mathlib.Core.Path.{◌≡◌, refl, sym, ◌∙◌}
-use Prim.Native.Nat.{◌-◌, ◌≤◌}
-use lib.ListN.{length, drop}
-use borrow.Author.Rules.{rules}
+use mathlib.Core.Path.{◌≡◌}
+use Prim.Native.Nat.{◌≤◌}
+use lib.ListN.{drop}
 use Rattle.protocol.specs.Counts.{quieter_by}
 use Rattle.protocol.specs.Vote.{supported, first_winner, winner}
-use Rattle.tallies.specs.Tallies.{winner_is, no_vote, votes_in}
-use Rattle.tallies.proofs.Walks.{votes_from, weight-none, winner-next, winner-stop, winner-done}
+use Rattle.tallies.specs.Tallies.{winner_is, votes_in}
+use Rattle.tallies.proofs.Walks.{votes_from}
 use Rattle.tallies.proofs.find_winner.Given as goal
 
 abbrev pub invariant-loop-i : goal.invariant-loop-i

@@ -1,7 +1,6 @@
 -- T is compared with U first; then the entry is compared with every supported one.
 use native.Mathlib.Omega.{arith}
 use mathlib.Core.Path.{◌∙◌}
-use borrow.Author.Rules.{rules}
 use Rattle.protocol.specs.Counts.{quieter_by}
 use Rattle.tallies.specs.Tallies.{votes_in}
 use Rattle.tallies.proofs.Walks.{weight-entry, wins-none, wins-unheard, wins-beats}

@@ -1,10 +1,8 @@
 use native.Mathlib.Omega.{arith}
 use mathlib.Core.Path.{◌≡◌, refl}
-use Prim.Native.Nat.{◌+◌, ◌-◌, ◌*◌, ◌≤◌}
-use lib.ListN.{length, drop}
+use lib.ListN.{length}
 use borrow.Author.Rules.{rules}
-use Rattle.tallies.specs.Tallies.{votes_in, weight_for}
-use Rattle.tallies.proofs.Walks.{votes_from, weight-step, weight-end}
+use Rattle.tallies.proofs.Walks.{weight-step, weight-end}
 use Rattle.tallies.proofs.weight_for.Goals as goal
 
 pub loop-i-init : goal.loop-i-init

@@ -1,11 +1,9 @@
 -- A walk from the front: the sum so far with what is left of the votes gives the weight.
-use native.Mathlib.Omega.{arith}
-use mathlib.Core.Path.{◌≡◌, refl}
-use Prim.Native.Nat.{◌+◌, ◌-◌, ◌*◌, ◌≤◌}
-use lib.ListN.{length, drop}
-use borrow.Author.Rules.{rules}
+use mathlib.Core.Path.{◌≡◌}
+use Prim.Native.Nat.{◌+◌, ◌*◌, ◌≤◌}
+use lib.ListN.{drop}
 use Rattle.tallies.specs.Tallies.{votes_in, weight_for}
-use Rattle.tallies.proofs.Walks.{votes_from, weight-step, weight-end}
+use Rattle.tallies.proofs.Walks.{votes_from}
 use Rattle.tallies.proofs.weight_for.Given as goal
 
 abbrev pub invariant-loop-i : goal.invariant-loop-i

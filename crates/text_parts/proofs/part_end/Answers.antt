@@ -1,8 +1,7 @@
-use borrow.Author.Rules.{rules}
 use native.Mathlib.Omega.{arith}
 use mathlib.Core.Path.{◌≡◌, refl}
-use Prim.Native.Nat.{suc, ◌+◌, ◌-◌}
-use lib.ListN.{length, drop}
+use Prim.Native.Nat.{suc, ◌+◌}
+use lib.ListN.{drop}
 use Rattle.text_parts.specs.Parts.{part_length}
 use Rattle.text_parts.proofs.Ends.{part-stop, part-next, part_none}
 use Rattle.text_parts.proofs.part_end.Goals as goal

@@ -1,11 +1,8 @@
 -- The invariant: what is left of the part at i ends where the part ends.
-use borrow.Author.Rules.{rules}
-use native.Mathlib.Omega.{arith}
-use mathlib.Core.Path.{◌≡◌, refl}
-use Prim.Native.Nat.{suc, ◌+◌, ◌-◌}
+use mathlib.Core.Path.{◌≡◌}
+use Prim.Native.Nat.{◌+◌, ◌-◌}
 use lib.ListN.{length, drop}
 use Rattle.text_parts.specs.Parts.{part_length}
-use Rattle.text_parts.proofs.Ends.{part-stop, part-next, part_none}
 use Rattle.text_parts.proofs.part_end.Given as goal
 
 abbrev pub invariant-loop-i : goal.invariant-loop-i

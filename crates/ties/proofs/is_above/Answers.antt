@@ -1,5 +1,4 @@
 -- One branch for each side of the two comparisons.
-use borrow.Author.Rules.{rules}
 use borrow.Author.Tests.{le-ltb, lt-ltb, eq-eqb, ne_eqb}
 use Rattle.ties.proofs.is_above.Goals as goal
 

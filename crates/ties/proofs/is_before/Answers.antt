@@ -1,5 +1,4 @@
 -- One branch for each way that two counts compare.
-use borrow.Author.Rules.{rules}
 use Rattle.ties.proofs.Quieter.{tie-fewer, tie-more, tie-even}
 use Rattle.ties.proofs.is_before.Goals as goal
 

@@ -1,12 +1,12 @@
 use borrow.Author.Rules.{rules}
 use native.Mathlib.Omega.{arith}
 use mathlib.Core.Path.{◌≡◌, sym, refl}
-use Prim.Native.Nat.{◌+◌, ◌-◌}
+use Prim.Native.Nat.{◌+◌}
 use lib.ListN.{length}
 use lib.Seq.{length-take-le}
 use Rattle.ballots.specs.Ballots.{tail_of}
 use Rattle.vectors.specs.Vectors.{kept_count_limit}
-use Rattle.vectors.proofs.Paths.{Walked, path-next, path-done, path_room}
+use Rattle.vectors.proofs.Paths.{path-next, path-done, path_room}
 use Rattle.vectors.proofs.path_counts.Goals as goal
 
 pub overflow_add-counts : goal.overflow_add-counts

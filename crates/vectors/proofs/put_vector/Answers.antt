@@ -1,10 +1,9 @@
-use Prim.Native.Nat.{◌-◌}
 use mathlib.Core.Path.{◌≡◌, refl}
 use native.Mathlib.Omega.{arith}
 use lib.ListN.{length}
 use borrow.Author.Rules.{rules}
 use Rattle.numbers.specs.Numbers.{bytes64}
-use Rattle.numbers.proofs.Steps.{Storing, storing-again, storing-ends}
+use Rattle.numbers.proofs.Steps.{storing-again, storing-ends}
 use Rattle.vectors.proofs.Items.{count_item}
 use Rattle.vectors.proofs.put_vector.Goals as goal
 

@@ -1,12 +1,6 @@
 -- The invariant `Storing`: what is left to store, from the position on, gives all that is to be stored.
-use Prim.Native.Nat.{◌-◌}
-use mathlib.Core.Path.{◌≡◌, refl}
-use native.Mathlib.Omega.{arith}
-use lib.ListN.{length}
-use borrow.Author.Rules.{rules}
 use Rattle.numbers.specs.Numbers.{bytes64}
-use Rattle.numbers.proofs.Steps.{Storing, storing-again, storing-ends}
-use Rattle.vectors.proofs.Items.{count_item}
+use Rattle.numbers.proofs.Steps.{Storing}
 use Rattle.vectors.proofs.put_vector.Given as goal
 
 abbrev pub invariant-loop-k : goal.invariant-loop-k

@@ -1,4 +1,4 @@
-use Prim.Native.Nat.{ℕ, ◌+◌, ◌-◌, ◌*◌, ◌≤◌}
+use Prim.Native.Nat.{ℕ, ◌+◌, ◌*◌, ◌≤◌}
 use mathlib.Core.List.{List}
 use mathlib.Core.Path.{◌≡◌, ◌∙◌}
 use native.Mathlib.Omega.{arith}
@@ -9,7 +9,7 @@ use Rattle.ballots.specs.Ballots.{off_end, tail_of}
 use Rattle.writer.proofs.Ballots.{len-at}
 use Rattle.writer.proofs.Whole.{refused, written}
 use Rattle.vectors.specs.Vectors.{EachAtMost, kept_count_limit, vector_of, versions_bytes, versions_in}
-use Rattle.vectors.proofs.Vectors.{ToWrite, log-most, log-vector, all-is, row-few, size_is, tails_in, whole, write_again, write-begins, write-ends, write-room}
+use Rattle.vectors.proofs.Vectors.{log-most, log-vector, all-is, row-few, size_is, tails_in, whole, write_again, write-begins, write-ends, write-room}
 use Rattle.vectors.proofs.write.Goals as goal
 
 pub returns-then-out-size : goal.returns-then-out-size

@@ -2,7 +2,7 @@ use borrow.Author.Rules.{rules}
 use native.Mathlib.Omega.{arith}
 use mathlib.Core.Path.{◌≡◌, ap, ◌∙◌}
 use mathlib.Core.List.{List}
-use Prim.Native.Nat.{ℕ, ◌+◌, ◌-◌, ◌≤◌}
+use Prim.Native.Nat.{ℕ, ◌+◌, ◌≤◌}
 use lib.ListN.{length, get_or, take}
 use lib.Seq.{take_at}
 use Rattle.numbers.specs.Numbers.{be64}
@@ -12,7 +12,7 @@ use Rattle.writer.proofs.Ballots.{len-at}
 use Rattle.vectors.specs.Vectors.{EachAtMost, kept_count_limit, versions_in}
 use Rattle.vectors.proofs.Vectors.{log-most, log-vector}
 use Rattle.versions.specs.Versions.{answers_to, compared_to, counts_in, nine}
-use Rattle.versions.proofs.Paths.{ToAnswer, answer-again, answer-begins, answer-ends, nine-answers}
+use Rattle.versions.proofs.Paths.{answer-again, answer-begins, answer-ends, nine-answers}
 use Rattle.versions.proofs.answers.Goals as goal
 
 pub counts_after-base-requires : goal.counts_after-base-requires

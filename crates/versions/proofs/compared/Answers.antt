@@ -2,10 +2,10 @@ use borrow.Author.Rules.{rules}
 use native.Mathlib.Omega.{arith}
 use mathlib.Core.Bool.{Bool, true, false}
 use mathlib.Core.Path.{◌≡◌}
-use Prim.Native.Nat.{◌-◌, ◌≤◌}
+use Prim.Native.Nat.{◌≤◌}
 use lib.ListN.{length, take}
 use Rattle.versions.specs.Versions.{compared_to, stands}
-use Rattle.versions.proofs.Order.{WalkedTo, walked-first, walked_next, found-stands}
+use Rattle.versions.proofs.Order.{walked-first, walked_next, found-stands}
 use Rattle.versions.proofs.compared.Goals as goal
 
 pub loop-k-preserved : goal.loop-k-preserved

@@ -1,8 +1,4 @@
-use Prim.Native.Nat.{◌-◌}
-use lib.ListN.{replicate}
-use borrow.Author.Rules.{rules}
-use Rattle.numbers.specs.Numbers.{be64}
-use Rattle.numbers.proofs.Steps.{Filling, filling-again, filling-begins, filling-ends}
+use Rattle.numbers.proofs.Steps.{filling-again, filling-begins, filling-ends}
 use Rattle.versions.proofs.counts_in.Goals as goal
 
 pub returns : goal.returns

@@ -1,5 +1,4 @@
 -- The length is all that is tested.
-use borrow.Author.Rules.{rules}
 use mathlib.Core.Path.{refl}
 use Rattle.versions.specs.Versions.{is_vector}
 use Rattle.versions.proofs.is_vector.Goals as goal

@@ -1,12 +1,8 @@
 use native.Mathlib.Omega.{arith}
 use mathlib.Core.Path.{◌≡◌, refl}
-use mathlib.Core.List.{map}
-use Prim.Native.Nat.{◌-◌, ◌≤◌}
-use lib.ListN.{length, replicate}
+use lib.ListN.{length}
 use borrow.Author.Rules.{rules}
 use Rattle.lists.proofs.Tests.{length-mapped}
-use Rattle.lists.proofs.Fill.{filled}
-use Rattle.tallies.specs.Tallies.{cast}
 use Rattle.votes.proofs.Eight.{votes-next, votes-done}
 use Rattle.votes.proofs.of_ballots.Goals.{Start}
 use Rattle.votes.proofs.of_ballots.Goals as goal

@@ -1,14 +1,10 @@
 -- A walk that writes each ballot's vote.
-use native.Mathlib.Omega.{arith}
-use mathlib.Core.Path.{◌≡◌, refl}
+use mathlib.Core.Path.{◌≡◌}
 use mathlib.Core.List.{map}
-use Prim.Native.Nat.{◌-◌, ◌≤◌}
-use lib.ListN.{length, replicate}
-use borrow.Author.Rules.{rules}
-use Rattle.lists.proofs.Tests.{length-mapped}
+use Prim.Native.Nat.{◌≤◌}
+use lib.ListN.{replicate}
 use Rattle.lists.proofs.Fill.{filled}
 use Rattle.tallies.specs.Tallies.{cast}
-use Rattle.votes.proofs.Eight.{votes-next, votes-done}
 use Rattle.votes.proofs.of_ballots.Given as goal
 
 abbrev pub invariant-loop-i : goal.invariant-loop-i

@@ -1,9 +1,7 @@
 use native.Mathlib.Omega.{arith}
 use mathlib.Core.Path.{◌≡◌, refl}
-use Prim.Native.Nat.{◌-◌, ◌≤◌}
-use lib.ListN.{length, drop, replicate}
+use lib.ListN.{length}
 use borrow.Author.Rules.{rules}
-use Rattle.lists.proofs.Fill.{filled}
 use Rattle.votes.proofs.Cells.{moved-step, moved-end, without-first-is}
 use Rattle.votes.proofs.without_first.Goals as goal
 

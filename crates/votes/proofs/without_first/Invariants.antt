@@ -1,11 +1,8 @@
 -- A walk that writes the cells behind the first over zeros, from the front.
-use native.Mathlib.Omega.{arith}
-use mathlib.Core.Path.{◌≡◌, refl}
-use Prim.Native.Nat.{◌-◌, ◌≤◌}
-use lib.ListN.{length, drop, replicate}
-use borrow.Author.Rules.{rules}
+use mathlib.Core.Path.{◌≡◌}
+use Prim.Native.Nat.{◌≤◌}
+use lib.ListN.{drop, replicate}
 use Rattle.lists.proofs.Fill.{filled}
-use Rattle.votes.proofs.Cells.{moved-step, moved-end, without-first-is}
 use Rattle.votes.proofs.without_first.Given as goal
 
 abbrev pub invariant-loop-j : goal.invariant-loop-j

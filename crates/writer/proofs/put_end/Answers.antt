@@ -2,7 +2,6 @@
 use native.Mathlib.Numerals.{add-one}
 use native.Mathlib.Omega.{arith}
 use lib.ListN.{length-set}
-use borrow.Author.Rules.{rules}
 use Rattle.spelling.specs.Spelling.{end_bytes}
 use Rattle.writer.proofs.put_end.Goals as goal
 

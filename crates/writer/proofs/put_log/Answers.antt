@@ -1,10 +1,9 @@
-use Prim.Native.Nat.{◌-◌}
 use mathlib.Core.Path.{refl}
 use native.Mathlib.Omega.{arith}
 use borrow.Author.Rules.{rules}
 use Rattle.spelling.specs.Spelling.{log_record}
 use Rattle.spelling.proofs.Items.{record_item}
-use Rattle.numbers.proofs.Steps.{Storing, storing-again, storing-ends}
+use Rattle.numbers.proofs.Steps.{storing-again, storing-ends}
 use Rattle.writer.proofs.put_log.Goals as goal
 
 pub loop-i-preserved : goal.loop-i-preserved

@@ -1,7 +1,6 @@
 -- The four bytes of the value are stored, then the mark before them.
 use native.Mathlib.Omega.{arith}
 use lib.ListN.{length-set}
-use borrow.Author.Rules.{rules}
 use Rattle.writer.proofs.LogRecord.{value-first}
 use Rattle.writer.proofs.put_record.Goals as goal
 

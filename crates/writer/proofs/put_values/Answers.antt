@@ -1,10 +1,9 @@
-use Prim.Native.Nat.{◌-◌}
 use mathlib.Core.Path.{refl}
 use native.Mathlib.Omega.{arith}
 use borrow.Author.Rules.{rules}
 use Rattle.numbers.specs.Numbers.{bytes32}
 use Rattle.spelling.proofs.Items.{value_item}
-use Rattle.numbers.proofs.Steps.{Storing, storing-again, storing-ends}
+use Rattle.numbers.proofs.Steps.{storing-again, storing-ends}
 use Rattle.writer.proofs.put_values.Goals as goal
 
 pub loop-i-preserved : goal.loop-i-preserved

@@ -1,11 +1,6 @@
 -- The invariant `Storing`: what is left to store, from the position on, gives all that is to be stored.
-use Prim.Native.Nat.{◌-◌}
-use mathlib.Core.Path.{refl}
-use native.Mathlib.Omega.{arith}
-use borrow.Author.Rules.{rules}
 use Rattle.numbers.specs.Numbers.{bytes32}
-use Rattle.spelling.proofs.Items.{value_item}
-use Rattle.numbers.proofs.Steps.{Storing, storing-again, storing-ends}
+use Rattle.numbers.proofs.Steps.{Storing}
 use Rattle.writer.proofs.put_values.Given as goal
 
 abbrev pub invariant-loop-i : goal.invariant-loop-i

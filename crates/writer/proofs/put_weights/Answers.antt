@@ -1,10 +1,9 @@
-use Prim.Native.Nat.{◌-◌}
 use mathlib.Core.Path.{refl}
 use native.Mathlib.Omega.{arith}
 use borrow.Author.Rules.{rules}
 use Rattle.numbers.specs.Numbers.{bytes16}
 use Rattle.spelling.proofs.Items.{weight_item}
-use Rattle.numbers.proofs.Steps.{Storing, storing-again, storing-ends}
+use Rattle.numbers.proofs.Steps.{storing-again, storing-ends}
 use Rattle.writer.proofs.put_weights.Goals as goal
 
 pub loop-i-preserved : goal.loop-i-preserved

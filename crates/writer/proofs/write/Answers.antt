@@ -1,4 +1,4 @@
-use Prim.Native.Nat.{ℕ, ◌+◌, ◌-◌, ◌*◌, ◌<◌, ◌≤◌}
+use Prim.Native.Nat.{ℕ, ◌+◌, ◌*◌, ◌<◌, ◌≤◌}
 use mathlib.Core.List.{List, []}
 use mathlib.Core.Path.{◌≡◌, ◌∙◌}
 use native.Mathlib.Omega.{arith}
@@ -8,7 +8,7 @@ use Rattle.ballots.specs.declared.Ballot.{Ballot}
 use Rattle.protocol.specs.Limits.{length_limit}
 use Rattle.spelling.specs.Spelling.{ballots_bytes, head_size}
 use Rattle.writer.specs.Written.{message_of, tails_of}
-use Rattle.writer.proofs.Ballots.{ToCount, ToPut, count-again, count-begins, len-at, put-again, put-begins, put-ends, put-room}
+use Rattle.writer.proofs.Ballots.{count-again, count-begins, len-at, put-again, put-begins, put-ends, put-room}
 use Rattle.writer.proofs.Whole.{counted, message-length, refused, whole-written, written}
 use Rattle.writer.proofs.write.Goals as goal
 
@@ -38,7 +38,7 @@ put_front-p-requires c =
     let weights-long : c.args.n ≤ length c.args.weights = let e : length c.args.weights ≡ 8 = search rules in omega (arith, e, c.requires.few-offices) in
     let message : List ℕ = message_of c.args.sender c.args.n c.args.weights c.args.dropped c.args.log.now c.args.held c.args.ballots in
     let size-counted : c.loop-o.size ≡ length message = counted c.args.sender c.args.n c.args.weights c.args.dropped c.args.log.now c.args.held c.args.ballots weights-long c.requires.log-long _ _ _ (omega (arith, c.head_size.ensures)) c.loop-o.invariant c.loop-o-test.false in
-    let fits : let a = c.args in head_size a.n + 6 * a.held + 2 + length (ballots_bytes 0 (tails_of a.n a.ballots)) ≤ length a.out.now = omega ( arith, size-counted, c.if-out-size.false, message-length c.args.sender c.args.n c.args.weights c.args.dropped c.args.log.now c.args.held c.args.ballots weights-long c.requires.log-long, ) in
+    let fits : let a = c.args in head_size a.n + 6 * a.held + 2 + length (ballots_bytes 0 (tails_of a.n a.ballots)) ≤ length a.out.now = omega (arith, size-counted, c.if-out-size.false, message-length c.args.sender c.args.n c.args.weights c.args.dropped c.args.log.now c.args.held c.args.ballots weights-long c.requires.log-long) in
     omega (arith, fits, c.requires)
 
 pub put_ballot-p-requires : goal.put_ballot-p-requires
@@ -47,9 +47,8 @@ put_ballot-p-requires c =
     let weights-long : c.args.n ≤ length c.args.weights = let e : length c.args.weights ≡ 8 = search rules in omega (arith, e, c.requires.few-offices) in
     let message : List ℕ = message_of c.args.sender c.args.n c.args.weights c.args.dropped c.args.log.now c.args.held c.args.ballots in
     let size-counted : c.loop-o.size ≡ length message = counted c.args.sender c.args.n c.args.weights c.args.dropped c.args.log.now c.args.held c.args.ballots weights-long c.requires.log-long _ _ _ (omega (arith, c.head_size.ensures)) c.loop-o.invariant c.loop-o-test.false in
-    let fits : let a = c.args in head_size a.n + 6 * a.held + 2 + length (ballots_bytes 0 (tails_of a.n a.ballots)) ≤ length a.out.now = omega ( arith, size-counted, c.if-out-size.false, message-length c.args.sender c.args.n c.args.weights c.args.dropped c.args.log.now c.args.held c.args.ballots weights-long c.requires.log-long, ) in
-    let room : let a = c.args in c.put_front-p.result + (length (ballots_bytes 0 (tails_of a.n a.ballots)) + 2) ≤ length c.put_front-p.new.out = let front = c.put_front-p in omega (arith, fits, front.auto.out, front.ensures.0) in
-    (
+    let fits : let a = c.args in head_size a.n + 6 * a.held + 2 + length (ballots_bytes 0 (tails_of a.n a.ballots)) ≤ length a.out.now = omega (arith, size-counted, c.if-out-size.false, message-length c.args.sender c.args.n c.args.weights c.args.dropped c.args.log.now c.args.held c.args.ballots weights-long c.requires.log-long) in
+    let room : let a = c.args in c.put_front-p.result + (length (ballots_bytes 0 (tails_of a.n a.ballots)) + 2) ≤ length c.put_front-p.new.out = let front = c.put_front-p in omega (arith, fits, front.auto.out, front.ensures.0) in (
       len-at c.args.ballots _ _ c.requires.shapes (omega (arith, c.loop-o-2-test.true, ballots-long)),
       (omega (arith, c.loop-o-2-test.true, c.requires.few-offices), put-room c.loop-o-2.invariant none c.loop-o-2-test.true ballots-long (omega (arith, room))),
     )
@@ -145,7 +144,7 @@ put_end-requires c =
     let weights-long : c.args.n ≤ length c.args.weights = let e : length c.args.weights ≡ 8 = search rules in omega (arith, e, c.requires.few-offices) in
     let message : List ℕ = message_of c.args.sender c.args.n c.args.weights c.args.dropped c.args.log.now c.args.held c.args.ballots in
     let size-counted : c.loop-o.size ≡ length message = counted c.args.sender c.args.n c.args.weights c.args.dropped c.args.log.now c.args.held c.args.ballots weights-long c.requires.log-long _ _ _ (omega (arith, c.head_size.ensures)) c.loop-o.invariant c.loop-o-test.false in
-    let fits : let a = c.args in head_size a.n + 6 * a.held + 2 + length (ballots_bytes 0 (tails_of a.n a.ballots)) ≤ length a.out.now = omega ( arith, size-counted, c.if-out-size.false, message-length c.args.sender c.args.n c.args.weights c.args.dropped c.args.log.now c.args.held c.args.ballots weights-long c.requires.log-long, ) in
+    let fits : let a = c.args in head_size a.n + 6 * a.held + 2 + length (ballots_bytes 0 (tails_of a.n a.ballots)) ≤ length a.out.now = omega (arith, size-counted, c.if-out-size.false, message-length c.args.sender c.args.n c.args.weights c.args.dropped c.args.log.now c.args.held c.args.ballots weights-long c.requires.log-long) in
     let room : let a = c.args in c.put_front-p.result + (length (ballots_bytes 0 (tails_of a.n a.ballots)) + 2) ≤ length c.put_front-p.new.out = let front = c.put_front-p in omega (arith, fits, front.auto.out, front.ensures.0) in
     let end-room : c.loop-o-2.p + 2 ≤ length c.loop-o-2.out = let inv = c.loop-o-2.invariant in omega (arith, room, inv.left.long, (put-ends inv c.loop-o-2-test.false).0) in
     end-room

@@ -2,7 +2,6 @@
 use borrow.Author.Tests.{le-ltb, lt-ltb}
 use Rattle.lists.specs.Tests.{pick}
 use Rattle.ballots.specs.Ballots.{pushed}
-use borrow.Author.Rules.{rules}
 use Rattle.ballots.proofs.Ballot.push.Goals as goal
 
 pub returns-then-len-ge-CELLS : goal.returns-then-len-ge-CELLS

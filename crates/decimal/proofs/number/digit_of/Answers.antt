@@ -1,5 +1,4 @@
 -- Each return has the tests that led there; the definition picks by the same tests.
-use borrow.Author.Rules.{rules}
 use borrow.Author.Tests.{le-leb, lt-leb}
 use native.Mathlib.Omega.{arith}
 use mathlib.Core.Path.{ap}

@@ -1,9 +1,7 @@
 use borrow.Author.Rules.{rules}
 use native.Mathlib.Omega.{arith}
-use mathlib.Core.Path.{◌≡◌, refl, sym, ◌∙◌}
-use Prim.Native.Nat.{◌-◌, ◌≤◌}
-use lib.ListN.{length, drop}
-use Rattle.decimal.specs.Number.{by_number, digits_of}
+use mathlib.Core.Path.{refl, sym, ◌∙◌}
+use Rattle.decimal.specs.Number.{by_number}
 use Rattle.decimal.proofs.Walks.{digits_step, digits-end}
 use Rattle.decimal.proofs.number.digits_of.Goals as goal
 

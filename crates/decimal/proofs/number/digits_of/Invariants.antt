@@ -1,11 +1,8 @@
 -- The invariant: the number so far with the digits that are left is the number of the whole field.
-use borrow.Author.Rules.{rules}
-use native.Mathlib.Omega.{arith}
-use mathlib.Core.Path.{◌≡◌, refl, sym, ◌∙◌}
-use Prim.Native.Nat.{◌-◌, ◌≤◌}
+use mathlib.Core.Path.{◌≡◌}
+use Prim.Native.Nat.{◌≤◌}
 use lib.ListN.{length, drop}
-use Rattle.decimal.specs.Number.{by_number, digits_of}
-use Rattle.decimal.proofs.Walks.{digits_step, digits-end}
+use Rattle.decimal.specs.Number.{digits_of}
 use Rattle.decimal.proofs.number.digits_of.Given as goal
 
 abbrev pub invariant-loop-i : goal.invariant-loop-i

@@ -4,7 +4,6 @@ use lib.ListN.{length}
 use Rattle.lists.specs.Tests.{both}
 use Rattle.decimal.specs.Number.{leading_zero}
 use native.Mathlib.Omega.{arith}
-use borrow.Author.Rules.{rules}
 use Rattle.decimal.proofs.number.leading_zero.Goals as goal
 
 pub returns-then-field-lt2 : goal.returns-then-field-lt2

@@ -4,7 +4,6 @@ use mathlib.Core.Path.{sym, ◌∙◌}
 use Rattle.lists.specs.Tests.{pick}
 use Rattle.decimal.specs.Number.{number_of}
 use lib.ListN.{length}
-use borrow.Author.Rules.{rules}
 use Rattle.decimal.proofs.number.number_of.Goals as goal
 
 pub returns-then-field-eq0 : goal.returns-then-field-eq0

@@ -1,15 +1,8 @@
 -- The invariant: the numbers so far with those of the fields that are left are the numbers of all the fields.
-use borrow.Author.Rules.{rules}
-use borrow.Author.Tests.{eq-eqb, ne_eqb}
-use native.Mathlib.Omega.{arith}
-use mathlib.Core.Path.{◌≡◌, refl, sym, ◌∙◌}
+use mathlib.Core.Path.{◌≡◌}
 use Prim.Native.Nat.{◌+◌, ◌-◌, ◌≤◌}
 use lib.ListN.{length}
-use Rattle.lists.specs.Tests.{pick}
-use Rattle.decimal.specs.Number.{by_number}
 use Rattle.decimal.specs.Numbers.{numbers_after, numbers_from, fields_from}
-use Rattle.text_parts.proofs.Ends.{part-within}
-use Rattle.decimal.proofs.Walks.{number-within, numbers-step, numbers-end}
 use Rattle.decimal.proofs.numbers.numbers_from.Given as goal
 
 abbrev pub invariant-loop-at : goal.invariant-loop-at

@@ -1,10 +1,9 @@
 use mathlib.Core.Bool.{true}
 use mathlib.Core.Path.{◌≡◌, sym, ap, ◌∙◌}
 use native.Mathlib.Omega.{arith}
-use Prim.Native.Nat.{ℕ, ◌+◌, ◌-◌, ◌<◌}
+use Prim.Native.Nat.{ℕ, ◌+◌, ◌<◌}
 use lib.ListN.{length, get_or, take}
 use lib.Seq.{length-take-le}
-use borrow.Author.Tests.{not-true, not-false}
 use borrow.Author.Rules.{rules}
 use Rattle.protocol.specs.Limits.{length_limit}
 use Rattle.protocol.specs.Counts.{counted, counts_after}
@@ -26,7 +25,7 @@ held-start-requires c =
     let sounds : let a = c.args in Sound a.self a.log.now = sound _ _ passed in
     sounds.within
 
--- the held slice_bounds-counts_after-end of the log is there, and its length
+-- the held part of the log is there, and its length
 pub slice_bounds-counts_after-end : goal.slice_bounds-counts_after-end
 slice_bounds-counts_after-end c =
     let passed : let a = c.args in sound_b a.self a.log.now ≡ true = sym c.sound.ensures ∙ c.if-not-sound.false in

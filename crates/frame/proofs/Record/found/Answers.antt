@@ -1,7 +1,5 @@
 -- The log's room is tested first, then the head.
 use mathlib.Core.Path.{sym, ◌∙◌}
-use borrow.Author.Tests.{not-true, not-false}
-use borrow.Author.Rules.{rules}
 use Rattle.frame.proofs.Found.{found-short, found-unfit, found-made}
 use Rattle.frame.proofs.Record.found.Goals as goal
 

@@ -1,6 +1,5 @@
 -- The definition is that of the fields.
 use Rattle.frame.specs.Soundness.{sound_b}
-use borrow.Author.Rules.{rules}
 use Rattle.frame.proofs.Record.sound.Goals as goal
 
 pub returns : goal.returns

@@ -1,14 +1,12 @@
 use native.Mathlib.Omega.{arith}
 use mathlib.Core.Path.{◌≡◌, refl, ap, subst, ◌∙◌}
-use mathlib.Core.Logic.{⊎_elim}
 use mathlib.Core.Option.{some}
-use Prim.Native.Nat.{ℕ, ◌+◌, ◌-◌, ◌≤◌}
+use Prim.Native.Nat.{ℕ, ◌+◌, ◌≤◌}
 use lib.ListN.{set}
-use borrow.Author.Rules.{rules}
 use Rattle.elections.specs.Elections.{winner_in}
 use Rattle.elections.proofs.Run.{winning}
-use Rattle.elections.proofs.Steps.{Gathered, Settling, votes-step, votes-silent, won-by, won-nobody, shape-here, lost-first, lost-rival, lost-keep, lost-end}
-use Rattle.frame.specs.State.{state_in, with_held, with_ballots}
+use Rattle.elections.proofs.Steps.{Gathered, votes-step, votes-silent, won-by, won-nobody, shape-here, lost-first, lost-rival, lost-keep, lost-end}
+use Rattle.frame.specs.State.{state_in, with_held}
 use Rattle.frame.proofs.Steps.{next-turn, settled_is, step-won, step-nobody}
 use Rattle.frame.proofs.Record.step.Goals.{then-b-gt0+then-vote-e, then-b-gt0+else-vote-e, else-b-gt0}
 use Rattle.frame.proofs.Record.step.Goals as goal
@@ -45,7 +43,7 @@ loop-i-2-preserved c =
     let bs = l.next.ballots in
     let turn = next-turn (with_held r r.kept r.noted c.next-after.result (r.settled + 1) r.ballots) l.next c.if-b-gt0.next e r.ballots (l.i + 1) l.invariant.1 in
     elim c.if-b-gt0.branch [
-      then-b-gt0+then-vote-e w ↦ let m = turn (set bs l.i w.without_first.result) w.next-is
+      | then-b-gt0+then-vote-e w ↦ let m = turn (set bs l.i w.without_first.result) w.next-is
           (lost-first _ _ _ S e bs l.i l.invariant.2 (omega arith) (omega arith) w.vote-then-b-gt0.result w.vote-then-b-gt0.ensures w.if-vote-e.true
           w.without_first.result w.without_first.ensures) in (omega arith, m.0, m.1)
       | then-b-gt0+else-vote-e w ↦ let m = turn (set bs l.i w.none.result) w.next-is

@@ -1,17 +1,9 @@
 -- By the votes of the ballots, which one walk up to place n gathers, nobody wins and nothing changes, or the winner is written behind the settled log,
 -- where there is room, and another walk makes of every ballot what the winner leaves of it.
-use native.Mathlib.Omega.{arith}
-use mathlib.Core.Path.{◌≡◌, refl, ap, subst, ◌∙◌}
-use mathlib.Core.Logic.{⊎_elim}
-use mathlib.Core.Option.{some}
-use Prim.Native.Nat.{ℕ, ◌+◌, ◌-◌, ◌≤◌}
-use lib.ListN.{set}
-use borrow.Author.Rules.{rules}
-use Rattle.elections.specs.Elections.{winner_in}
-use Rattle.elections.proofs.Run.{winning}
-use Rattle.elections.proofs.Steps.{Gathered, Settling, votes-step, votes-silent, won-by, won-nobody, shape-here, lost-first, lost-rival, lost-keep, lost-end}
-use Rattle.frame.specs.State.{state_in, with_held, with_ballots}
-use Rattle.frame.proofs.Steps.{next-turn, settled_is, step-won, step-nobody}
+use mathlib.Core.Path.{◌≡◌}
+use Prim.Native.Nat.{◌≤◌}
+use Rattle.elections.proofs.Steps.{Gathered, Settling}
+use Rattle.frame.specs.State.{with_ballots}
 use Rattle.frame.proofs.Record.step.Given as goal
 
 abbrev pub invariant-loop-i : goal.invariant-loop-i

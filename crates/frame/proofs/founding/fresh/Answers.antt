@@ -1,5 +1,4 @@
 -- What each part is made of is what the definition has.
-use borrow.Author.Rules.{rules}
 use lib.ListN.{replicate}
 use Rattle.frame.specs.State.{with_held, fresh_record}
 use Rattle.frame.proofs.founding.fresh.Goals as goal

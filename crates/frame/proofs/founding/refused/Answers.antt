@@ -1,5 +1,4 @@
 -- All zero.
-use borrow.Author.Rules.{rules}
 use Rattle.frame.proofs.founding.refused.Goals as goal
 
 pub returns : goal.returns

@@ -1,5 +1,4 @@
 -- The length, the summary and the counts with the entries.
-use borrow.Author.Rules.{rules}
 use native.Mathlib.Omega.{arith}
 use Prim.Native.Nat.{◌+◌}
 use lib.ListN.{length}

@@ -1,5 +1,4 @@
 -- Nothing is dropped where k is 0; else what the first k words have done is kept, and the walk moves the others.
-use borrow.Author.Rules.{rules}
 use native.Mathlib.Omega.{arith}
 use mathlib.Core.Path.{◌≡◌, sym, ap, ◌∙◌}
 use mathlib.Core.List.{◌++◌}
@@ -16,8 +15,11 @@ returns-then-k-eq0 c =
     let words = a.log.now in
     let P = c.requires in
     let none : a.k ≡ 0 = c.if-k-eq0.true in
-    let long : length (take a.held words) ≡ a.held = length-take-le a.held words P.1.1 in record { kept = sym (ap (λ (k : ℕ). kept_after a.self (take k words)) none ∙ kept-nil a.self); words = sym (ap (λ (k : ℕ). drop k (take a.held words) ++ drop (length (drop k (take a.held words))) words) none
-          ∙ ap (λ (k : ℕ). take a.held words ++ drop k words) long ∙ take-append-drop a.held words) }
+    let long : length (take a.held words) ≡ a.held = length-take-le a.held words P.1.1 in record {
+      kept = sym (ap (λ (k : ℕ). kept_after a.self (take k words)) none ∙ kept-nil a.self);
+      words = sym (ap (λ (k : ℕ). drop k (take a.held words) ++ drop (length (drop k (take a.held words))) words) none
+          ∙ ap (λ (k : ℕ). take a.held words ++ drop k words) long ∙ take-append-drop a.held words);
+    }
 
 pub after-kept-requires : goal.after-kept-requires
 after-kept-requires c =

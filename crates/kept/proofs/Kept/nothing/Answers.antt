@@ -1,5 +1,4 @@
 -- The start's summary, and zeros.
-use borrow.Author.Rules.{rules}
 use Rattle.protocol.specs.Counts.{no_counts}
 use Rattle.kept.proofs.Kept.nothing.Goals as goal
 

@@ -2,10 +2,10 @@ use borrow.Author.Rules.{rules}
 use native.Mathlib.Omega.{arith}
 use mathlib.Core.Path.{◌≡◌, refl, ap, ◌∙◌}
 use mathlib.Core.List.{List, ◌++◌}
-use Prim.Native.Nat.{ℕ, ◌-◌}
+use Prim.Native.Nat.{ℕ}
 use lib.ListN.{length, take}
 use Rattle.rehearsal_lines.specs.Held.{line_held, held_of}
-use Rattle.rehearsal_lines.proofs.Holding.{HeldRest, held-begins, held_next, held-full, held-ends, take_within}
+use Rattle.rehearsal_lines.proofs.Holding.{held-begins, held_next, held-full, held-ends, take_within}
 use Rattle.rehearsal_lines.proofs.Held.with_behind.Goals as goal
 
 pub loop-i-init : goal.loop-i-init

@@ -1,12 +1,7 @@
 -- The invariant: the bytes so far and those that are left make the line that is to be held, and the cells behind are zero.
-use borrow.Author.Rules.{rules}
-use native.Mathlib.Omega.{arith}
-use mathlib.Core.Path.{◌≡◌, refl, ap, ◌∙◌}
-use mathlib.Core.List.{List, ◌++◌}
-use Prim.Native.Nat.{ℕ, ◌-◌}
+use mathlib.Core.Path.{◌≡◌}
 use lib.ListN.{length, take}
-use Rattle.rehearsal_lines.specs.Held.{line_held, held_of}
-use Rattle.rehearsal_lines.proofs.Holding.{HeldRest, held-begins, held_next, held-full, held-ends, take_within}
+use Rattle.rehearsal_lines.proofs.Holding.{HeldRest}
 use Rattle.rehearsal_lines.proofs.Held.with_behind.Given as goal
 
 abbrev pub invariant-loop-i : goal.invariant-loop-i

@@ -1,5 +1,4 @@
 -- The weights with the log's moves, and the codes with its entries.
-use borrow.Author.Rules.{rules}
 use Rattle.summary.proofs.Summary.after.Goals as goal
 
 pub returns : goal.returns

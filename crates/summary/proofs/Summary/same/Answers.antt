@@ -1,6 +1,4 @@
 -- The test of the weights, then that of the codes.
-use borrow.Author.Rules.{rules}
-use borrow.Author.Tests.{not-true, not-false}
 use mathlib.Core.Path.{sym, ◌∙◌}
 use Rattle.lists.specs.Tests.{both}
 use Rattle.summary.specs.Summary.{same_summary}
