@@ -15,6 +15,7 @@ pub mod ElectKeeps
 pub mod EveryCall
 pub mod Longest
 pub mod OneOrder
+pub mod FrameOrder
 pub mod Machine
 pub mod Held
 -- request (vi): messages twice and in either order

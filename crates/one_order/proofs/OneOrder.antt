@@ -10,7 +10,6 @@ use lib.Seq.{take-suc}
 use Rattle.protocol.specs.Entry.{value, office_of, line_of, code_of}
 use Rattle.protocol.specs.Beginning.{◌⊑◌}
 use Rattle.protocol.specs.Vote.{Rule}
-use Rattle.protocol.specs.SettledRule.{by_settled}
 use Rattle.protocol.specs.Office.{Office, fresh, path}
 use Rattle.protocol.specs.Issue.{refuse_entry}
 use Rattle.protocol.specs.Longest.{longest}
@@ -20,7 +19,7 @@ use Rattle.one_order.proofs.Longest.{longest-is}
 use Rattle.protocol.proofs.World.{World, Call, issue, at, founded, refusal, run}
 use Rattle.protocol_laws.proofs.Issue.{entry_done}
 use Rattle.protocol_laws.proofs.Moves.{proper-true, value-parts}
-use Rattle.one_order.proofs.Lawful.{Lawful, settled-lawful}
+use Rattle.one_order.proofs.Lawful.{Lawful}
 use Rattle.one_order.proofs.History.{Past, now, before, past-refl, past-trans, past_cases, after, after-length, log_at}
 use Rattle.one_order.proofs.Steady.{past-moves}
 use Rattle.one_order.proofs.Issued.{Issued}
@@ -187,7 +186,3 @@ module _ (rule : Rule) (n : ℕ) where
       log-in a b e k =
           let p : Past (reverse a) (reverse cs) = subst (λ (l : List Call). Past (reverse a) l) (sym (rev-append a b []) ∙ ap reverse e) (past-rev b (reverse a)) in
           rw (world-after a) (⊑_trans (log_at rule n k (reverse a)) (log_at rule n k (reverse cs)) inv.order (past-moves rule n p k).0 (inv.logs k))
-
--- for the frame's rule: the theorem on lists. "One order behind all offices must still be found when such entries are among the edits."
-pub one-order : (founding : List ℕ) (n : ℕ) → n ≤ 8 → 0 < n → (cs : List Call) → OneOrder (by_settled founding) n cs
-one-order founding n most pos cs = one-order-of (by_settled founding) n (settled-lawful founding) most pos cs
