@@ -13,37 +13,21 @@ loop-i-init c = (search rules, refl)
 
 pub returns-then-wins_worst : goal.returns-then-wins_worst
 returns-then-wins_worst c =
-    let few : (c.args.n ≤ 8) × (length c.args.votes ≡ 8) × (length c.args.lowest ≡ 8) × (length c.args.highest ≡ 8) = (c.requires.0, search rules, search rules, search rules) in
+    let f : (c.args.n ≤ 8) × (length c.args.votes ≡ 8) × (length c.args.lowest ≡ 8) × (length c.args.highest ≡ 8) = (c.requires.0, search rules, search rules, search rules) in
     let l = c.loop-i in
     let a = c.args in
-    let f = few in
     sure-stop a.n f.0 a.lowest a.highest f.2 f.3 a.votes f.1 _ _ l.i l.invariant.1 (omega arith) _ c.wins_worst.ensures c.if-wins_worst.true
 
 pub loop-i-preserved : goal.loop-i-preserved
 loop-i-preserved c =
-    let few : (c.args.n ≤ 8) × (length c.args.votes ≡ 8) × (length c.args.lowest ≡ 8) × (length c.args.highest ≡ 8) = (c.requires.0, search rules, search rules, search rules) in
+    let f : (c.args.n ≤ 8) × (length c.args.votes ≡ 8) × (length c.args.lowest ≡ 8) × (length c.args.highest ≡ 8) = (c.requires.0, search rules, search rules, search rules) in
     let l = c.loop-i in
     let a = c.args in
-    let f = few in
     (omega arith, sure_next a.n f.0 a.lowest a.highest f.2 f.3 a.votes f.1 _ _ l.i l.invariant.1 (omega arith) _ c.wins_worst.ensures c.if-wins_worst.false)
 
 pub returns : goal.returns
 returns c =
-    let few : (c.args.n ≤ 8) × (length c.args.votes ≡ 8) × (length c.args.lowest ≡ 8) × (length c.args.highest ≡ 8) = (c.requires.0, search rules, search rules, search rules) in
+    let f : (c.args.n ≤ 8) × (length c.args.votes ≡ 8) × (length c.args.lowest ≡ 8) × (length c.args.highest ≡ 8) = (c.requires.0, search rules, search rules, search rules) in
     let l = c.loop-i in
     let a = c.args in
-    let f = few in
     sure-done a.n f.0 a.lowest a.highest f.2 f.3 a.votes f.1 _ _ l.i l.invariant.1 (omega arith)
-
-pub offset_bounds-votes-i : goal.offset_bounds-votes-i
-offset_bounds-votes-i c =
-    let few : (c.args.n ≤ 8) × (length c.args.votes ≡ 8) × (length c.args.lowest ≡ 8) × (length c.args.highest ≡ 8) = (c.requires.0, search rules, search rules, search rules) in
-    let f = few in omega arith
-
-pub bounds-votes-i : goal.bounds-votes-i
-bounds-votes-i c =
-    let few : (c.args.n ≤ 8) × (length c.args.votes ≡ 8) × (length c.args.lowest ≡ 8) × (length c.args.highest ≡ 8) = (c.requires.0, search rules, search rules, search rules) in
-    let f = few in omega arith
-
-pub wins_worst-requires : goal.wins_worst-requires
-wins_worst-requires c = c.requires

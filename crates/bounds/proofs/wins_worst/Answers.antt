@@ -9,11 +9,8 @@ use Rattle.protocol.specs.Counts.{quieter_by}
 use Rattle.tallies.specs.Tallies.{vote_in, votes_in}
 use Rattle.tallies.specs.declared.Winner.TheVariants.{Entry, Nobody}
 use Rattle.bounds.specs.Bounds.{wins_worst, vote_that}
-use Rattle.bounds.proofs.Walks.{none-worst, worst-won, worst-lost}
+use Rattle.bounds.proofs.Walks.{worst-won, worst-lost}
 use Rattle.bounds.proofs.wins_worst.Goals as goal
-
-pub returns-then-vote-eq-NO_VOTE : goal.returns-then-vote-eq-NO_VOTE
-returns-then-vote-eq-NO_VOTE c = none-worst _ c.args.vote c.if-vote-eq-NO_VOTE.true
 
 pub returns-in-Nobody : goal.returns-in-Nobody
 returns-in-Nobody c =
@@ -28,9 +25,3 @@ returns-in-Entry c =
     let answer : Bool = let a = c.args in vote_that (wins_worst (take a.n a.lowest) (take a.n a.highest) (quieter_by a.counts) (votes_in a.votes)) (vote_in a.vote) in
     let won : (e : ℕ) → c.find_winner-w.result ≡ Entry e → eqb e c.args.vote ≡ answer = λ e q. let a = c.args in let h = eight in worst-won a.n c.requires.0 a.lowest a.highest h.1 h.2 a.votes h.0 a.vote c.if-vote-eq-NO_VOTE.false a.counts c.requires _ c.worst-weights.ensures _ c.find_winner-w.ensures e q in
     won _ c.in-Entry.is
-
-pub worst-weights-requires : goal.worst-weights-requires
-worst-weights-requires c = (c.requires.0, c.if-vote-eq-NO_VOTE.false)
-
-pub find_winner-w-requires : goal.find_winner-w-requires
-find_winner-w-requires c = c.requires

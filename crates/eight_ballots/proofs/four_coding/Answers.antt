@@ -58,33 +58,3 @@ returns c =
 
 pub loop-i-init : goal.loop-i-init
 loop-i-init c = (none_yet, (begins _ _, (begins _ _, (begins _ _, begins _ _))))
-
-pub offset_bounds-w-i : goal.offset_bounds-w-i
-offset_bounds-w-i c = omega (arith, c.loop-i-test.true)
-
-pub bounds-w-i : goal.bounds-w-i
-bounds-w-i c = c.loop-i-test.true
-
-pub offset_bounds-x-i : goal.offset_bounds-x-i
-offset_bounds-x-i c = omega (arith, c.loop-i-test.true)
-
-pub bounds-x-i : goal.bounds-x-i
-bounds-x-i c = c.loop-i-test.true
-
-pub offset_bounds-y-i : goal.offset_bounds-y-i
-offset_bounds-y-i c = omega (arith, c.loop-i-test.true)
-
-pub bounds-y-i : goal.bounds-y-i
-bounds-y-i c = c.loop-i-test.true
-
-pub offset_bounds-z-i : goal.offset_bounds-z-i
-offset_bounds-z-i c = omega (arith, c.loop-i-test.true)
-
-pub bounds-z-i : goal.bounds-z-i
-bounds-z-i c = c.loop-i-test.true
-
-pub overflow_step-i : goal.overflow_step-i
-overflow_step-i c = omega (arith, c.loop-i-test.true)
-
-pub loop-i-smaller : goal.loop-i-smaller
-loop-i-smaller c = omega (arith, c.loop-i-test.true)

@@ -67,47 +67,11 @@ loop-i-init c =
       ),
     )
 
-pub overflow_sub-j : goal.overflow_sub-j
-overflow_sub-j c = c.requires.1.0
-
-pub overflow_sub-k : goal.overflow_sub-k
-overflow_sub-k c = c.requires.1.1.0
-
-pub overflow_sub-l : goal.overflow_sub-l
-overflow_sub-l c = c.requires.1.1.1.0
-
-pub overflow_sub-m : goal.overflow_sub-m
-overflow_sub-m c = c.requires.1.1.1.1
-
-pub offset_bounds-w-i : goal.offset_bounds-w-i
-offset_bounds-w-i c = omega (arith, c.loop-i-test.true)
-
-pub bounds-w-i : goal.bounds-w-i
-bounds-w-i c = c.loop-i-test.true
-
-pub overflow_add-j : goal.overflow_add-j
-overflow_add-j c = omega (arith, c.loop-i-test.true)
-
-pub offset_bounds-masks-j : goal.offset_bounds-masks-j
-offset_bounds-masks-j c = omega (arith, c.loop-i-test.true)
-
 pub bounds-masks-j : goal.bounds-masks-j
 bounds-masks-j c =
     let masks-are : c.args.masks.now ≡ mask_words = c.requires.0 in
     let long : length c.args.masks.now ≡ 64 = ap length masks-are ∙ mask-length in
     omega (arith, c.loop-i-test.true, long)
-
-pub offset_bounds-x-i : goal.offset_bounds-x-i
-offset_bounds-x-i c = omega (arith, c.loop-i-test.true)
-
-pub bounds-x-i : goal.bounds-x-i
-bounds-x-i c = c.loop-i-test.true
-
-pub overflow_add-k : goal.overflow_add-k
-overflow_add-k c = omega (arith, c.loop-i-test.true)
-
-pub offset_bounds-masks-k : goal.offset_bounds-masks-k
-offset_bounds-masks-k c = omega (arith, c.loop-i-test.true)
 
 pub bounds-masks-k : goal.bounds-masks-k
 bounds-masks-k c =
@@ -115,44 +79,14 @@ bounds-masks-k c =
     let long : length c.args.masks.now ≡ 64 = ap length masks-are ∙ mask-length in
     omega (arith, c.loop-i-test.true, long)
 
-pub offset_bounds-y-i : goal.offset_bounds-y-i
-offset_bounds-y-i c = omega (arith, c.loop-i-test.true)
-
-pub bounds-y-i : goal.bounds-y-i
-bounds-y-i c = c.loop-i-test.true
-
-pub overflow_add-l : goal.overflow_add-l
-overflow_add-l c = omega (arith, c.loop-i-test.true)
-
-pub offset_bounds-masks-l : goal.offset_bounds-masks-l
-offset_bounds-masks-l c = omega (arith, c.loop-i-test.true)
-
 pub bounds-masks-l : goal.bounds-masks-l
 bounds-masks-l c =
     let masks-are : c.args.masks.now ≡ mask_words = c.requires.0 in
     let long : length c.args.masks.now ≡ 64 = ap length masks-are ∙ mask-length in
     omega (arith, c.loop-i-test.true, long)
 
-pub offset_bounds-z-i : goal.offset_bounds-z-i
-offset_bounds-z-i c = omega (arith, c.loop-i-test.true)
-
-pub bounds-z-i : goal.bounds-z-i
-bounds-z-i c = c.loop-i-test.true
-
-pub overflow_add-m : goal.overflow_add-m
-overflow_add-m c = omega (arith, c.loop-i-test.true)
-
-pub offset_bounds-masks-m : goal.offset_bounds-masks-m
-offset_bounds-masks-m c = omega (arith, c.loop-i-test.true)
-
 pub bounds-masks-m : goal.bounds-masks-m
 bounds-masks-m c =
     let masks-are : c.args.masks.now ≡ mask_words = c.requires.0 in
     let long : length c.args.masks.now ≡ 64 = ap length masks-are ∙ mask-length in
     omega (arith, c.loop-i-test.true, long)
-
-pub overflow_step-i : goal.overflow_step-i
-overflow_step-i c = omega (arith, c.loop-i-test.true)
-
-pub loop-i-smaller : goal.loop-i-smaller
-loop-i-smaller c = omega (arith, c.loop-i-test.true)

@@ -1,6 +1,3 @@
-use mathlib.Core.Path.{refl}
-use native.Mathlib.Omega.{arith}
-use borrow.Author.Rules.{rules}
 use Rattle.spelling.specs.Spelling.{log_record}
 use Rattle.spelling.proofs.Items.{record_item}
 use Rattle.numbers.proofs.Steps.{storing-again, storing-ends}
@@ -18,24 +15,3 @@ returns c =
     let a = c.args in
     let l = c.loop-i in
     storing-ends 6 log_record record_item.wide a.out.now a.at a.log.now a.k l.out l.p l.i l.invariant c.loop-i-test.false
-
-pub loop-i-init : goal.loop-i-init
-loop-i-init c = (search rules, (search rules, (refl, refl)))
-
-pub bounds-log-i : goal.bounds-log-i
-bounds-log-i c = omega arith
-
-pub put_record-requires : goal.put_record-requires
-put_record-requires c = omega arith
-
-pub overflow_add-p : goal.overflow_add-p
-overflow_add-p c = omega arith
-
-pub overflow_step-i : goal.overflow_step-i
-overflow_step-i c = omega arith
-
-pub loop-i-smaller : goal.loop-i-smaller
-loop-i-smaller c = omega arith
-
-pub shape_of-out : goal.shape_of-out
-shape_of-out c = c.loop-i.invariant.1.1.0

@@ -1,6 +1,3 @@
-use mathlib.Core.Path.{refl}
-use native.Mathlib.Omega.{arith}
-use borrow.Author.Rules.{rules}
 use Rattle.numbers.specs.Numbers.{bytes32}
 use Rattle.spelling.proofs.Items.{value_item}
 use Rattle.numbers.proofs.Steps.{storing-again, storing-ends}
@@ -18,24 +15,3 @@ returns c =
     let a = c.args in
     let l = c.loop-i in
     storing-ends 4 bytes32 value_item.wide a.out.now a.at a.values.now a.k l.out l.p l.i l.invariant c.loop-i-test.false
-
-pub loop-i-init : goal.loop-i-init
-loop-i-init c = (search rules, (search rules, (refl, refl)))
-
-pub bounds-values-i : goal.bounds-values-i
-bounds-values-i c = omega arith
-
-pub put32-requires : goal.put32-requires
-put32-requires c = omega arith
-
-pub overflow_add-p : goal.overflow_add-p
-overflow_add-p c = omega arith
-
-pub overflow_step-i : goal.overflow_step-i
-overflow_step-i c = omega arith
-
-pub loop-i-smaller : goal.loop-i-smaller
-loop-i-smaller c = omega arith
-
-pub shape_of-out : goal.shape_of-out
-shape_of-out c = c.loop-i.invariant.1.1.0

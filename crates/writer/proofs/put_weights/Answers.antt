@@ -1,6 +1,3 @@
-use mathlib.Core.Path.{refl}
-use native.Mathlib.Omega.{arith}
-use borrow.Author.Rules.{rules}
 use Rattle.numbers.specs.Numbers.{bytes16}
 use Rattle.spelling.proofs.Items.{weight_item}
 use Rattle.numbers.proofs.Steps.{storing-again, storing-ends}
@@ -18,24 +15,3 @@ returns c =
     let a = c.args in
     let l = c.loop-i in
     storing-ends 2 bytes16 weight_item.wide a.out.now a.at a.weights.now a.k l.out l.p l.i l.invariant c.loop-i-test.false
-
-pub loop-i-init : goal.loop-i-init
-loop-i-init c = (search rules, (search rules, (refl, refl)))
-
-pub bounds-weights-i : goal.bounds-weights-i
-bounds-weights-i c = omega arith
-
-pub put16-requires : goal.put16-requires
-put16-requires c = omega arith
-
-pub overflow_add-p : goal.overflow_add-p
-overflow_add-p c = omega arith
-
-pub overflow_step-i : goal.overflow_step-i
-overflow_step-i c = omega arith
-
-pub loop-i-smaller : goal.loop-i-smaller
-loop-i-smaller c = omega arith
-
-pub shape_of-out : goal.shape_of-out
-shape_of-out c = c.loop-i.invariant.1.1.0
