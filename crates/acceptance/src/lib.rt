@@ -1,39 +1,38 @@
-// The number of a take on a sound record, from a message that was read: by the offices and weights that it names, its sender, and the two logs.
+// Why a take on a sound record is refused by what its message was read as: no message, other offices or weights, its sender, or the two logs.
 #![tactic(auto)]
 
-ghost use Rattle.std.specs.Prelude.{◌≡◌, ◌*◌, ◌≤◌, length};
+ghost use Rattle.std.specs.Prelude.{◌≡◌, ◌*◌, ◌≤◌, IfSome, length, option_copied};
+ghost use Rattle.comparing.specs.Checking.{checked_in};
 ghost use Rattle.acceptance.specs.Acceptance.{checked_of};
 
-use comparing::Checked;
+use comparing::Refused;
 use readings::Reading;
+use refusals::Refusal;
 
-// The number of a take on a sound record with these fields, in the order of the definition; m is what the message was read as. Public only for
-// the crate above, which proves what it requires.
+// How many places the comparison of the logs needs in a take on a sound record with these fields, or the refusal, in the order of the definition; m is
+// what the message was read as, if it is one. Public only for the crate above, which proves what it requires.
+// The record's fields are handed over one by one, since its type is declared in a crate above.
 pub fn check(
     n: usize,
     own: usize,
     weights: [u16; 8],
     dropped: u64,
     log: &[u32],
-    held: usize,
     rest: &[u8],
-    m: Reading,
-) -> Checked
-    requires { (held ≤ length log.now) × (6 * m.held ≤ length rest.now) }
-    ensures { result ≡ checked_of n own weights dropped log.now held rest.now m }
+    m: Option<&Reading>,
+) -> Result<usize, Refused>
+    requires { IfSome m (λ x. 6 * x.now.held ≤ length rest.now) }
+    ensures { checked_in result ≡ checked_of n own weights dropped log.now rest.now (option_copied m.entry) }
 {
-    if !m.ok {
-        return comparing::refused(7);
-    }
-    if m.n != n {
-        return comparing::refused(8);
-    }
-    let theirs = m.weights;
-    if !lists::same_eight(theirs, weights) {
-        return comparing::refused(8);
+    // Stays though `take` asks before, for the head's length: this function's contract has always said what it answers here.
+    let Some(m) = m else {
+        return Err(Refusal::NoMessage.into());
+    };
+    if m.n != n || m.weights != weights {
+        return Err(Refusal::OtherOffices.into());
     }
     if m.sender == own {
-        return comparing::refused(9);
+        return Err(Refusal::OwnMessage.into());
     }
-    comparing::check(dropped, log, held, m.dropped, rest, m.held)
+    comparing::check(dropped, log, m.dropped, rest, m.held)
 }

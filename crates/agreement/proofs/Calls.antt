@@ -2,7 +2,7 @@
 use mathlib.Core.Path.{◌≡◌, refl, sym, ap, ap₂, subst, ◌∙◌}
 use mathlib.Core.Bool.{true}
 use mathlib.Core.List.{List}
-use mathlib.Core.Option.{Option, none, some}
+use Rattle.std.specs.Prelude.{Option, None, Some}
 use mathlib.Core.Logic.{◌⊎◌, inl, inr}
 use Prim.Native.Nat.{ℕ, ◌+◌, ◌<◌}
 use native.Mathlib.Omega.{arith}
@@ -82,7 +82,7 @@ use Rattle.agreement.proofs.Demand.{kept-is}
 -- ── one call ──
 module _ (n : ℕ) (ws : List ℕ) (w : World) (s : SoundWorld n ws w) where
   -- a replica put back where it stood
-  put_same : (k : ℕ) (d d' : Replica) → replica_at w k ≡ some d → d' ≡ d → put w k d' ≡ w
+  put_same : (k : ℕ) (d d' : Replica) → replica_at w k ≡ Some d → d' ≡ d → put w k d' ≡ w
   put_same k d d' e q = ap (put w k) q ∙ ap (λ (l : List Replica). record { replicas = l; sent = w.sent }) (set_same w.replicas k d e)
 
   refused : (c : Call) → (number w c ≡ 0 → ⊥) → step w c ≡ w
@@ -91,16 +91,16 @@ module _ (n : ℕ) (ws : List ℕ) (w : World) (s : SoundWorld n ws w) where
     where
       go : (x : Option Replica) → replica_at w k ≡ x → (on_some x 0 (λ d. (issue_of d.held d.words line code).number) ≡ 0 → ⊥)
           → on_some x w (λ d. put w k (issued d line code)) ≡ w
-      go none e h = refl
-      go (some d) e h =
+      go None e h = refl
+      go (Some d) e h =
           let m = s.each k d e in
           put_same k d (issued d line code) e ((issue-moves n ws k d m line code).still (λ z. h (issue-number n ws k d m line code ∙ z)))
   refused (send k out) h = go (replica_at w k) refl h
     where
       go : (x : Option Replica) → replica_at w k ≡ x → (on_some x 0 (λ d. (send_of d.held d.words out).number) ≡ 0 → ⊥)
           → on_some x w (λ d. pick (send_done d out) (post w (posted d out)) w) ≡ w
-      go none e h = refl
-      go (some d) e h =
+      go None e h = refl
+      go (Some d) e h =
           pick-cases (λ (x : World). x ≡ w) (send_done d out) (post w (posted d out)) w
           (λ q. absurd (h (eqb-true (send_of d.held d.words out).number 0 q))) (λ _. refl)
   refused (take k m) h = go (replica_at w k) refl (message_at w m) refl h
@@ -108,9 +108,9 @@ module _ (n : ℕ) (ws : List ℕ) (w : World) (s : SoundWorld n ws w) where
       go : (x : Option Replica) → replica_at w k ≡ x → (y : Option Posted) → message_at w m ≡ y
           → (on_some x 0 (λ d. on_some y 0 (λ b. (take_of d.held d.words b.bytes).number)) ≡ 0 → ⊥)
           → on_some x w (λ d. on_some y w (λ b. put w k (taken d b.bytes))) ≡ w
-      go none e y f h = refl
-      go (some d) e none f h = refl
-      go (some d) e (some b) f h =
+      go None e y f h = refl
+      go (Some d) e None f h = refl
+      go (Some d) e (Some b) f h =
           let x = s.readable m b f in
           put_same k d (taken d b.bytes) e ((take-moves n ws k d (s.each k d e) b.bytes x).still (λ z. h (take-number n ws k d (s.each k d e) b.bytes x ∙ z)))
   refused (elect k) h = absurd (h (elects n ws w s k))
@@ -122,8 +122,8 @@ module _ (n : ℕ) (ws : List ℕ) (w : World) (s : SoundWorld n ws w) where
     never-unsound (issue k line code) h = go (replica_at w k) refl h
       where
         go : (x : Option Replica) → replica_at w k ≡ x → on_some x 0 (λ d. (issue_of d.held d.words line code).number) ≡ 1 → ⊥
-        go none e h = omega arith
-        go (some d) e h = (issue-never n k line code (folded_by d.held d.words)).no-1 (sym (issue-number n ws k d (s.each k d e) line code) ∙ h)
+        go None e h = omega arith
+        go (Some d) e h = (issue-never n k line code (folded_by d.held d.words)).no-1 (sym (issue-number n ws k d (s.each k d e) line code) ∙ h)
     never-unsound (send k out) h = go (sends n ws w s k out)
       where
         go : (number w (send k out) ≡ 0) ⊎ (number w (send k out) ≡ 6) → ⊥
@@ -139,7 +139,7 @@ module _ (n : ℕ) (ws : List ℕ) (w : World) (s : SoundWorld n ws w) where
     never-unsound (fold k) h = omega (arith, folds n ws w s k)
 
 -- ── what the settled log has done, dropped entries included ──
-module _ (n : ℕ) (ws : List ℕ) (pos : 0 < n) (w : World) (s : SoundWorld n ws w) (t : S.Sound ws n (shape w)) (k : ℕ) (d : Replica) (e : replica_at w k ≡ some d) where
+module _ (n : ℕ) (ws : List ℕ) (pos : 0 < n) (w : World) (s : SoundWorld n ws w) (t : S.Sound ws n (shape w)) (k : ℕ) (d : Replica) (e : replica_at w k ≡ Some d) where
   m : SoundReplica n ws k d
   m = s.each k d e
 
@@ -180,7 +180,7 @@ module _ (n : ℕ) (ws : List ℕ) (pos : 0 < n) (w : World) (s : SoundWorld n w
       let there = ap (λ (x : Option Replica). on_some x 0 (λ r. (issue_of r.held r.words line code).number)) e in
       ap F.whole_desk ((issue-moves n ws k d m line code).done (sym (issue-number n ws k d m line code) ∙ sym there ∙ h)) ∙ Folding.issue-desk k (value k line code) (desk_of d)
 
-  take-says : (i : ℕ) (b : Posted) → message_at w i ≡ some b → number w (take k i) ≡ 0 → says (taken d b.bytes) ≡ with_take k (carries b) (says d)
+  take-says : (i : ℕ) (b : Posted) → message_at w i ≡ Some b → number w (take k i) ≡ 0 → says (taken d b.bytes) ≡ with_take k (carries b) (says d)
   unfolding number
   take-says i b f h =
       let x = s.readable i b f in

@@ -2,7 +2,7 @@
 use mathlib.Core.Path.{◌≡◌, refl, sym, ap, subst, ◌∙◌}
 use mathlib.Core.List.{List, [], ◌∷◌, ◌++◌, map, map-map}
 use mathlib.Core.Logic.{◌⊎◌, inl, inr}
-use mathlib.Core.Option.{Option, none, some}
+use Rattle.std.specs.Prelude.{Option, None, Some}
 use Prim.Native.Nat.{ℕ, ◌+◌, ◌<◌, ◌≤◌}
 use native.Mathlib.Omega.{arith}
 use lib.ListN as L
@@ -37,10 +37,10 @@ log-at : (w : World) (k : ℕ) → (P.at (view w) k).log ≡ log_at w k
 log-at w k = go (replica_at w k) refl
   where
     go : (x : Option Replica) → replica_at w k ≡ x → (P.at (view w) k).log ≡ on_some x [] (λ d. (says d).log)
-    go none e = ap (λ (o : Office). o.log) (S.view-at (shape w) k ∙ ap F.whole_desk (get_or-eq_default (map desk_of w.replicas) (F.new_desk []) (rw length-map (not_there w.replicas k e))))
-    go (some d) e = ap (λ (o : Office). o.log) (view-at w k d e)
+    go None e = ap (λ (o : Office). o.log) (S.view-at (shape w) k ∙ ap F.whole_desk (get_or-eq_default (map desk_of w.replicas) (F.new_desk []) (rw length-map (not_there w.replicas k e))))
+    go (Some d) e = ap (λ (o : Office). o.log) (view-at w k d e)
 
-own-path : (n : ℕ) (ws : List ℕ) (w : World) → SoundWorld n ws w → (k : ℕ) (d : Replica) → replica_at w k ≡ some d → path (P.at (view w) k) k ≡ view_at w k
+own-path : (n : ℕ) (ws : List ℕ) (w : World) → SoundWorld n ws w → (k : ℕ) (d : Replica) → replica_at w k ≡ Some d → path (P.at (view w) k) k ≡ view_at w k
 own-path n ws w s k d e =
     ap (λ (o : Office). path o k) (view-at w k d e) ∙ ap (path (says d)) (sym (s.each k d e).own)
     ∙ ap (λ (x : Option Replica). on_some x [] (λ d. path (says d) d.held.own)) (sym e)
@@ -50,29 +50,29 @@ is-issue : (w : World) (c : Call) (k line code : ℕ) → call_of w c ≡ F.issu
 is-issue w (issue k' line' code') k line code e = go (replica_at w k') e
   where
     go : (x : Option Replica) → on_some x F.idle (λ _. F.issue k' line' code') ≡ F.issue k line code → issue k' line' code' ≡ issue k line code
-    go none e = cc
-    go (some d) e = cc
+    go None e = cc
+    go (Some d) e = cc
 is-issue w (send k' out) k line code e = go (replica_at w k') e
   where
     go : (x : Option Replica) → on_some x F.idle (λ d. F.send k' (send_done d out)) ≡ F.issue k line code → send k' out ≡ issue k line code
-    go none e = cc
-    go (some d) e = cc
+    go None e = cc
+    go (Some d) e = cc
 is-issue w (take k' m) k line code e = go (replica_at w k') (message_at w m) e
   where
     go : (x : Option Replica) (y : Option Posted) → on_some x F.idle (λ _. on_some y F.idle (λ _. F.take k' m)) ≡ F.issue k line code → take k' m ≡ issue k line code
-    go none y e = cc
-    go (some d) none e = cc
-    go (some d) (some b) e = cc
+    go None y e = cc
+    go (Some d) None e = cc
+    go (Some d) (Some b) e = cc
 is-issue w (elect k') k line code e = go (replica_at w k') e
   where
     go : (x : Option Replica) → on_some x F.idle (λ _. F.elect k') ≡ F.issue k line code → elect k' ≡ issue k line code
-    go none e = cc
-    go (some d) e = cc
+    go None e = cc
+    go (Some d) e = cc
 is-issue w (fold k') k line code e = go (replica_at w k') e
   where
     go : (x : Option Replica) → on_some x F.idle (λ _. F.fold k') ≡ F.issue k line code → fold k' ≡ issue k line code
-    go none e = cc
-    go (some d) e = cc
+    go None e = cc
+    go (Some d) e = cc
 
 -- ── the order ──
 module _ (n : ℕ) (ws : List ℕ) (start : World) (f : Founded n ws start) where
@@ -101,7 +101,7 @@ module _ (n : ℕ) (ws : List ℕ) (start : World) (f : Founded n ws start) wher
       let at : before ≡ w = after_is n ws start f i.earlier in
       let k : ℕ = i.k in
       let office : k ≡ office_of e = sym i.its-office in
-      let replica : (d : Replica) × (replica_at w k ≡ some d) = find w.replicas k (rw s.offices i.known) in
+      let replica : (d : Replica) × (replica_at w k ≡ Some d) = find w.replicas k (rw s.offices i.known) in
       let seen : call_of before i.c ≡ F.issue k i.line i.code = (O.is-issue (shape before) (call_of before i.c) k i.line i.code i.is-issue).0 in
       let call : i.c ≡ issue (office_of e) (line_of e) (code_of e) = is-issue before i.c k i.line i.code seen ∙ cc (i.its-office, i.its-line, i.its-code) in
       record {
@@ -125,8 +125,8 @@ module _ (n : ℕ) (ws : List ℕ) (pos : 0 < n) (w : World) (s : SoundWorld n w
   meets (issue k line code) h = go (replica_at w k) refl h
     where
       go : (x : Option Replica) → replica_at w k ≡ x → on_some x 0 (λ d. (issue_of d.held d.words line code).number) ≡ 16 → ⊥
-      go none e h = omega arith
-      go (some d) e h = (issue-never n k line code (folded_by d.held d.words)).no-16 (sym (issue-number n ws k d (s.each k d e) line code) ∙ h)
+      go None e h = omega arith
+      go (Some d) e h = (issue-never n k line code (folded_by d.held d.words)).no-16 (sym (issue-number n ws k d (s.each k d e) line code) ∙ h)
   meets (send k out) h = go (sends n ws w s k out)
     where
       go : (number w (send k out) ≡ 0) ⊎ (number w (send k out) ≡ 6) → ⊥
@@ -141,7 +141,7 @@ module _ (n : ℕ) (ws : List ℕ) (pos : 0 < n) (w : World) (s : SoundWorld n w
   meets (elect k) h = omega (arith, elects n ws w s k)
   meets (fold k) h = omega (arith, folds n ws w s k)
 
-  module _ (k : ℕ) (d : Replica) (e : replica_at w k ≡ some d) where
+  module _ (k : ℕ) (d : Replica) (e : replica_at w k ≡ Some d) where
     at : F.desk_at (shape w) k ≡ desk_of d
     at = shape_at w k d e
 
@@ -155,8 +155,8 @@ module _ (n : ℕ) (ws : List ℕ) (pos : 0 < n) (w : World) (s : SoundWorld n w
     pub kept-is : d.held.kept ≡ kept_after (kept_nothing ws) d.former
     kept-is =
         let x : effect_in d.held.kept ≡ effect_of ws d.former = subst (λ (y : F.Desk). y.kept ≡ effect_of ws y.former) at (t.kept k below) in
-        let none : length d.former ≡ 0 + length d.former = omega arith in
-        λ i. record { dropped = (counted ∙ none) i; summary = record { present = (x i).weights; codes = (x i).codes }; counts = (x i).counts }
+        let none_left : length d.former ≡ 0 + length d.former = omega arith in
+        λ i. record { dropped = (counted ∙ none_left) i; summary = record { present = (x i).weights; codes = (x i).codes }; counts = (x i).counts }
 
     noted : (j : ℕ) → get_or d.held.noted j 0 ≤ length (log_at w j)
     noted j = omega (arith, ap (λ (x : F.Desk). get_or x.now.noted j 0) at, (t.desks k).noted j, ap length (log-at w j))

@@ -4,11 +4,12 @@
 use mathlib.Core.Path.{◌≡◌, refl, sym, ap, ap₂, subst, ◌∙◌}
 use mathlib.Core.Bool.{Bool, true, false, ◌&&◌, cond}
 use mathlib.Core.List.{List, [], ◌∷◌, map}
-use mathlib.Core.Option.{Option, none, some}
+use Rattle.std.specs.Prelude.{Option, None, Some}
 use Prim.Native.Nat.{ℕ, zero, suc}
 use native.Mathlib.Omega.{arith}
 use lib.Dec.{eqb, ltb}
-use lib.ListN.{length, get_elem?, length-map, replicate}
+use lib.ListN.{length, length-map, replicate}
+use Rattle.std.specs.Prelude.{slice_get}
 use borrow.Author.Tests.{lt-ltb, eqb-true}
 use Rattle.lists.specs.Tests.{pick}
 use Rattle.lists.proofs.Tests.{pick-cases}
@@ -92,23 +93,23 @@ step-idle v = refl
 
 -- ── the start ──
 module _ (n : ℕ) (ws : List ℕ) (start : World) (f : Founded n ws start) where
-  founded-so : (k : ℕ) (d : Replica) → replica_at start k ≡ some d → found_replica n ws k d.words ≡ d
+  founded-so : (k : ℕ) (d : Replica) → replica_at start k ≡ Some d → found_replica n ws k d.words ≡ d
   founded-so k d e = λ i. record { held = sym (f.founded k d e).1 i; words = d.words; former = sym (f.nothing-dropped k d e) i }
 
   pub sound-start : SoundWorld n ws start
   sound-start = record {
     offices = f.offices;
     each = λ k d e. subst (λ (x : Replica). SoundReplica n ws k x) (founded-so k d e) (founding-sound n ws k d.words (f.founded k d e).0);
-    readable = λ m s e. absurd (nothing s (ap (λ (l : List Posted). get_elem? l m) (sym f.silent) ∙ e));
+    readable = λ m s e. absurd (nothing s (ap (λ (l : List Posted). slice_get l m) (sym f.silent) ∙ e));
   }
 
-  start-desk : (k : ℕ) (d : Replica) → replica_at start k ≡ some d → desk_of d ≡ F.new_desk ws
+  start-desk : (k : ℕ) (d : Replica) → replica_at start k ≡ Some d → desk_of d ≡ F.new_desk ws
   start-desk k d e = ap desk_of (sym (founded-so k d e)) ∙ founding-desk n ws k d.words (f.founded k d e).0
 
   pub starts : shape start ≡ F.founded ws n
   starts = ap₂ (λ (l : List F.Desk) (s : List Posted). record { desks = l; sent = map sent_of s }) (all start.replicas n f.offices start-desk) f.silent
     where
-      all : (l : List Replica) (n : ℕ) → length l ≡ n → ((k : ℕ) (d : Replica) → get_elem? l k ≡ some d → desk_of d ≡ F.new_desk ws) → map desk_of l ≡ replicate n (F.new_desk ws)
+      all : (l : List Replica) (n : ℕ) → length l ≡ n → ((k : ℕ) (d : Replica) → slice_get l k ≡ Some d → desk_of d ≡ F.new_desk ws) → map desk_of l ≡ replicate n (F.new_desk ws)
       all [] n e h = ap (λ (k : ℕ). replicate k (F.new_desk ws)) e
       all (d ∷ l) zero e h = absurd (omega arith)
       all (d ∷ l) (suc n) e h = ap₂ (λ (x : F.Desk) (r : List F.Desk). x ∷ r) (h 0 d refl) (all l n (omega arith) (λ k x q. h (suc k) x q))
@@ -120,8 +121,8 @@ module _ (n : ℕ) (ws : List ℕ) (w : World) (s : SoundWorld n ws w) where
   issue-follows k line code = go (replica_at w k) refl
     where
       go : (x : Option Replica) → replica_at w k ≡ x → shape (on_some x w (λ d. put w k (issued d line code))) ≡ step_f (shape w) (on_some x F.idle (λ _. F.issue k line code))
-      go none e = step-idle (shape w)
-      go (some d) e =
+      go None e = step-idle (shape w)
+      go (Some d) e =
           let now = folded_by d.held d.words in
           put-shape w k d e (issued d line code) (eqb (refuse_folded_issue n k line code now) 0) (with_folded_issue k (value k line code) now)
           (issue-moves n ws k d (s.each k d e) line code).desk
@@ -141,7 +142,7 @@ module _ (n : ℕ) (ws : List ℕ) (w : World) (s : SoundWorld n ws w) where
       sending x = record { desks = (shape w).desks; sent = record { message = packet k x.now; former = x.former } ∷ (shape w).sent }
 
       -- by whether the send is done
-      by : (d : Replica) (e : replica_at w k ≡ some d) (t : Bool) → send_done d out ≡ t
+      by : (d : Replica) (e : replica_at w k ≡ Some d) (t : Bool) → send_done d out ≡ t
           → shape (pick t (post w (posted d out)) w) ≡ pick (eqb (cond t 0 6) 0) (sending (F.desk_at (shape w) k)) (shape w)
       by d e true q =
           ap (λ (m : Packet). record { desks = (shape w).desks; sent = record { message = m; former = d.former } ∷ (shape w).sent })
@@ -150,8 +151,8 @@ module _ (n : ℕ) (ws : List ℕ) (w : World) (s : SoundWorld n ws w) where
       by d e false q = refl
 
       go : (x : Option Replica) → replica_at w k ≡ x → Goal x
-      go none e = step-idle (shape w)
-      go (some d) e = by d e (send_done d out) refl ∙ step-named (shape w) (F.send k (send_done d out)) (shape-there w k d e)
+      go None e = step-idle (shape w)
+      go (Some d) e = by d e (send_done d out) refl ∙ step-named (shape w) (F.send k (send_done d out)) (shape-there w k d e)
 
   take-follows : (k m : ℕ) → shape (step w (take k m)) ≡ step_f (shape w) (call_of w (take k m))
   unfolding step names number_f done
@@ -160,13 +161,13 @@ module _ (n : ℕ) (ws : List ℕ) (w : World) (s : SoundWorld n ws w) where
       Goal : Option Replica → Option Posted → Type 0
       Goal x y = shape (on_some x w (λ d. on_some y w (λ b. put w k (taken d b.bytes)))) ≡ step_f (shape w) (on_some x F.idle (λ _. on_some y F.idle (λ _. F.take k m)))
 
-      sent : (b : Posted) → message_at w m ≡ some b → ltb m (length (map sent_of w.sent)) ≡ true
+      sent : (b : Posted) → message_at w m ≡ Some b → ltb m (length (map sent_of w.sent)) ≡ true
       sent b e = lt-ltb m (length (map sent_of w.sent)) (rw length-map (there w.sent m b e))
 
       go : (x : Option Replica) → replica_at w k ≡ x → (y : Option Posted) → message_at w m ≡ y → Goal x y
-      go none e y f = step-idle (shape w)
-      go (some d) e none f = step-idle (shape w)
-      go (some d) e (some b) f =
+      go None e y f = step-idle (shape w)
+      go (Some d) e None f = step-idle (shape w)
+      go (Some d) e (Some b) f =
           let i = means b.bytes in
           let now = folded_by d.held d.words in
           put-shape w k d e (taken d b.bytes) (eqb (refuse_folded_take k i now) 0) (with_folded_take k i now) (take-moves n ws k d (s.each k d e) b.bytes (s.readable m b f)).desk
@@ -179,8 +180,8 @@ module _ (n : ℕ) (ws : List ℕ) (w : World) (s : SoundWorld n ws w) where
   elect-follows k = go (replica_at w k) refl
     where
       go : (x : Option Replica) → replica_at w k ≡ x → shape (on_some x w (λ d. put w k (elected d))) ≡ step_f (shape w) (on_some x F.idle (λ _. F.elect k))
-      go none e = step-idle (shape w)
-      go (some d) e =
+      go None e = step-idle (shape w)
+      go (Some d) e =
           put-shape w k d e (elected d) true (elected_of d.held d.words) (elect-moves n ws k d (s.each k d e)).desk
           ∙ ap (λ (x : F.Desk). pick true (F.put (shape w) k (with_folded_elect (rule_behind x.kept) x.now)) (shape w)) (sym (shape_at w k d e))
           ∙ step-named (shape w) (F.elect k) (shape-there w k d e)
@@ -190,8 +191,8 @@ module _ (n : ℕ) (ws : List ℕ) (w : World) (s : SoundWorld n ws w) where
   fold-follows k = go (replica_at w k) refl
     where
       go : (x : Option Replica) → replica_at w k ≡ x → shape (on_some x w (λ d. put w k (folded d))) ≡ step_f (shape w) (on_some x F.idle (λ _. F.fold k))
-      go none e = step-idle (shape w)
-      go (some d) e =
+      go None e = step-idle (shape w)
+      go (Some d) e =
           put-shape w k d e (folded d) true (with_fold n k (folded_by d.held d.words)) (fold-moves n ws k d (s.each k d e)).desk
           ∙ ap₂ (λ (c : ℕ) (x : F.Desk). pick true (F.put (shape w) k (with_fold c k x.now)) (shape w)) (sym (shape-length n ws w s)) (sym (shape_at w k d e))
           ∙ step-named (shape w) (F.fold k) (shape-there w k d e)
@@ -209,32 +210,32 @@ module _ (n : ℕ) (ws : List ℕ) (w : World) (s : SoundWorld n ws w) where
   keeps (issue k line code) = go (replica_at w k) refl
     where
       go : (x : Option Replica) → replica_at w k ≡ x → SoundWorld n ws (on_some x w (λ d. put w k (issued d line code)))
-      go none e = s
-      go (some d) e = put-sound n ws w k (issued d line code) s (issue-moves n ws k d (s.each k d e) line code).sound
+      go None e = s
+      go (Some d) e = put-sound n ws w k (issued d line code) s (issue-moves n ws k d (s.each k d e) line code).sound
   keeps (send k out) = go (replica_at w k) refl
     where
       go : (x : Option Replica) → replica_at w k ≡ x → SoundWorld n ws (on_some x w (λ d. pick (send_done d out) (post w (posted d out)) w))
-      go none e = s
-      go (some d) e =
+      go None e = s
+      go (Some d) e =
           pick-cases (SoundWorld n ws) (send_done d out) (post w (posted d out)) w
           (λ q. post-sound n ws w (posted d out) s (send-readable n ws k d (s.each k d e) out (eqb-true (send_of d.held d.words out).number 0 q)))
           (λ _. s)
   keeps (take k m) = go (replica_at w k) refl (message_at w m) refl
     where
       go : (x : Option Replica) → replica_at w k ≡ x → (y : Option Posted) → message_at w m ≡ y → SoundWorld n ws (on_some x w (λ d. on_some y w (λ b. put w k (taken d b.bytes))))
-      go none e y f = s
-      go (some d) e none f = s
-      go (some d) e (some b) f = put-sound n ws w k (taken d b.bytes) s (take-moves n ws k d (s.each k d e) b.bytes (s.readable m b f)).sound
+      go None e y f = s
+      go (Some d) e None f = s
+      go (Some d) e (Some b) f = put-sound n ws w k (taken d b.bytes) s (take-moves n ws k d (s.each k d e) b.bytes (s.readable m b f)).sound
   keeps (elect k) = go (replica_at w k) refl
     where
       go : (x : Option Replica) → replica_at w k ≡ x → SoundWorld n ws (on_some x w (λ d. put w k (elected d)))
-      go none e = s
-      go (some d) e = put-sound n ws w k (elected d) s (elect-moves n ws k d (s.each k d e)).sound
+      go None e = s
+      go (Some d) e = put-sound n ws w k (elected d) s (elect-moves n ws k d (s.each k d e)).sound
   keeps (fold k) = go (replica_at w k) refl
     where
       go : (x : Option Replica) → replica_at w k ≡ x → SoundWorld n ws (on_some x w (λ d. put w k (folded d)))
-      go none e = s
-      go (some d) e = put-sound n ws w k (folded d) s (fold-moves n ws k d (s.each k d e)).sound
+      go None e = s
+      go (Some d) e = put-sound n ws w k (folded d) s (fold-moves n ws k d (s.each k d e)).sound
 
 -- ── every list of calls ──
 module _ (n : ℕ) (ws : List ℕ) (start : World) (f : Founded n ws start) where

@@ -1,10 +1,11 @@
 -- The claim is not empty: n foundings that are done, each with a log of its own, whatever it holds, make a world of demand 3. Assumes nothing.
 use mathlib.Core.Path.{◌≡◌, refl, sym, ap, subst, ◌∙◌}
 use mathlib.Core.List.{List, [], ◌∷◌}
-use mathlib.Core.Option.{some}
+use Rattle.std.specs.Prelude.{Some}
 use Prim.Native.Nat.{ℕ, zero, suc, ◌+◌, ◌≤◌}
 use native.Mathlib.Omega.{arith}
-use lib.ListN.{length, get_elem?}
+use lib.ListN.{length}
+use Rattle.std.specs.Prelude.{slice_get}
 use Rattle.frame.specs.Founding.{found_of}
 use Rattle.agreement.specs.World.{Replica, World}
 use Rattle.agreement.specs.Demand.{Founded}
@@ -29,10 +30,10 @@ IsFounded n ws k d = ((found_of n k ws d.words).number ≡ 0) × (d.held ≡ (fo
 
 -- every office's founding is done
 abbrev pub AllDone : ℕ → List ℕ → ℕ → List (List ℕ) → Type 0
-AllDone n ws k logs = (i : ℕ) (l : List ℕ) → get_elem? logs i ≡ some l → (found_of n (k + i) ws l).number ≡ 0
+AllDone n ws k logs = (i : ℕ) (l : List ℕ) → slice_get logs i ≡ Some l → (found_of n (k + i) ws l).number ≡ 0
 
 each-founded : (n : ℕ) (ws : List ℕ) (k : ℕ) (logs : List (List ℕ)) → AllDone n ws k logs
-    → (i : ℕ) (d : Replica) → get_elem? (found_replicas n ws k logs) i ≡ some d → IsFounded n ws (k + i) d
+    → (i : ℕ) (d : Replica) → slice_get (found_replicas n ws k logs) i ≡ Some d → IsFounded n ws (k + i) d
 each-founded n ws k [] h i d e = absurd (nothing d e)
 each-founded n ws k (l ∷ ls) h zero d e =
     let q : found_replica n ws k l ≡ d = cc in
@@ -43,7 +44,7 @@ each-founded n ws k (l ∷ ls) h (suc i) d e =
     subst (λ (j : ℕ). IsFounded n ws j d) (z i)
     (each-founded n ws (suc k) ls (λ j x q. ap (λ (y : ℕ). (found_of n y ws x).number) (z j) ∙ h (suc j) x q) i d e)
 
-none_dropped : (n : ℕ) (ws : List ℕ) (k : ℕ) (logs : List (List ℕ)) (i : ℕ) (d : Replica) → get_elem? (found_replicas n ws k logs) i ≡ some d → d.former ≡ []
+none_dropped : (n : ℕ) (ws : List ℕ) (k : ℕ) (logs : List (List ℕ)) (i : ℕ) (d : Replica) → slice_get (found_replicas n ws k logs) i ≡ Some d → d.former ≡ []
 none_dropped n ws k [] i d e = absurd (nothing d e)
 none_dropped n ws k (l ∷ ls) zero d e = let q : found_replica n ws k l ≡ d = cc in ap (λ (x : Replica). x.former) (sym q)
 none_dropped n ws k (l ∷ ls) (suc i) d e = none_dropped n ws (suc k) ls i d e

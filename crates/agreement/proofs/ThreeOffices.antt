@@ -2,7 +2,7 @@
 -- log of 1024 zeros, and every list of calls. `rehearsal-order` of Rehearsed.antt computes one list of them. Assumes nothing.
 use mathlib.Core.Path.{◌≡◌, refl, sym, ap, ◌∙◌}
 use mathlib.Core.List.{List, [], ◌∷◌}
-use mathlib.Core.Option.{some}
+use Rattle.std.specs.Prelude.{Some}
 use Prim.Native.Nat.{ℕ, zero, suc, ◌<◌}
 use native.Mathlib.Omega.{arith}
 use lib.ListN.{length, get_or, replicate}
@@ -36,7 +36,7 @@ foundings-done = (refl, refl, refl)
 pub three-founded : Founded 3 usual_weights three_offices
 three-founded = start-founded 3 usual_weights (replicate 3 empty_log) (omega arith) refl done
   where
-    at : (k : ℕ) (l : List ℕ) → some empty_log ≡ some l → Done k → (found_of 3 k usual_weights l).number ≡ 0
+    at : (k : ℕ) (l : List ℕ) → Some empty_log ≡ Some l → Done k → (found_of 3 k usual_weights l).number ≡ 0
     at k l e h = let q : l ≡ empty_log = cc in ap (λ (x : List ℕ). (found_of 3 k usual_weights x).number) q ∙ h
 
     done : AllDone 3 usual_weights 0 (replicate 3 empty_log)
@@ -50,9 +50,9 @@ pub three-offices-one-order : (cs : List Call) → OneOrder three_offices cs
 three-offices-one-order = one-order 3 usual_weights three_offices three-founded
 
 -- each of them is there after every list of calls, whatever its record is then
-pub office-there : (cs : List Call) (k : ℕ) (d : Replica) → k < 3 → replica_at (after three_offices cs) k ≡ some (get_or (after three_offices cs).replicas k d)
+pub office-there : (cs : List Call) (k : ℕ) (d : Replica) → k < 3 → replica_at (after three_offices cs) k ≡ Some (get_or (after three_offices cs).replicas k d)
 office-there cs k d h =
     let l : List Replica = (after three_offices cs).replicas in
     let s : k < length l = rw (always 3 usual_weights three_offices three-founded cs).offices h in
     let x = find l k s in
-    x.1 ∙ ap (λ (y : Replica). some y) (sym (there-at l k x.0 d x.1))
+    x.1 ∙ ap (λ (y : Replica). Some y) (sym (there-at l k x.0 d x.1))

@@ -6,7 +6,7 @@
 use mathlib.Core.Path.{◌≡◌, refl, sym, ap, subst, ◌∙◌}
 use mathlib.Core.Bool.{Bool, true, false}
 use mathlib.Core.List.{List, [], map}
-use mathlib.Core.Option.{some}
+use Rattle.std.specs.Prelude.{Some, slice_get}
 use mathlib.Core.Logic.{◌⊎◌, inl, inr}
 use Prim.Native.Nat.{ℕ, zero, suc}
 use lib.Dec.{eqb}
@@ -77,14 +77,14 @@ pub record SoundReplica (n : ℕ) (ws : List ℕ) (k : ℕ) (d : Replica) : Type
 -- the bytes of a message with this n and these weights
 pub record Readable (n : ℕ) (ws : List ℕ) (s : List ℕ) : Type 0 where
   pub content : Content
-  pub reads : reading s ≡ some content
+  pub reads : reading s ≡ Some content
   pub count : content.n ≡ n
   pub weights : content.weights ≡ L.take n ws
 
 pub record SoundWorld (n : ℕ) (ws : List ℕ) (w : World) : Type 0 where
   pub offices : length w.replicas ≡ n
-  pub each : (k : ℕ) (d : Replica) → replica_at w k ≡ some d → SoundReplica n ws k d
-  pub readable : (m : ℕ) (s : Posted) → message_at w m ≡ some s → Readable n ws s.bytes
+  pub each : (k : ℕ) (d : Replica) → replica_at w k ≡ Some d → SoundReplica n ws k d
+  pub readable : (m : ℕ) (s : Posted) → message_at w m ≡ Some s → Readable n ws s.bytes
 
 -- what such bytes say
 pub means-content : (n : ℕ) (ws : List ℕ) (s : List ℕ) (x : Readable n ws s) → means s ≡ as_packet x.content
@@ -108,14 +108,14 @@ put-sound n ws w k d s m = record {
   readable = s.readable;
 }
   where
-    go : (j : ℕ) (e : Replica) → (replica_at w j ≡ some e) ⊎ ((j ≡ k) × (d ≡ e)) → SoundReplica n ws j e
+    go : (j : ℕ) (e : Replica) → (replica_at w j ≡ Some e) ⊎ ((j ≡ k) × (d ≡ e)) → SoundReplica n ws j e
     go j e (inl q) = s.each j e q
     go j e (inr q) = subst (λ (x : Replica). SoundReplica n ws j x) q.1 (subst (λ (i : ℕ). SoundReplica n ws i d) (sym q.0) m)
 
 pub post-sound : (n : ℕ) (ws : List ℕ) (w : World) (b : Posted) → SoundWorld n ws w → Readable n ws b.bytes → SoundWorld n ws (post w b)
 post-sound n ws w b s x = record { offices = s.offices; each = s.each; readable = go }
   where
-    go : (m : ℕ) (t : Posted) → message_at (post w b) m ≡ some t → Readable n ws t.bytes
+    go : (m : ℕ) (t : Posted) → message_at (post w b) m ≡ Some t → Readable n ws t.bytes
     go zero t e = subst (λ (y : Posted). Readable n ws y.bytes) (let q : b ≡ t = cc in q) x
     go (suc m) t e = s.readable m t e
 
@@ -124,11 +124,11 @@ pub shape-length : (n : ℕ) (ws : List ℕ) (w : World) → SoundWorld n ws w �
 shape-length n ws w s = length-map w.replicas desk_of ∙ s.offices
 
 -- a message that was sent
-pub shape-sent : (w : World) (m : ℕ) (s : Posted) → message_at w m ≡ some s → L.get_elem? (shape w).sent m ≡ some (sent_of s)
+pub shape-sent : (w : World) (m : ℕ) (s : Posted) → message_at w m ≡ Some s → slice_get (shape w).sent m ≡ Some (sent_of s)
 shape-sent w m s e = map-there sent_of w.sent m s e
 
 -- a replica, and one that holds another state, or the same under a test
-module _ (w : World) (k : ℕ) (d : Replica) (here : replica_at w k ≡ some d) where
+module _ (w : World) (k : ℕ) (d : Replica) (here : replica_at w k ≡ Some d) where
   pub shape-there : F.is_there (shape w) k ≡ true
   shape-there = lt-ltb k (length (map desk_of w.replicas)) (rw length-map (there w.replicas k d here))
 

@@ -5,7 +5,7 @@
 -- "An edit is an entry", and an entry is its value. Request (xiv): the order "includes dropped entries, and so does every settled log and path that
 -- demand 3 speaks of: each begins with what its office had dropped by then". Assumes nothing.
 use Rattle.std.specs.Prelude.{◌≡◌, List, [], ◌∷◌, ◌++◌, map, ℕ, ◌≤◌, ◌<◌, length, get_or}
-use Rattle.std.proofs.Math.Option.{some}
+use Rattle.std.specs.Prelude.{Some}
 use Rattle.std.proofs.Math.ListN as L
 use Rattle.protocol.specs.Entry.{office_of, line_of, code_of}
 use Rattle.protocol.specs.Beginning.{◌⊑◌}
@@ -21,9 +21,9 @@ use Rattle.agreement.specs.World.{Replica, World, Call, issue, replica_at, on_so
 pub record Founded (n : ℕ) (weights : List ℕ) (start : World) : Type 0 where
   pub any : 1 ≤ n
   pub offices : length start.replicas ≡ n
-  pub founded : (k : ℕ) (d : Replica) → replica_at start k ≡ some d
+  pub founded : (k : ℕ) (d : Replica) → replica_at start k ≡ Some d
       → ((found_of n k weights d.words).number ≡ 0) × (d.held ≡ (found_of n k weights d.words).«record»)
-  pub nothing-dropped : (k : ℕ) (d : Replica) → replica_at start k ≡ some d → d.former ≡ []
+  pub nothing-dropped : (k : ℕ) (d : Replica) → replica_at start k ≡ Some d → d.former ≡ []
   pub silent : start.sent ≡ []
 
 -- what an office's record and log say: its settled log, which "begins with what its office had dropped by then", and the tails of its ballots
@@ -62,12 +62,12 @@ pub record OneOrder (start : World) (cs : List Call) : Type 0 where
   -- (xiv) "Sent messages never meet 16."
   pub never-16 : (earlier later : List Call) (c : Call) → earlier ++ (c ∷ later) ≡ cs → number (after start earlier) c ≡ 16 → ⊥
   -- an office's dropped count is that of the entries that it has dropped, and what it keeps is what these have done
-  pub counted : (earlier later : List Call) → earlier ++ later ≡ cs → (k : ℕ) (d : Replica) → replica_at (after start earlier) k ≡ some d → d.held.kept.dropped ≡ length d.former
-  pub kept : (earlier later : List Call) → earlier ++ later ≡ cs → (k : ℕ) (d : Replica) → replica_at (after start earlier) k ≡ some d
+  pub counted : (earlier later : List Call) → earlier ++ later ≡ cs → (k : ℕ) (d : Replica) → replica_at (after start earlier) k ≡ Some d → d.held.kept.dropped ≡ length d.former
+  pub kept : (earlier later : List Call) → earlier ++ later ≡ cs → (k : ℕ) (d : Replica) → replica_at (after start earlier) k ≡ Some d
       → d.held.kept ≡ kept_after (kept_nothing d.held.weights) d.former
   -- what it has noted of an office, that office has settled
-  pub noted : (earlier later : List Call) → earlier ++ later ≡ cs → (k j : ℕ) (d : Replica) → replica_at (after start earlier) k ≡ some d
+  pub noted : (earlier later : List Call) → earlier ++ later ≡ cs → (k j : ℕ) (d : Replica) → replica_at (after start earlier) k ≡ Some d
       → get_or d.held.noted j 0 ≤ length (log_at (after start earlier) j)
   -- every office has settled what any office has dropped: no office's log is ever shorter than that
-  pub shared : (earlier later : List Call) → earlier ++ later ≡ cs → (k j : ℕ) (d : Replica) → replica_at (after start earlier) k ≡ some d → j < length start.replicas
+  pub shared : (earlier later : List Call) → earlier ++ later ≡ cs → (k j : ℕ) (d : Replica) → replica_at (after start earlier) k ≡ Some d → j < length start.replicas
       → d.former ⊑ log_at (after start earlier) j

@@ -3,9 +3,9 @@
 -- each office, and each message, stand the entries that the office had dropped by then: no call looks at them, they are there for what is claimed
 -- of whole logs. Assumes nothing.
 use Rattle.std.specs.Prelude.{List, [], ◌∷◌, ◌++◌, ℕ, eqb, set}
-use Rattle.std.proofs.Math.Option.{Option, none, some}
+use Rattle.std.specs.Prelude.{Option, None, Some}
 use Rattle.std.proofs.Math.ListN as L
-use Rattle.std.proofs.Math.ListN.{get_elem?}
+use Rattle.std.specs.Prelude.{slice_get}
 use Rattle.lists.specs.Tests.{pick}
 use Rattle.frame.specs.declared.Record.{Record}
 use Rattle.frame.specs.State.{goes, folded_by}
@@ -43,15 +43,15 @@ pub data Call : Type 0 where
 
 -- the office that a call names, and the message that a take names; none where there is no such one
 abbrev pub replica_at : World → ℕ → Option Replica
-replica_at w k = get_elem? w.replicas k
+replica_at w k = slice_get w.replicas k
 
 abbrev pub message_at : World → ℕ → Option Posted
-message_at w m = get_elem? w.sent m
+message_at w m = slice_get w.sent m
 
 -- `f a` of a thing a that is there; b where there is none
 abbrev pub on_some : {A B : Type 0} → Option A → B → (A → B) → B
-on_some none b f = b
-on_some (some a) b f = f a
+on_some None b f = b
+on_some (Some a) b f = f a
 
 -- the call's number. "Each call gets its office's record and log as the last call at that office left them"; "a take is handed exactly the
 -- bytes of one sent message". A call that names no office that is there, or no message sent, is none of the paper's: 0, and nothing changes.

@@ -21,6 +21,10 @@ versions r words = versions_of r.n (held_by r words)
 abbrev pub vectors_of : Record → List ℕ → List ℕ
 vectors_of r words = versions_bytes (start_of r) (versions r words)
 
+-- nothing is written, and the call has this number
+abbrev pub no_vectors : ℕ → Written
+no_vectors number = record { number = number; length = 0 }
+
 -- 1: "record unsound, or log below 1024 words"; "6, after 1, if the output is too short"
 unfoldable pub write_number : Record → List ℕ → List ℕ → ℕ
 write_number r words out = pick (sound_b r words) (pick (ltb (length out) (length (vectors_of r words))) 6 0) 1

@@ -2,13 +2,20 @@
 // `frame`, which uses only what frame's calls promise.
 #![tactic(auto)]
 
-ghost use Rattle.std.specs.Prelude.{◌≡◌};
-ghost use Rattle.archive.specs.Comparison.{compare_of};
-ghost use Rattle.archive.specs.Writing.{write_of, write_bytes};
+ghost use Rattle.std.specs.Prelude.{◌≡◌, take};
+ghost use Rattle.refusals.specs.Refusals.{number_of};
+ghost use Rattle.frame.specs.Soundness.{Sound};
+ghost use Rattle.frame.specs.State.{held_length};
+ghost use Rattle.archive.specs.Comparison.{compare_of, no_answers};
+ghost use Rattle.archive.specs.Writing.{no_vectors, write_of, write_bytes};
 
 use frame::Record;
+use refusals::Refusal;
+use vectors::Versions;
 
 // `number` is the paper's, 0 when it is done; `length` is 0 where it is refused.
+// `sending::Sent` is of one shape with it, and its `refused` too: C knows each answer by a type of its own.
+// C has it as it lies here, so it holds the number and is no `Result`.
 #[repr(C)]
 #[derive(Clone, Copy)]
 pub struct Written {
@@ -16,12 +23,52 @@ pub struct Written {
     pub length: usize,
 }
 
+impl Written {
+    // Nothing is written.
+    fn refused(why: Refusal) -> Written
+        ensures { result ≡ no_vectors (number_of why) }
+    {
+        Written {
+            number: why.number(),
+            length: 0,
+        }
+    }
+}
+
 // Nine answers: for the settled log, for the path of each office, and beside past the last. They are the numbers of `versions`.
+// C has it as it lies here, so it holds the number and is no `Result`.
 #[repr(C)]
 #[derive(Clone, Copy)]
 pub struct Compared {
     pub number: u32,
     pub answers: [u32; 9],
+}
+
+impl Compared {
+    // Nothing is compared.
+    fn refused(why: Refusal) -> Compared
+        ensures { result ≡ no_answers (number_of why) }
+    {
+        Compared {
+            number: why.number(),
+            answers: [versions::number(None); 9],
+        }
+    }
+}
+
+// The versions of an office: its log without the dropped entries, and its offices' paths.
+fn versions_of<'a>(office: &'a Record, log: &'a [u32]) -> Versions<'a>
+    requires { Sound office.now log.now }
+    ensures { (result.n ≡ office.now.n) × ((result.start ≡ office.now.kept.counts) × ((result.log.now ≡ take (held_length office.now) log.now)
+        × (result.ballots.now ≡ office.now.ballots))) }
+{
+    let held = (office.settled - office.kept.dropped) as usize;
+    Versions {
+        n: office.n,
+        start: office.kept.counts,
+        log: &log[..held],
+        ballots: &office.ballots,
+    }
 }
 
 // Writes the vectors of the settled log and then of the n offices' paths to the output, and answers their length.
@@ -30,22 +77,13 @@ pub fn write(office: Record, log: &[u32], out: &mut [u8]) -> Written
     ensures output { out.new ≡ write_bytes office log.now out.old }
 {
     if !office.sound(log) {
-        return Written {
-            number: 1,
-            length: 0,
-        };
+        return Written::refused(Refusal::Unsound);
     }
-    let held = (office.settled - office.kept.dropped) as usize;
-    let counts = office.kept.counts;
-    let ballots = office.ballots;
-    let length = vectors::write(office.n, counts, &log[..held], ballots, out);
-    if length == 0 {
-        return Written {
-            number: 6,
-            length: 0,
-        };
+    let versions = versions_of(&office, log);
+    match versions.write(out) {
+        None => Written::refused(Refusal::OutputShort),
+        Some(length) => Written { number: 0, length },
     }
-    Written { number: 0, length }
 }
 
 // Reads a vector, and answers how the settled log, and then each path, stands to it.
@@ -53,20 +91,13 @@ pub fn compare(office: Record, log: &[u32], vector: &[u8]) -> Compared
     ensures { result ≡ compare_of office log.now vector.now }
 {
     if !office.sound(log) {
-        return Compared {
-            number: 1,
-            answers: [versions::BESIDE; 9],
-        };
+        return Compared::refused(Refusal::Unsound);
     }
     if !versions::is_vector(vector, office.n) {
-        return Compared {
-            number: 14,
-            answers: [versions::BESIDE; 9],
-        };
+        return Compared::refused(Refusal::NoVector);
     }
-    let held = (office.settled - office.kept.dropped) as usize;
-    let counts = office.kept.counts;
-    let ballots = office.ballots;
-    let answers = versions::answers(office.n, counts, &log[..held], ballots, vector);
-    Compared { number: 0, answers }
+    Compared {
+        number: 0,
+        answers: versions::answers(&versions_of(&office, log), vector),
+    }
 }

@@ -8,7 +8,8 @@
 use mathlib.Core.Path.{◌≡◌, refl, sym, ap, ap₂, subst, fun_ext, ◌∙◌}
 use mathlib.Core.List.Memᴰ
 use mathlib.Core.List.{List, [], ◌∷◌, map, foldl, map-map, Memᴰ}
-use mathlib.Core.Option.{Option, none, some, none-ne-some}
+use Rattle.std.specs.Prelude.{Option, None, Some}
+use Rattle.std.proofs.lemmas.Option.{none-some}
 use mathlib.Core.Bool.{Bool, true, false, not, true≢false}
 use mathlib.Core.Logic.{◌⊎◌, inl, inr}
 use Prim.Native.Nat.{ℕ, zero, suc, ◌+◌, ◌-◌, ◌≤◌, ◌<◌}
@@ -162,9 +163,9 @@ asking-ends {lines} {left} {cells} {i} a h = let e = fold_done naming (replicate
 abbrev pub told : List ℕ → List ℕ → List (Option ℕ)
 told cells lines = map (λ (line : ℕ). of_cell (get_or cells line 0)) lines
 
-or-none : (o : Option ℕ) → or_else o none ≡ o
-or-none none = refl
-or-none (some code) = refl
+or-none : (o : Option ℕ) → or_else o None ≡ o
+or-none None = refl
+or-none (Some code) = refl
 
 or_some : (c : ℕ) (o : Option ℕ) → (c ≡ 0 → ⊥) → or_else (of_cell c) o ≡ of_cell c
 or_some zero o h = absurd (h refl)
@@ -175,16 +176,16 @@ unfolding edit_added pick
 added-at cells v line h = go (is_first cells v) refl (eqb (line_of v) line) refl
   where
     go : (f : Bool) → is_first cells v ≡ f → (t : Bool) → eqb (line_of v) line ≡ t
-        → of_cell (get_or (pick f (set cells (line_of v) (suc (code_of v))) cells) line 0) ≡ or_else (of_cell (get_or cells line 0)) (pick t (some (code_of v)) none)
+        → of_cell (get_or (pick f (set cells (line_of v) (suc (code_of v))) cells) line 0) ≡ or_else (of_cell (get_or cells line 0)) (pick t (Some (code_of v)) None)
     go true first true e =
         let same = eqb-true (line_of v) line e in
         let zeroed : get_or cells line 0 ≡ 0 = ap (λ (k : ℕ). get_or cells k 0) (sym same) ∙ eqb-true (get_or cells (line_of v) 0) 0 first in
         ap (λ (k : ℕ). of_cell (get_or (set cells k (suc (code_of v))) line 0)) same ∙ ap of_cell (get_or-set_same cells line (suc (code_of v)) 0 h)
-        ∙ sym (ap (λ (c : ℕ). or_else (of_cell c) (some (code_of v))) zeroed)
+        ∙ sym (ap (λ (c : ℕ). or_else (of_cell c) (Some (code_of v))) zeroed)
     go true first false e =
         ap of_cell (get_or-set_other cells (line_of v) line (suc (code_of v)) 0 (λ s. eqb-false (line_of v) line e (sym s))) ∙ sym (or-none (of_cell (get_or cells line 0)))
     go false first true e =
-        sym (or_some (get_or cells line 0) (some (code_of v)) (λ z. eqb-false (get_or cells (line_of v) 0) 0 first (ap (λ (k : ℕ). get_or cells k 0) (eqb-true (line_of v) line e) ∙ z)))
+        sym (or_some (get_or cells line 0) (Some (code_of v)) (λ z. eqb-false (get_or cells (line_of v) 0) 0 first (ap (λ (k : ℕ). get_or cells k 0) (eqb-true (line_of v) line e) ∙ z)))
     go false first false e = sym (or-none (of_cell (get_or cells line 0)))
 
 added-length : (cells : List ℕ) (v : ℕ) → length (edit_added cells v) ≡ length cells
@@ -207,9 +208,9 @@ added-count cells v h = go (is_first cells v) refl
 was-0 : (cells : List ℕ) (v k : ℕ) → k < length cells → get_or (edit_added cells v) k 0 ≡ 0 → get_or cells k 0 ≡ 0
 was-0 cells v k h z = go (get_or cells k 0) (sym (added-at cells v k h) ∙ ap of_cell z)
   where
-    go : (c : ℕ) → or_else (of_cell c) (edit_by v k) ≡ none → c ≡ 0
+    go : (c : ℕ) → or_else (of_cell c) (edit_by v k) ≡ None → c ≡ 0
     go zero e = refl
-    go (suc c) e = absurd (none-ne-some c (sym e))
+    go (suc c) e = absurd (none-some c (sym e))
 
 line-below : (v : ℕ) → line_of v < 256
 line-below v = omega arith
@@ -268,9 +269,9 @@ module _ (lines entries : List ℕ) (named : Named lines) where
   has-cell : (line : ℕ) → Memᴰ line lines → line < 256
   has-cell line m = omega (arith, leb-true line 63 (all-mem (λ (x : ℕ). leb x 63) m named.each))
 
-  none_yet : told (named_cells lines) lines ≡ map (λ (line : ℕ). none) lines
+  none_yet : told (named_cells lines) lines ≡ map (λ (line : ℕ). None) lines
   unfolding named_cells
-  none_yet = map_each (λ (line : ℕ). of_cell (get_or (foldl naming (replicate 256 1) lines) line 0)) (λ (line : ℕ). none) lines
+  none_yet = map_each (λ (line : ℕ). of_cell (get_or (foldl naming (replicate 256 1) lines) line 0)) (λ (line : ℕ). None) lines
       (λ line m. ap of_cell (named-0 (replicate 256 1) lines line (rw (length-replicate {A = ℕ} 256 1) (has-cell line m)) m))
 
   only-named : (k : ℕ) → k < 256 → get_or (named_cells lines) k 0 ≡ 0 → Memᴰ k lines

@@ -1,7 +1,7 @@
 -- What the code keeps on its walk: a cell for each number that a word's line can be. It is 0 if the line is named and has no edit yet; a named line's
 -- edit is its code + 1, and a cell of a line that is not named stays 1. Assumes nothing.
 use mathlib.Core.List.{List, [], ◌∷◌, map, foldl}
-use Rattle.std.proofs.Math.Option.{some}
+use Rattle.std.specs.Prelude.{Some}
 use Rattle.std.specs.Prelude.{Bool, ℕ, zero, suc, ◌+◌, eqb, get_or, set, replicate}
 use Rattle.lists.specs.Tests.{pick}
 use Rattle.lists.specs.Padded.{padded}
@@ -35,7 +35,7 @@ abbrev pub is_first : List ℕ → ℕ → Bool
 is_first cells v = eqb (get_or cells (line_of v) 0) 0
 
 unfoldable pub edit_added : List ℕ → ℕ → List ℕ
-edit_added cells v = pick (is_first cells v) (set cells (line_of v) (cell (some (code_of v)))) cells
+edit_added cells v = pick (is_first cells v) (set cells (line_of v) (cell (Some (code_of v)))) cells
 
 unfoldable pub new_edits : List ℕ → ℕ → ℕ
 new_edits cells v = pick (is_first cells v) 1 0

@@ -14,12 +14,14 @@ pub struct Asked {
 }
 
 // The edits of the lines named, in their order, as they are stored (0 for no edit yet, else the code + 1); and how many words were read.
+// No `Option`s, here and in the cells: the kept codes are as a record has them, and the edits go to C as they lie here.
 #[derive(Clone, Copy)]
 pub struct Walked {
     pub words: usize,
     pub edits: [u32; 64],
 }
 
+// `Named` stands in three contracts: a struct around the lent lines would be made by one caller, for one call.
 // The lines that are named: every cell is 1 or 0 here, so that a cell says whether its line is a new one.
 fn ask(lines: &[u32]) -> Asked
     requires { Named lines.now }
@@ -27,9 +29,9 @@ fn ask(lines: &[u32]) -> Asked
 {
     let mut left: u32 = 0;
     let mut cells: [u32; 256] = [1; 256];
-    for i in 0..lines.len() {
-        let line = lines[i] as usize;
-        left = left + cells[line];
+    for named in lines {
+        let line = *named as usize;
+        left += cells[line];
         cells[line] = 0;
     }
     Asked { left, cells }
@@ -64,8 +66,8 @@ fn answers(cells: &[u32; 256], lines: &[u32], codes: [u32; 64]) -> [u32; 64]
     ensures { result ≡ placed (cells_at codes cells.now lines.now) }
 {
     let mut edits: [u32; 64] = [0; 64];
-    for i in 0..lines.len() {
-        let line = lines[i] as usize;
+    for (i, named) in lines.iter().enumerate() {
+        let line = *named as usize;
         edits[i] = or_kept(cells[line], codes[line]);
     }
     edits
@@ -80,6 +82,7 @@ pub fn walk(words: &[u32], lines: &[u32], codes: [u32; 64]) -> Walked
     let asked = ask(lines);
     let mut left = asked.left;
     let mut cells = asked.cells;
+    // `end` stays a number, and the words no iterator: how many were read is part of the answer.
     let mut end = words.len();
     while left > 0 {
         if end == 0 {

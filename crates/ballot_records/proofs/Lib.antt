@@ -1,2 +1,2 @@
--- Laws that belong to no one function.
+-- Laws of reading an office's ballot.
 pub mod Ballots

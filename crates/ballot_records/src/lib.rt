@@ -4,18 +4,16 @@
 ghost use Rattle.std.specs.Prelude.{◌≡◌, ◌+◌, ◌*◌, ◌≤◌, length, drop};
 ghost use Rattle.ballots.specs.Ballots.{ballot_of};
 ghost use Rattle.numbers.specs.Numbers.{be32, run_at};
-ghost use Rattle.spelling.specs.Reading.{ballot_next};
-ghost use Rattle.ballot_records.specs.BallotSteps.{bad_ballot, ballot_at};
+ghost use Rattle.ballot_records.specs.BallotSteps.{ballot_at};
 
 use ballots::Ballot;
-use numbers::{be32_at, wide};
+use numbers::read_run;
 
 // An office's ballot, and the position after it.
 #[derive(Clone, Copy)]
 pub struct BallotStep {
     pub next: usize,
     pub ballot: Ballot,
-    pub ok: bool,
 }
 
 // The k values at a position, as a ballot's cells.
@@ -24,73 +22,32 @@ fn values_at(s: &[u8], from: usize, k: usize) -> [u32; 32]
     ensures { result ≡ (ballot_of (run_at 4 be32 k (drop from s.now))).cells }
 {
     let mut cells = [0u32; 32];
-    let mut at = from;
-    for i in 0..k {
-        cells[i] = be32_at(s, at);
-        at += 4;
-    }
+    read_run(&mut cells[..k], s, from);
     cells
 }
 
-// Whether a ballot of office o comes next.
-fn ballot_next(s: &[u8], at: usize, o: usize) -> bool
-    ensures { result ≡ ballot_next (drop at s.now) o }
-{
-    if s.len() < 4 {
-        return false;
-    }
-    if at > s.len() - 4 {
-        return false;
-    }
-    if s[at] != 0x42 {
-        return false;
-    }
-    if s[at + 1] != 0x41 {
-        return false;
-    }
-    wide(s[at + 2]) as usize == o
-}
-
-// A ballot that is not of the layout.
-fn bad_ballot() -> BallotStep
-    ensures { result ≡ bad_ballot }
-{
-    let ballot = Ballot::none();
-    BallotStep {
-        ok: false,
-        next: 0,
-        ballot,
-    }
-}
-
-// The ballot of office o at a position; none where another record stands there. Whether its values are entries is the caller's to test.
-pub fn ballot_at(s: &[u8], at: usize, o: usize) -> BallotStep
+// The ballot of office o at a position; no entries, and the same position, where another record stands there; nothing where it is a ballot not of the
+// layout. Whether its values are entries is the caller's to test.
+#[tactic(auto, unfolding(crate::specs::BallotSteps::ballot_at, spelling::specs::Reading::ballot_ok, spelling::specs::Reading::ballot_next, spelling::specs::Reading::tail_at, spelling::specs::Reading::size_at, lists::specs::Tests::both, lists::specs::Tests::pick))]
+pub fn ballot_at(s: &[u8], at: usize, o: usize) -> Option<BallotStep>
     ensures { result ≡ ballot_at s.now at o }
 {
-    if ballot_next(s, at, o) {
-        let len = wide(s[at + 3]) as usize;
-        if len < 1 {
-            return bad_ballot();
+    match s.get(at..) {
+        Some([0x42, 0x41, office, len, values @ ..]) if usize::from(*office) == o => {
+            let len = usize::from(*len);
+            if len < 1 || len > Ballot::CELLS || values.len() < 4 * len {
+                return None;
+            }
+            let cells = values_at(s, at + 4, len);
+            let ballot = Ballot { len, cells };
+            Some(BallotStep {
+                next: at + (4 + 4 * len),
+                ballot,
+            })
         }
-        if len > Ballot::CELLS {
-            return bad_ballot();
-        }
-        if s.len() - at < 4 + 4 * len {
-            return bad_ballot();
-        }
-        let cells = values_at(s, at + 4, len);
-        let ballot = Ballot { len, cells };
-        BallotStep {
-            ok: true,
-            next: at + (4 + 4 * len),
-            ballot,
-        }
-    } else {
-        let ballot = Ballot::none();
-        BallotStep {
-            ok: true,
+        _ => Some(BallotStep {
             next: at,
-            ballot,
-        }
+            ballot: Ballot::none(),
+        }),
     }
 }

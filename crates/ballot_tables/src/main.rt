@@ -4,16 +4,15 @@
 
 ghost use Rattle.std.specs.Prelude.{◌≤◌};
 
-use lists::within;
 use std::io;
 use std::io::Read;
 use table_lines::OUTPUT;
 
-// Writes the output's first bytes. No more are printed than it has (`answer-short`), so `within` takes none away.
+// Writes the output's first bytes. No more are printed than it has (`answer-short`), so `min` takes none away.
+// `rehearse` has the same for an output of its own size: for these lines a library that both share is no plainer.
 fn show(rt: &impl Print, out: &[u8; OUTPUT], count: usize) -> io::Result<()> {
-    let all: &[u8] = out;
-    let size = within(count, OUTPUT);
-    rt.write_all(&all[..size])
+    let size = count.min(OUTPUT);
+    rt.write_all(&out[..size])
 }
 
 // Reads until the bytes are full, the input ends or a read fails: how many came, and how the reads went.
@@ -22,6 +21,7 @@ fn fill(rt: &impl Input, input: &mut [u8; 19]) -> (usize, io::Result<()>)
 {
     let mut reader = rt.reader();
     let mut used = 0;
+    // no `for`: it reads until the bytes are full, and only each read says how many came
     while used < 19 {
         match reader.read(&mut input[used..]) {
             Ok(0) => break,

@@ -5,6 +5,7 @@ ghost use Rattle.std.specs.Prelude.{◌≡◌};
 ghost use Rattle.ballots.specs.Ballots.{no_ballot, pushed};
 
 // A tail of 0 to 32 entries in the first cells. Unused cells are zero; length 0 means none.
+// C has it so, with no heap: a length beside 32 cells. No invariant says that it is at most 32: a record comes from C with any, and `sound` tests it.
 #[repr(C)]
 #[derive(Clone, Copy)]
 pub struct Ballot {
@@ -32,13 +33,12 @@ impl Ballot {
     pub fn push(self, word: u32) -> Ballot
         ensures { result ≡ pushed self word }
     {
-        let len = self.len;
-        if len >= Ballot::CELLS {
+        if self.len >= Ballot::CELLS {
             return self;
         }
         let mut next = self;
-        next.cells[len] = word;
-        next.len = len + 1;
+        next.cells[self.len] = word;
+        next.len += 1;
         next
     }
 }

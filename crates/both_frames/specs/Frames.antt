@@ -1,8 +1,8 @@
 -- "Settled frame and tentative frame take a line and answer the code of the last entry for it in the settled log, or in the own path"; request (ix):
 -- "no edit yet" where there is none, and where the call is refused. The entries that were dropped are known by the codes that are kept of them.
 -- Assumes nothing.
-use Rattle.std.specs.Prelude.{ℕ, List, leb}
-use Rattle.std.proofs.Math.Option.{Option}
+use Rattle.std.specs.Prelude.{ℕ, List, leb, get_or}
+use Rattle.std.specs.Prelude.{Option, Result, Ok, Err}
 use Rattle.lists.specs.Tests.{pick}
 use Rattle.protocol.specs.Office.{path}
 use Rattle.protocol.specs.Frames.{edit_after}
@@ -10,14 +10,10 @@ use Rattle.protocol.specs.Codes.{edit_in, no_codes, codes_after}
 use Rattle.frame.specs.State.{held_by}
 use Rattle.frame.specs.Soundness.{sound_b}
 use Rattle.frame.specs.declared.Record.{Record}
-use Rattle.shown_edits.specs.declared.Edit.TheVariants.{NotYet}
-use Rattle.shown_edits.specs.Shown.{edit_is}
-use Rattle.both_frames.specs.declared.Framed.{Framed}
+use Rattle.refusals.specs.declared.Refusal.{Refusal}
+use Rattle.refusals.specs.declared.Refusal.TheVariants.{Unsound, NoEntry}
+use Rattle.both_frames.specs.Framed.{Framed, refused_frame}
 use Rattle.both_frames.specs.declared.Lines.{Lines}
-
--- "a refused frame call answers it too": no edit yet
-abbrev pub refused_frame : ℕ → Framed
-refused_frame number = record { number = number; edit = NotYet }
 
 -- the last edit of a line among the dropped entries
 abbrev pub kept_edit : Record → ℕ → Option ℕ
@@ -25,7 +21,7 @@ kept_edit r line = edit_in r.kept.summary.codes line
 
 -- of the entries p, behind what stood before them
 unfoldable pub shown_in : ℕ → Option ℕ → List ℕ → Framed
-shown_in line before p = pick (leb line 63) (record { number = 0; edit = edit_is (edit_after line before p) }) (refused_frame 3)
+shown_in line before p = pick (leb line 63) (record { number = 0; edit = edit_after line before p }) (refused_frame 3)
 
 -- of the dropped entries and p
 unfoldable pub frame_of : Record → List ℕ → ℕ → List ℕ → Framed
@@ -36,6 +32,10 @@ settled_frame_of r words line = frame_of r words line (held_by r words).log
 
 abbrev pub tentative_frame_of : Record → List ℕ → ℕ → Framed
 tentative_frame_of r words line = frame_of r words line (path (held_by r words) r.own)
+
+-- the code that the record holds for a line, as it is stored; or why a frame of the line is refused
+abbrev pub code_held : Record → List ℕ → ℕ → Result ℕ Refusal
+code_held r words line = pick (sound_b r words) (pick (leb line 63) (Ok (get_or r.summary.codes line 0)) (Err NoEntry)) (Err Unsound)
 
 -- (ii) "one new frame call answers all 64 lines after one such walk", as they are stored; refused, no edit yet for each
 unfoldable pub all_lines_of : Record → List ℕ → Lines

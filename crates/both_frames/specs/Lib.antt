@@ -1,2 +1,3 @@
 -- The definitions that the contracts of `both_frames` cite.
+pub mod Framed
 pub mod Frames

@@ -1,42 +1,21 @@
 // Both frames: the settled and the tentative one of a line, and the settled one of all lines. Calls above `frame`, which use only what it promises.
 #![tactic(auto)]
 
-ghost use Rattle.std.specs.Prelude.{◌≡◌, ◌<◌};
-ghost use Rattle.frame.specs.State.{own_ballot};
-ghost use Rattle.both_frames.specs.Frames.{refused_frame, settled_frame_of, tentative_frame_of, all_lines_of};
+ghost use Rattle.std.specs.Prelude.{◌≡◌};
+ghost use Rattle.both_frames.specs.Framed.{framed_of};
+ghost use Rattle.both_frames.specs.Frames.{code_held, settled_frame_of, tentative_frame_of, all_lines_of};
 
-use ballots::Ballot;
 use frame::Record;
-use shown_edits::{Edit, stored_edit};
-
-#[derive(Clone, Copy)]
-pub struct Framed {
-    pub number: u32,
-    pub edit: Edit,
-}
+use refusals::Refusal;
+use shown_edits::stored_edit;
 
 // The settled codes as they are stored.
+// C has it as it lies here, so it holds the number and is no `Result`.
 #[repr(C)]
 #[derive(Clone, Copy)]
 pub struct Lines {
     pub number: u32,
     pub codes: [u32; 64],
-}
-
-// A refused frame shows no edit.
-fn refused(number: u32) -> Framed
-    ensures { result ≡ refused_frame number }
-{
-    let edit = Edit::NotYet;
-    Framed { number, edit }
-}
-
-// The own ballot.
-fn own_ballot(office: Record) -> Ballot
-    requires { office.own < 8 }
-    ensures { result ≡ own_ballot office }
-{
-    office.ballots[office.own]
 }
 
 // The settled frame of all 64 lines: the codes that the record holds, once it is found sound; no edit yet for each where it is refused.
@@ -45,48 +24,41 @@ pub fn all_lines(office: Record, log: &[u32]) -> Lines
 {
     if !office.sound(log) {
         return Lines {
-            number: 1,
+            number: Refusal::Unsound.number(),
             codes: [0; 64],
         };
     }
-    let summary = office.summary;
-    let codes = summary.codes;
+    let codes = office.summary.codes;
     Lines { number: 0, codes }
 }
 
-// The code of the last entry for the line in the settled log.
-pub fn settled_frame(office: Record, log: &[u32], line: u32) -> Framed
-    ensures { result ≡ settled_frame_of office log.now line }
+// The code that the record holds for the line, as it is stored, once it is found sound.
+fn code_held(office: Record, log: &[u32], line: u32) -> Result<u32, Refusal>
+    ensures { result ≡ code_held office log.now line }
 {
     if !office.sound(log) {
-        return refused(1);
+        return Err(Refusal::Unsound);
     }
     if line >= Record::LINES {
-        return refused(3);
+        return Err(Refusal::NoEntry);
     }
-    let summary = office.summary;
-    let codes = summary.codes;
-    let edit = stored_edit(codes[line as usize]);
-    Framed { number: 0, edit }
+    Ok(office.summary.codes[line as usize])
 }
 
-// The code of the last entry for the line in the own path.
-pub fn tentative_frame(office: Record, log: &[u32], line: u32) -> Framed
-    ensures { result ≡ tentative_frame_of office log.now line }
+// The code of the last entry for the line in the settled log, or no edit yet.
+pub fn settled_frame(office: Record, log: &[u32], line: u32) -> Result<Option<u32>, Refusal>
+    ensures { framed_of result ≡ settled_frame_of office log.now line }
 {
-    if !office.sound(log) {
-        return refused(1);
-    }
-    if line >= Record::LINES {
-        return refused(3);
-    }
-    let summary = office.summary;
-    let codes = summary.codes;
-    let base = codes[line as usize];
-    let b = own_ballot(office);
-    let len = b.len;
-    let cells = b.cells;
-    let last = last_edits::last_edit(&cells[..len], line, base);
-    let edit = stored_edit(last);
-    Framed { number: 0, edit }
+    let code = code_held(office, log, line)?;
+    Ok(stored_edit(code))
+}
+
+// The code of the last entry for the line in the own path, or no edit yet.
+pub fn tentative_frame(office: Record, log: &[u32], line: u32) -> Result<Option<u32>, Refusal>
+    ensures { framed_of result ≡ tentative_frame_of office log.now line }
+{
+    let base = code_held(office, log, line)?;
+    let ballot = office.ballots[office.own];
+    let last = last_edits::last_edit(&ballot.cells[..ballot.len], line, base);
+    Ok(stored_edit(last))
 }

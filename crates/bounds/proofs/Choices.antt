@@ -7,7 +7,7 @@
 -- Assumes nothing.
 use mathlib.Core.Path.{◌≡◌, refl, sym, ap, ap₂, ◌∙◌}
 use mathlib.Core.List.{List, [], ◌∷◌}
-use mathlib.Core.Option.{Option, none, some}
+use Rattle.std.specs.Prelude.{Option, None, Some}
 use mathlib.Core.Bool.{Bool, true, false, cond, true≢false}
 use Prim.Native.Nat.{ℕ, suc, ◌≤◌}
 use native.Mathlib.Omega.{arith}
@@ -80,8 +80,8 @@ part-own l w h e a p = go (is_for e a)
     go false = omega arith
 
 part-others : (l w h e f : ℕ) (a : Option ℕ) → w ≤ h → (f ≡ e → ⊥) → cond (is_for f a) w 0 ≤ cond (is_for f a) (cond (is_for e a) l h) 0
-part-others l w h e f none p n = omega arith
-part-others l w h e f (some x) p n =
+part-others l w h e f None p n = omega arith
+part-others l w h e f (Some x) p n =
     if-cases (λ r. cond (eqb x f) w 0 ≤ cond (eqb x f) r 0) (eqb x e) l h
     (λ q. rw (ne_eqb x f (λ s. n (sym s ∙ eqb-true x e q))) (omega arith))
     (λ _. go (eqb x f))
@@ -91,8 +91,8 @@ part-others l w h e f (some x) p n =
     go false = omega arith
 
 part-silent : (l w h e : ℕ) (a : Option ℕ) → w ≤ h → cond (is_none a) w 0 ≤ cond (is_none a) (cond (is_for e a) l h) 0
-part-silent l w h e none p = p
-part-silent l w h e (some x) p = omega arith
+part-silent l w h e None p = p
+part-silent l w h e (Some x) p = omega arith
 
 pub worst-worse : (low ws high : List ℕ) (v : Votes) (e : ℕ) → low ≼ ws → ws ≼ high → Worse (worst low high v e) ws v e
 unfolding worst tally unheard

@@ -5,30 +5,32 @@
 -- Assumes nothing.
 use mathlib.Core.Path.{◌≡◌, refl, sym, ap, ap₂, ◌∙◌}
 use mathlib.Core.List.{List, [], ◌∷◌, ◌++◌}
-use mathlib.Core.Option.{Option, none, some}
-use mathlib.Core.Bool.{Bool, true, false, cond, ◌&&◌, ◌||◌}
+use Rattle.std.specs.Prelude.{Option, None, Some}
+use mathlib.Core.Bool.{Bool, true, false, true≢false, cond, ◌&&◌, ◌||◌}
 use Prim.Native.Nat.{ℕ, zero, suc, ◌+◌, ◌-◌, ◌≤◌}
 use native.Mathlib.Omega.{arith}
 use lib.Dec.{eqb, ltb}
 use lib.ListN.{length, get_or, take, drop, replicate, length-drop, take-append-drop}
 use lib.Seq.{length-take-le, get_or-drop}
-use borrow.Author.Tests.{eqb-true}
 use Rattle.lists.specs.Tests.{all_b}
 use Rattle.lists.proofs.Tests.{zeros, all_get_d}
 use Rattle.protocol.specs.Vote.{Votes, later, is_for, is_none, tally, unheard, and-also, supported, beats, beats_all, wins, first_winner, winner}
-use Rattle.tallies.specs.Tallies.{no_vote, vote_in, votes_in, SilentFrom}
+use Rattle.tallies.specs.Tallies.{votes_in, SilentFrom}
 use Rattle.lists.specs.Padded.{in_eight}
 
 -- the offices from place n on cast no vote
 abbrev pub Silent : ℕ → Votes → Type 0
-Silent n v = (k : ℕ) → n ≤ k → v k ≡ none
+Silent n v = (k : ℕ) → n ≤ k → v k ≡ None
 
-pub silent-votes : (n : ℕ) (xs : List ℕ) → SilentFrom n xs → Silent n (votes_in xs)
+pub silent-votes : (n : ℕ) (xs : List (Option ℕ)) → SilentFrom n xs → Silent n (votes_in xs)
 silent-votes n xs h k l =
     let at : k ≡ n + (k - n) = omega arith in
-    ap vote_in
-    (ap (λ (j : ℕ). get_or xs j no_vote) at ∙ sym (get_or-drop n xs (k - n) no_vote) ∙
-    sym (eqb-true no_vote (get_or (drop n xs) (k - n) no_vote) (all_get_d (eqb no_vote) no_vote (drop n xs) (k - n) h.1 refl)))
+    ap (λ (j : ℕ). get_or xs j None) at ∙ sym (get_or-drop n xs (k - n) None) ∙
+    none (get_or (drop n xs) (k - n) None) (all_get_d is_none None (drop n xs) (k - n) h.1 refl)
+  where
+    none : (x : Option ℕ) → is_none x ≡ true → x ≡ None
+    none None q = refl
+    none (Some e) q = absurd (true≢false (sym q))
 
 -- ── zeros behind the weights ──
 no_part : (t : Bool) → ◌≡◌ {A = ℕ} (cond t 0 0) 0
@@ -70,7 +72,7 @@ module _ (before : ℕ → ℕ → Bool) (ws : List ℕ) (k : ℕ) (v : Votes) w
 
     first-zeros : (fs : List ℕ) → first_winner (ws ++ replicate k 0) before v fs ≡ first_winner ws before v fs
     first-zeros [] = refl
-    first-zeros (f ∷ fs) = ap₂ (λ (t : Bool) (r : Option ℕ). cond t (some f) r) (wins-zeros f) (first-zeros fs)
+    first-zeros (f ∷ fs) = ap₂ (λ (t : Bool) (r : Option ℕ). cond t (Some f) r) (wins-zeros f) (first-zeros fs)
 
     winner-zeros : winner (ws ++ replicate k 0) before v ≡ winner ws before v
     unfolding winner

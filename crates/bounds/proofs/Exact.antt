@@ -7,7 +7,8 @@
 -- Assumes nothing.
 use mathlib.Core.Path.{◌≡◌, refl, sym, ap, ◌∙◌}
 use mathlib.Core.List.{List, [], ◌∷◌}
-use mathlib.Core.Option.{Option, none, some, some-injective, none-ne-some}
+use Rattle.std.specs.Prelude.{Option, None, Some}
+use Rattle.std.proofs.lemmas.Option.{same_Some, none-some}
 use mathlib.Core.Bool.{Bool, true, false, cond, true≢false}
 use mathlib.Core.Logic.{inl, inr, ◌↔◌}
 use Prim.Native.Nat.{ℕ, zero, suc, ◌+◌, ◌≤◌, ◌<◌}
@@ -26,30 +27,30 @@ use Rattle.bounds.specs.Bounds.{◌≼◌, WinsSurely, worst, wins_worst, sure_w
 use Rattle.bounds.proofs.Choices.{≼_refl, ≼-length, worst-low, worst-high, worst-met, Worse, worst-worse}
 
 -- ── the first entry of which a test holds ──
-first_holds : (t : ℕ → Bool) (fs : List ℕ) (e : ℕ) → first_that t fs ≡ some e → t e ≡ true
-first_holds t [] e h = absurd (none-ne-some e h)
+first_holds : (t : ℕ → Bool) (fs : List ℕ) (e : ℕ) → first_that t fs ≡ Some e → t e ≡ true
+first_holds t [] e h = absurd (none-some e h)
 first_holds t (f ∷ fs) e h = go (t f) refl h (first_holds t fs e)
   where
-    go : (b : Bool) → t f ≡ b → cond b (some f) (first_that t fs) ≡ some e → (first_that t fs ≡ some e → t e ≡ true) → t e ≡ true
-    go true q a ih = ap t (sym (some-injective f e a)) ∙ q
+    go : (b : Bool) → t f ≡ b → cond b (Some f) (first_that t fs) ≡ Some e → (first_that t fs ≡ Some e → t e ≡ true) → t e ≡ true
+    go true q a ih = ap t (sym (same_Some f e a)) ∙ q
     go false q a ih = ih a
 
 -- where there is none, the test fails of every entry that is supported
-first-none : (t : ℕ → Bool) (us : List ℕ) (u : Votes) (e : ℕ) → Supported us u e → first_that t (supported us u) ≡ none → t e ≡ false
+first-none : (t : ℕ → Bool) (us : List ℕ) (u : Votes) (e : ℕ) → Supported us u e → first_that t (supported us u) ≡ None → t e ≡ false
 unfolding supported
 first-none t [] u e s h = absurd (not-suc-le-zero s.1)
 first-none t (w ∷ us) u e s h = go (first-none t us (later u) e) (u 0) refl s.0 s.1 s.2 h
   where
-    skip : (x : ℕ) (b : Bool) → t x ≡ b → cond b (some x) (first_that t (supported us (later u))) ≡ none → (t x ≡ false) × (first_that t (supported us (later u)) ≡ none)
-    skip x true q h = absurd (none-ne-some x (sym h))
+    skip : (x : ℕ) (b : Bool) → t x ≡ b → cond b (Some x) (first_that t (supported us (later u))) ≡ None → (t x ≡ false) × (first_that t (supported us (later u)) ≡ None)
+    skip x true q h = absurd (none-some x (sym h))
     skip x false q h = (q, h)
 
-    go : (Supported us (later u) e → first_that t (supported us (later u)) ≡ none → t e ≡ false)
-        → (a : Option ℕ) → u 0 ≡ a → (k : ℕ) → k < suc (length us) → u k ≡ some e → first_that t (and-also a (supported us (later u))) ≡ none → t e ≡ false
-    go ih none q zero l r h = absurd (none-ne-some e (sym q ∙ r))
-    go ih none q (suc k) l r h = ih (k, le_of_suc-le-suc l, r) h
-    go ih (some x) q zero l r h = ap t (sym (some-injective x e (sym q ∙ r))) ∙ (skip x (t x) refl h).0
-    go ih (some x) q (suc k) l r h = ih (k, le_of_suc-le-suc l, r) (skip x (t x) refl h).1
+    go : (Supported us (later u) e → first_that t (supported us (later u)) ≡ None → t e ≡ false)
+        → (a : Option ℕ) → u 0 ≡ a → (k : ℕ) → k < suc (length us) → u k ≡ Some e → first_that t (and-also a (supported us (later u))) ≡ None → t e ≡ false
+    go ih None q zero l r h = absurd (none-some e (sym q ∙ r))
+    go ih None q (suc k) l r h = ih (k, le_of_suc-le-suc l, r) h
+    go ih (Some x) q zero l r h = ap t (sym (same_Some x e (sym q ∙ r))) ∙ (skip x (t x) refl h).0
+    go ih (Some x) q (suc k) l r h = ih (k, le_of_suc-le-suc l, r) (skip x (t x) refl h).1
 
 -- of one test or another that agree
 first-same : (t u : ℕ → Bool) (fs : List ℕ) → ((e : ℕ) → t e ≡ u e) → first_that t fs ≡ first_that u fs
@@ -101,34 +102,34 @@ module _ (before : ℕ → ℕ → Bool) where
     pub surely-unique : Asymmetric before → (e f : ℕ) → WinsSurely low high before v e → WinsSurely low high before v f → e ≡ f
     surely-unique asym e f p q = wins-unique low before asym v e f (surely-at-low e p) (surely-at-low f q)
 
-    sure-wins : (e : ℕ) → sure_winner low high before v ≡ some e → WinsSurely low high before v e
+    sure-wins : (e : ℕ) → sure_winner low high before v ≡ Some e → WinsSurely low high before v e
     unfolding sure_winner wins_worst
     sure-wins e h = (surely-worst e).1 (wins-true (worst low high v e) before v e (first_holds (wins_worst low high before v) (supported low v) e h))
 
-    no_sure : sure_winner low high before v ≡ none → (e : ℕ) → WinsSurely low high before v e → ⊥
+    no_sure : sure_winner low high before v ≡ None → (e : ℕ) → WinsSurely low high before v e → ⊥
     unfolding sure_winner wins_worst
     no_sure h e s =
         true≢false (sym (wins-of (worst low high v e) before v e ((surely-worst e).0 s))
         ∙ first-none (wins_worst low high before v) low v e (wins-voted low before v e (surely-at-low e s)) h)
 
     -- "or say that none would"
-    pub sure-none : (sure_winner low high before v ≡ none) ↔ ((e : ℕ) → WinsSurely low high before v e → ⊥)
+    pub sure-none : (sure_winner low high before v ≡ None) ↔ ((e : ℕ) → WinsSurely low high before v e → ⊥)
     sure-none = (no_sure, λ h. go h (sure_winner low high before v) refl)
       where
-        go : ((e : ℕ) → WinsSurely low high before v e → ⊥) → (r : Option ℕ) → sure_winner low high before v ≡ r → sure_winner low high before v ≡ none
-        go h none q = q
-        go h (some e) q = absurd (h e (sure-wins e q))
+        go : ((e : ℕ) → WinsSurely low high before v e → ⊥) → (r : Option ℕ) → sure_winner low high before v ≡ r → sure_winner low high before v ≡ None
+        go h None q = q
+        go h (Some e) q = absurd (h e (sure-wins e q))
 
     -- "It is named exactly if it wins under every choice"
-    pub sure-some : Asymmetric before → (e : ℕ) → (sure_winner low high before v ≡ some e) ↔ WinsSurely low high before v e
+    pub sure-some : Asymmetric before → (e : ℕ) → (sure_winner low high before v ≡ Some e) ↔ WinsSurely low high before v e
     sure-some asym e = (sure-wins e, λ s. go s (sure_winner low high before v) refl)
       where
-        go : WinsSurely low high before v e → (r : Option ℕ) → sure_winner low high before v ≡ r → sure_winner low high before v ≡ some e
-        go s none q = absurd (no_sure q e s)
-        go s (some f) q = q ∙ ap some (surely-unique asym f e (sure-wins f q) s)
+        go : WinsSurely low high before v e → (r : Option ℕ) → sure_winner low high before v ≡ r → sure_winner low high before v ≡ Some e
+        go s None q = absurd (no_sure q e s)
+        go s (Some f) q = q ∙ ap Some (surely-unique asym f e (sure-wins f q) s)
 
     -- "a total of zero counts as a choice"
-    pub sure-zero : all_b (eqb 0) low ≡ true → sure_winner low high before v ≡ none
+    pub sure-zero : all_b (eqb 0) low ≡ true → sure_winner low high before v ≡ None
     sure-zero z = sure-none.1 (λ e s. not-suc-le-zero (rw (nothing-told low v e z) at (surely-at-low e s).above))
 
   -- bounds that meet leave one choice

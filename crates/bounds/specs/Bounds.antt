@@ -2,7 +2,7 @@
 -- whichever weights within the bounds are chosen, or say that none would." The bounds and a choice are lists of one number for each of the n
 -- offices, office 0's first; `before` is "the tie order of its day". Assumes nothing.
 use Rattle.std.specs.Prelude.{List, [], ◌∷◌, Bool, true, false, cond, ℕ, ◌≤◌, leb}
-use Rattle.std.proofs.Math.Option.{Option, none, some}
+use Rattle.std.specs.Prelude.{Option}
 use Rattle.lists.specs.Tests.{both}
 use Rattle.protocol.specs.Vote.{Votes, later, is_for, supported, wins, first_that}
 use Rattle.protocol.specs.Winning.{Wins}
@@ -39,8 +39,3 @@ wins_worst low high before v e = wins (worst low high v e) before v e
 -- the supported entry that wins under its worst choice, if any. It is the one that wins under every choice (laws `sure-some`, `sure-none`)
 unfoldable pub sure_winner : List ℕ → List ℕ → (ℕ → ℕ → Bool) → Votes → Option ℕ
 sure_winner low high before v = first_that (wins_worst low high before v) (supported low v)
-
--- the vote is for an entry of which the test holds
-abbrev pub vote_that : (ℕ → Bool) → Option ℕ → Bool
-vote_that t none = false
-vote_that t (some e) = t e

@@ -1,86 +1,82 @@
 // Weights known within bounds: the entry that wins an election step whichever weights within the bounds are chosen.
 #![tactic(auto)]
 
-ghost use Rattle.std.specs.Prelude.{◌≡◌, cond, ◌≤◌, take};
+ghost use Rattle.std.specs.Prelude.{◌≡◌, ◌≤◌, take};
 ghost use Rattle.protocol.specs.Counts.{quieter_by};
-ghost use Rattle.tallies.specs.Tallies.{winner_is, no_vote, vote_in, votes_in, SilentFrom};
-ghost use Rattle.bounds.specs.Bounds.{fits, worst, wins_worst, vote_that, sure_winner};
+ghost use Rattle.tallies.specs.Tallies.{votes_in, SilentFrom};
+ghost use Rattle.bounds.specs.Bounds.{fits, worst, wins_worst, sure_winner};
 ghost use Rattle.lists.specs.Padded.{in_eight};
 
-use tallies::Winner;
+use tallies::Step;
 
-// Whether no lowest weight exceeds its highest, of n offices. Public only for the crate above, which proves what it requires.
-pub fn fit(n: usize, lowest: [u16; 8], highest: [u16; 8]) -> bool
-    requires { n ≤ 8 }
-    ensures { result ≡ fits (take n lowest) (take n highest) }
-{
-    for i in 0..n {
-        if lowest[i] > highest[i] {
-            return false;
+// The lowest and the highest weight of each office. Those from place n on, of n offices, are not looked at.
+// Two arrays side by side, as C hands them over.
+#[derive(Clone, Copy)]
+pub struct Bounds {
+    pub lowest: [u16; 8],
+    pub highest: [u16; 8],
+}
+
+impl Bounds {
+    // Whether no lowest weight exceeds its highest. Public only for the crate above, which proves what it requires.
+    pub fn fit(&self, n: usize) -> bool
+        requires { n ≤ 8 }
+        ensures { result ≡ fits (take n self.now.lowest) (take n self.now.highest) }
+    {
+        // Tried with `all`: the proof did not close.
+        for (low, high) in self.lowest[..n].iter().zip(&self.highest[..n]) {
+            if low > high {
+                return false;
+            }
         }
+        true
     }
-    true
-}
 
-// An office's weight in the worst choice for an entry, by whether it supports it.
-fn worse(supports: bool, low: u16, high: u16) -> u16
-    ensures { result ≡ cond supports low high }
-{
-    if supports { low } else { high }
-}
-
-// The worst choice for an entry: its supporters lowest, all others highest. Bounds from place n on are not looked at.
-fn worst(votes: [u32; 8], n: usize, lowest: [u16; 8], highest: [u16; 8], entry: u32) -> [u16; 8]
-    requires { (n ≤ 8) × (entry ≡ no_vote → ⊥) }
-    ensures { result ≡ in_eight (worst (take n lowest) (take n highest) (votes_in votes) entry) }
-{
-    let mut weights: [u16; 8] = [0; 8];
-    for i in 0..n {
-        weights[i] = worse(votes[i] == entry, lowest[i], highest[i]);
-    }
-    weights
-}
-
-// Whether the entry that is voted for wins under its worst choice.
-fn wins_worst(
-    votes: [u32; 8],
-    counts: [u64; 8],
-    n: usize,
-    lowest: [u16; 8],
-    highest: [u16; 8],
-    vote: u32,
-) -> bool
-    requires { SilentFrom n votes }
-    ensures { result ≡ vote_that (wins_worst (take n lowest) (take n highest) (quieter_by counts) (votes_in votes)) (vote_in vote) }
-{
-    if vote == tallies::NO_VOTE {
-        return false;
-    }
-    let weights = worst(votes, n, lowest, highest, vote);
-    let w = tallies::find_winner(votes, weights, counts, n);
-    match w {
-        Winner::Nobody => false,
-        Winner::Entry(e) => e == vote,
-    }
-}
-
-// The entry that wins whichever weights within the bounds are chosen, if any, by the votes and the counts of the settled log. Public only for
-// the crate above, which proves what it requires.
-pub fn sure_winner(
-    votes: [u32; 8],
-    counts: [u64; 8],
-    n: usize,
-    lowest: [u16; 8],
-    highest: [u16; 8],
-) -> Winner
-    requires { SilentFrom n votes }
-    ensures { result ≡ winner_is (sure_winner (take n lowest) (take n highest) (quieter_by counts) (votes_in votes)) }
-{
-    for i in 0..n {
-        let vote = votes[i];
-        if wins_worst(votes, counts, n, lowest, highest, vote) {
-            return Winner::Entry(vote);
+    // The worst choice for an entry: its supporters lowest, all others highest.
+    fn worst(&self, n: usize, votes: &[Option<u32>; 8], entry: u32) -> [u16; 8]
+        requires { n ≤ 8 }
+        ensures { result ≡ in_eight (worst (take n self.now.lowest) (take n self.now.highest) (votes_in votes.now) entry) }
+    {
+        let mut weights = [0; 8];
+        for (i, vote) in votes[..n].iter().enumerate() {
+            weights[i] = if *vote == Some(entry) {
+                self.lowest[i]
+            } else {
+                self.highest[i]
+            };
         }
+        weights
     }
-    Winner::Nobody
+
+    // Whether the entry wins under its worst choice.
+    fn wins_worst(&self, n: usize, votes: &[Option<u32>; 8], counts: [u64; 8], entry: u32) -> bool
+        requires { SilentFrom n votes.now }
+        ensures { result ≡ wins_worst (take n self.now.lowest) (take n self.now.highest) (quieter_by counts) (votes_in votes.now) entry }
+    {
+        let weights = self.worst(n, votes, entry);
+        let step = Step {
+            n,
+            votes: *votes,
+            weights,
+            counts,
+        };
+        step.winner() == Some(entry)
+    }
+
+    // The entry that wins whichever weights within the bounds are chosen, if any, by the votes and the counts of the settled log. Public only
+    // for the crate above, which proves what it requires.
+    pub fn sure_winner(&self, n: usize, votes: &[Option<u32>; 8], counts: [u64; 8]) -> Option<u32>
+        requires { SilentFrom n votes.now }
+        ensures { result ≡ sure_winner (take n self.now.lowest) (take n self.now.highest) (quieter_by counts) (votes_in votes.now) }
+    {
+        // The walk of `Step::winner`, but for the test: a closure would bring its own `pre` and `post` into the contract.
+        for vote in &votes[..n] {
+            if let Some(entry) = *vote {
+                if self.wins_worst(n, votes, counts, entry) {
+                    return Some(entry);
+                }
+            }
+        }
+        None
+    }
 }

@@ -14,8 +14,11 @@ use Rattle.lists.specs.Tests.{pick}
 use Rattle.lists.proofs.Tests.{pick_true, pick-false}
 use Rattle.protocol.specs.Beginning.{comparable}
 use Rattle.shared_places.specs.FromEnd.{compares, places_from_end}
-use Rattle.comparing.specs.Checking.{logs_refusal, checked_by}
-use Rattle.comparing.specs.declared.Checked.{Checked}
+use Rattle.comparing.specs.Checking.{Checked, checked_in, logs_refusal, checked_by}
+use Rattle.comparing.specs.declared.Refused.{Refused}
+use Rattle.std.specs.Prelude.{Err}
+use Rattle.refusals.specs.Refusals.{number_of}
+use Rattle.refusals.specs.declared.Refusal.{Refusal}
 
 module _ (dropped : ℕ) (log : List ℕ) (other : ℕ) (theirs : List ℕ) where
   -- both logs from where both have entries
@@ -29,8 +32,11 @@ module _ (dropped : ℕ) (log : List ℕ) (other : ℕ) (theirs : List ℕ) wher
   unfolding checked_by
   answer k p number e q = λ i. record { number = e i; places = (q ∙ ap (λ (z : ℕ). pick (compares z) (places_from_end own_part their_part) 0) e) i }
 
-  pub by-none : (x : Checked) (k number : ℕ) → x ≡ record { number = k; places = 0 } → compares k ≡ false → k ≡ number → x ≡ checked_by number dropped log other theirs
-  by-none x k number is c e = is ∙ answer k 0 number e (sym (pick-false (compares k) (places_from_end own_part their_part) 0 c))
+  pub by-none : (r : Refused) (f : Refusal) (number : ℕ) → r ≡ record { refusal = f; places = 0 } → compares (number_of f) ≡ false → number_of f ≡ number
+      → checked_in (Err r) ≡ checked_by number dropped log other theirs
+  by-none r f number is c e =
+      ap (λ (x : Refused). checked_in (Err x)) is
+      ∙ answer (number_of f) 0 number e (sym (pick-false (compares (number_of f)) (places_from_end own_part their_part) 0 c))
 
   pub by-compared : (k p number : ℕ) → compares k ≡ true → k ≡ number → p ≡ places_from_end own_part their_part
       → ◌≡◌ {A = Checked} (record { number = k; places = p }) (checked_by number dropped log other theirs)

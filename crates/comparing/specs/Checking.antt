@@ -3,7 +3,19 @@ use Rattle.std.specs.Prelude.{List, ℕ, ◌+◌, ◌-◌, ltb, length, drop}
 use Rattle.lists.specs.Tests.{pick}
 use Rattle.protocol.specs.Beginning.{comparable}
 use Rattle.shared_places.specs.FromEnd.{compares, places_from_end}
-use Rattle.comparing.specs.declared.Checked.{Checked}
+use Rattle.std.specs.Prelude.{Result, Ok, Err}
+use Rattle.refusals.specs.Refusals.{number_of}
+use Rattle.comparing.specs.declared.Refused.{Refused}
+
+-- the number of a take, and how many places the comparison of the logs needed
+pub record Checked : Type 0 where
+  pub number : ℕ
+  pub places : ℕ
+
+-- both of an answer: 0 is the number of a take that is done
+abbrev pub checked_in : Result ℕ Refused → Checked
+checked_in (Ok places) = record { number = 0; places = places }
+checked_in (Err r) = record { number = number_of r.refusal; places = r.places }
 
 -- 16: "the message's log begins past the receiver's length"; 17: "it ends inside the receiver's dropped part"; 10: logs that are not comparable on
 -- "the part both still have". Of an office's log behind `dropped` entries, and of a message's behind `other`

@@ -10,10 +10,7 @@ ghost use Rattle.counting.specs.Room.{Room, MoreRoom};
 fn one_of(word: u32, office: u32) -> u32
     ensures { (result ≡ cond (eqb (office_of word) office) 1 0) × (result ≤ 1) }
 {
-    if word / 16777216 == office {
-        return 1;
-    }
-    0
+    u32::from(word / 16777216 == office)
 }
 
 // The counts after one entry more: each office's is looked at, without a branch, so that the walk over words below runs on vectors.
@@ -22,9 +19,8 @@ fn one_more(counts: [u32; 8], word: u32) -> [u32; 8]
     ensures { result ≡ counted counts word }
 {
     let mut next = counts;
-    for k in 0..8 {
-        let has = next[k];
-        next[k] = has + one_of(word, k as u32);
+    for (k, count) in next.iter_mut().enumerate() {
+        *count += one_of(word, k as u32);
     }
     next
 }
@@ -36,8 +32,8 @@ pub fn in_words(words: &[u32]) -> [u32; 8]
     ensures { result ≡ counts_after (no_counts 8) words.now }
 {
     let mut cells: [u32; 8] = [0; 8];
-    for i in 0..words.len() {
-        let next = one_more(cells, words[i]);
+    for word in words {
+        let next = one_more(cells, *word);
         cells = next;
     }
     cells
@@ -51,9 +47,8 @@ pub fn counts_after(start: [u64; 8], words: &[u32]) -> [u64; 8]
 {
     let more = in_words(words);
     let mut cells = start;
-    for k in 0..8 {
-        let has = cells[k];
-        cells[k] = has + more[k] as u64;
+    for (k, count) in cells.iter_mut().enumerate() {
+        *count += u64::from(more[k]);
     }
     cells
 }
@@ -65,9 +60,7 @@ pub fn count(counts: &mut [u64; 8], word: u32)
     ensures { counts.new ≡ counted counts.old word }
 {
     let office = words::office_of(word);
-    if office >= 8 {
-        return;
+    if office < 8 {
+        counts[office] += 1;
     }
-    let has = counts[office];
-    counts[office] = has + 1;
 }

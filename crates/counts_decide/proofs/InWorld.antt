@@ -3,7 +3,7 @@
 use mathlib.Core.Path.{◌≡◌, refl, sym, ap, ap₂, subst, ◌∙◌}
 use mathlib.Core.List.{List, [], ◌++◌, append_assoc, append-nil}
 use mathlib.Core.Logic.{◌⊎◌, ◌↔◌, inl, inr}
-use mathlib.Core.Option.{some}
+use Rattle.std.specs.Prelude.{Some}
 use Prim.Native.Nat.{ℕ, zero, suc, ◌≤◌, ◌<◌}
 use native.Mathlib.Decide.{dec_lt}
 use native.Mathlib.Omega.{arith}
@@ -102,7 +102,7 @@ version-held n ws k d m (suc i) h =
     inr (i, ap (λ (p : List ℕ). d.former ++ p) (version-path d.held d.words m.sound i (omega arith)) ∙ sym (append_assoc d.former o.log (tail o i)))
 
 module _ (n : ℕ) (ws : List ℕ) (start : World) (f : Founded n ws start) (cs : List Call) where
-  sound-at : (k : ℕ) (d : Replica) → replica_at (after start cs) k ≡ some d → SoundReplica n ws k d
+  sound-at : (k : ℕ) (d : Replica) → replica_at (after start cs) k ≡ Some d → SoundReplica n ws k d
   sound-at k d e = (viewed n ws start f cs).0.each k d e
 
   -- as an office of the protocol's world
@@ -116,10 +116,10 @@ module _ (n : ℕ) (ws : List ℕ) (start : World) (f : Founded n ws start) (cs 
       (counts-decide (by_settled ws) n (few-offices n ws k x.office (sound-at k x.office x.there)) (settled-lawful ws) f.any v.0 k) p q (held k p x) (held k q y)
 
   -- a version's vector, from the counts that the office keeps on, is that of the entries that it has dropped and the version
-  whole : (k : ℕ) (d : Replica) → replica_at (after start cs) k ≡ some d → (i : ℕ) → vector_at d.held d.words i ≡ whole_vector d.held.n (whole_at d i)
+  whole : (k : ℕ) (d : Replica) → replica_at (after start cs) k ≡ Some d → (i : ℕ) → vector_at d.held d.words i ≡ whole_vector d.held.n (whole_at d i)
   whole k d e = whole-vector d.held d.words (sound-at k d e).sound d.former (ap (λ (x : Kept). x.counts) ((one-order n ws start f cs).kept cs [] (append-nil cs) k d e))
 
-  tells : (k : ℕ) (d : Replica) → replica_at (after start cs) k ≡ some d → (out : List ℕ) → (write_of d.held d.words out).number ≡ 0 → (i j : ℕ) → i ≤ n → j ≤ n
+  tells : (k : ℕ) (d : Replica) → replica_at (after start cs) k ≡ Some d → (out : List ℕ) → (write_of d.held d.words out).number ≡ 0 → (i j : ℕ) → i ≤ n → j ≤ n
       → Tells (whole_at d j) (whole_at d i) (answer_at d out i j)
   tells k d e out done i j hi hj =
       let m = sound-at k d e in

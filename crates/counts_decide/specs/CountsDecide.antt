@@ -6,7 +6,7 @@
 --     across-offices    of two offices it is false, by a list of calls that is computed           worked_histories, proofs/AcrossOffices.antt
 -- Assumes nothing.
 use Rattle.std.specs.Prelude.{◌≡◌, List, ◌++◌, ◌⊎◌, ◌↔◌, ℕ, ◌≤◌, ◌<◌, get_or}
-use Rattle.std.proofs.Math.Option.{some}
+use Rattle.std.specs.Prelude.{Some}
 use Rattle.protocol.specs.Beginning.{◌⊑◌, ◌⊏◌}
 use Rattle.protocol.specs.Counts.{count_in}
 use Rattle.protocol.specs.Office.{Office, path}
@@ -28,7 +28,7 @@ Holds o p = (p ≡ o.log) ⊎ ((j : ℕ) × (p ≡ path o j))
 -- of office k of a world
 pub record HeldAt (w : World) (k : ℕ) (p : List ℕ) : Type 0 where
   pub office : Replica
-  pub there : replica_at w k ≡ some office
+  pub there : replica_at w k ≡ Some office
   pub holds : Holds (says office) p
 
 -- a version that an office holds, behind the entries that it has dropped
@@ -50,5 +50,5 @@ pub record Lossless (n : ℕ) (w : World) : Type 0 where
   -- "in any office .., for two paths among its log and ballots, one is a beginning of the other exactly when each of its counts is at most the other's"
   pub decides : (k : ℕ) (p q : List ℕ) → HeldAt w k p → HeldAt w k q → (p ⊑ q) ↔ counts_leq n p q
   -- so what an office's vectors answer is how its log and its ballots' paths stand to each other
-  pub tells : (k : ℕ) (d : Replica) → replica_at w k ≡ some d → (out : List ℕ) → (write_of d.held d.words out).number ≡ 0 → (i j : ℕ) → i ≤ n → j ≤ n
+  pub tells : (k : ℕ) (d : Replica) → replica_at w k ≡ Some d → (out : List ℕ) → (write_of d.held d.words out).number ≡ 0 → (i j : ℕ) → i ≤ n → j ≤ n
       → Tells (whole_at d j) (whole_at d i) (answer_at d out i j)

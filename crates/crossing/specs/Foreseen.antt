@@ -1,17 +1,17 @@
 -- A forecast across C: its number, whether an entry is named, and the entry, 0 where none is. Assumes nothing.
-use Rattle.std.specs.Prelude.{ℕ, Bool, true, false}
-use Rattle.tallies.specs.declared.Winner.{Winner}
-use Rattle.tallies.specs.declared.Winner.TheVariants.{Entry, Nobody}
-use Rattle.forecast.specs.declared.Forecast.{Forecast}
+use Rattle.std.specs.Prelude.{ℕ, Bool, true, false, Option, None, Some, Result}
+use Rattle.refusals.specs.Refusals.{number_in}
+use Rattle.refusals.specs.declared.Refusal.{Refusal}
+use Rattle.forecast.specs.Forecast.{winner_in}
 use Rattle.crossing.specs.declared.Foreseen.{Foreseen}
 
-abbrev pub is_named : Winner → Bool
-is_named Nobody = false
-is_named (Entry e) = true
+abbrev pub is_named : Option ℕ → Bool
+is_named None = false
+is_named (Some e) = true
 
-abbrev pub entry_named : Winner → ℕ
-entry_named Nobody = 0
-entry_named (Entry e) = e
+abbrev pub entry_named : Option ℕ → ℕ
+entry_named None = 0
+entry_named (Some e) = e
 
-unfoldable pub foreseen_of : Forecast → Foreseen
-foreseen_of f = record { number = f.number; named = is_named f.winner; entry = entry_named f.winner }
+unfoldable pub foreseen_of : Result (Option ℕ) Refusal → Foreseen
+foreseen_of f = record { number = number_in f; named = is_named (winner_in f); entry = entry_named (winner_in f) }

@@ -1,10 +1,9 @@
 -- "Single spaces, decimal numbers up to 65535": a text's fields are what stands between its spaces (32). Two spaces together, and one at an
 -- end, make an empty field, which is no number. Assumes nothing.
-use Rattle.std.specs.Prelude.{ℕ, ◌+◌, true, false, List, [], ◌∷◌, leb, eqb, length, drop, replicate, set}
+use Rattle.std.specs.Prelude.{ℕ, ◌+◌, Option, Some, None, List, [], ◌∷◌, leb, eqb, length, drop, replicate, set, option_and_then}
 use Rattle.lists.specs.Tests.{pick}
-use Rattle.decimal.specs.declared.number.Number.{Number}
 use Rattle.decimal.specs.declared.numbers.Numbers.{Numbers}
-use Rattle.decimal.specs.Number.{by_number, number_of}
+use Rattle.decimal.specs.Number.{number_of}
 
 -- the fields with a byte more at the front of the first
 unfoldable pub in_first : ℕ → List (List ℕ) → List (List ℕ)
@@ -20,23 +19,20 @@ unfoldable pub fields_from : List ℕ → ℕ → List (List ℕ)
 fields_from bytes at = pick (leb at (length bytes)) (fields (drop at bytes)) []
 
 -- the number that a field spells, up to 65535
-abbrev pub field_number : List ℕ → Number
+abbrev pub field_number : List ℕ → Option ℕ
 field_number f = number_of 65535 f
 
--- no numbers: a field is none, or there are more than eight
-abbrev pub no_numbers : Numbers
-no_numbers = record { proper = false; count = 0; cells = replicate 8 0 }
-
--- the numbers of these fields after `count` others, which fill the first cells; eight at most
-unfoldable pub numbers_after : ℕ → List ℕ → List (List ℕ) → Numbers
-numbers_after count cells [] = record { proper = true; count = count; cells = cells }
+-- the numbers of these fields after `count` others, which fill the first cells; none where a field is no number, or there are more
+-- than eight
+unfoldable pub numbers_after : ℕ → List ℕ → List (List ℕ) → Option Numbers
+numbers_after count cells [] = Some (record { count = count; cells = cells })
 numbers_after count cells (f ∷ fs) =
-    pick (eqb count 8) no_numbers (by_number (field_number f) (λ (v : ℕ). numbers_after (count + 1) (set cells count v) fs) no_numbers)
+    pick (eqb count 8) None (option_and_then (λ (v : ℕ). numbers_after (count + 1) (set cells count v) fs) (field_number f))
 
 -- the numbers that these fields spell
-abbrev pub numbers_of : List (List ℕ) → Numbers
+abbrev pub numbers_of : List (List ℕ) → Option Numbers
 numbers_of fs = numbers_after 0 (replicate 8 0) fs
 
 -- the numbers of the fields from a place on
-abbrev pub numbers_from : List ℕ → ℕ → Numbers
+abbrev pub numbers_from : List ℕ → ℕ → Option Numbers
 numbers_from bytes start = numbers_of (fields_from bytes start)

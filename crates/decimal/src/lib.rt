@@ -4,5 +4,5 @@
 mod number;
 mod numbers;
 
-pub use number::{Number, number_of};
+pub use number::number_of;
 pub use numbers::{Numbers, numbers_from};

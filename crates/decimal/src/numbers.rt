@@ -1,14 +1,13 @@
 // The numbers of a text with single spaces between them.
 ghost use Rattle.std.specs.Prelude.{◌≡◌};
-ghost use Rattle.decimal.specs.Numbers.{no_numbers, numbers_from};
+ghost use Rattle.decimal.specs.Numbers.{numbers_from};
 
-use crate::number::{Number, number_of};
-use text_parts::part_end;
+use crate::number::number_of;
 
-// Up to eight numbers: whether each field was one, how many there are, and their values with zeros behind them.
+// Up to eight numbers: how many there are, and their values with zeros behind them. A count beside an array, and no `ArrayVec`:
+// a founding takes all eight cells, zeros and all.
 #[derive(Clone, Copy)]
 pub struct Numbers {
-    pub proper: bool,
     pub count: usize,
     pub cells: [u16; 8],
 }
@@ -18,39 +17,25 @@ impl Numbers {
     pub const MOST: u64 = 65535;
 }
 
-// The answer where a field is no number, or there are more than eight.
-fn no_numbers() -> Numbers
-    ensures { result ≡ no_numbers }
-{
-    Numbers {
-        proper: false,
-        count: 0,
-        cells: [0; 8],
-    }
-}
-
-// The numbers of the fields from `start` on; there is no field past the text's end.
-pub fn numbers_from(bytes: &[u8], start: usize) -> Numbers
+// The numbers of the fields from `start` on, none where a field is no number or there are more than eight; there is no field past the text's end.
+pub fn numbers_from(bytes: &[u8], start: usize) -> Option<Numbers>
     ensures { result ≡ numbers_from bytes.now start }
 {
     let mut cells = [0u16; 8];
     let mut count: usize = 0;
-    let mut at = start;
-    while at <= bytes.len() {
+    if start > bytes.len() {
+        return Some(Numbers { count, cells });
+    }
+    for field in bytes[start..].split(|byte| *byte == b' ') {
         if count == 8 {
-            return no_numbers();
+            return None;
         }
-        let end = part_end(bytes, at, b' ');
-        let Number::Value(value) = number_of(Numbers::MOST, &bytes[at..end]) else {
-            return no_numbers();
+        // no `?`: by document 01 a parsed number is taken apart by `let .. else`
+        let Some(value) = number_of(Numbers::MOST, field) else {
+            return None;
         };
         cells[count] = value as u16;
         count += 1;
-        at = end + 1;
     }
-    Numbers {
-        proper: true,
-        count,
-        cells,
-    }
+    Some(Numbers { count, cells })
 }

@@ -27,7 +27,7 @@ use Rattle.runs.proofs.Runs.{shortest-is}
 use Rattle.backward.proofs.Placed.{named-at, get_or-mapped}
 use Rattle.frame.specs.State.{held_length}
 use Rattle.frame.specs.Soundness.{sound_b}
-use Rattle.shown_edits.specs.Shown.{edit_is, stored_edit}
+use Rattle.shown_edits.specs.Shown.{stored_edit}
 use Rattle.both_frames.specs.Frames.{kept_edit, frame_of, settled_frame_of}
 use Rattle.frame.specs.declared.Record.{Record}
 use Rattle.frame.proofs.Sound.{sound}
@@ -109,7 +109,7 @@ module _ (r : Record) (words : List ℕ) (p : ℕ) (lines : List ℕ) where
     frames i h =
         let line : ℕ = get_or lines i 0 in
         shown-done line (kept_edit r line) first (named-at lines (record { few = few; each = each }) i h) (stored_edit (get_or (earlier_of r words p lines).edits i 0))
-        (ap stored_edit (edit-at i h) ∙ ap edit_is (cell-back (edit_after line (kept_edit r line) first)))
+        (ap stored_edit (edit-at i h) ∙ cell-back (edit_after line (kept_edit r line) first))
         ∙ frame-shown r words line first q
 
     settled : p ≡ r.settled → (i : ℕ) → i < length lines → shown_at r words p lines i ≡ settled_frame_of r words (get_or lines i 0)

@@ -6,7 +6,7 @@ use Rattle.runs.specs.Runs.{edits_all, Shortest}
 use Rattle.shown_edits.specs.Shown.{stored_edit}
 use Rattle.both_frames.specs.Frames.{frame_of, settled_frame_of}
 use Rattle.frame.specs.declared.Record.{Record}
-use Rattle.both_frames.specs.declared.Framed.{Framed}
+use Rattle.both_frames.specs.Framed.{Framed}
 use Rattle.earlier.specs.Earlier.{first_of, earlier_of}
 
 -- what the answer shows at place i

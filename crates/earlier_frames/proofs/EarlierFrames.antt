@@ -4,7 +4,7 @@ use mathlib.Core.Path.{◌≡◌, refl, sym, ap, subst, ◌∙◌}
 use mathlib.Core.Bool.{Bool, true, false}
 use mathlib.Core.Logic.{◌⊎◌, inl, inr}
 use mathlib.Core.List.{List, [], ◌++◌, map, append-nil}
-use mathlib.Core.Option.{Option, some}
+use Rattle.std.specs.Prelude.{Option, Some}
 use Prim.Native.Nat.{ℕ, ◌+◌, ◌-◌, ◌≤◌, ◌<◌, min}
 use native.Mathlib.Omega.{arith}
 use lib.Dec.{leb}
@@ -71,7 +71,7 @@ shown a b edits = pick a (pick b (0, edits) (13, no_codes)) (3, no_codes)
 
 module _ (n : ℕ) (weights : List ℕ) (start : World) (founded : Founded n weights start) where
   -- ── one office ──
-  module _ (cs : List Call) (k : ℕ) (d : Replica) (e : replica_at (after start cs) k ≡ some d) where
+  module _ (cs : List Call) (k : ℕ) (d : Replica) (e : replica_at (after start cs) k ≡ Some d) where
     counted : d.held.kept.dropped ≡ length d.former
     counted = (one-order n weights start founded cs).counted cs [] (append-nil cs) k d e
 
@@ -159,13 +159,13 @@ module _ (n : ℕ) (weights : List ℕ) (start : World) (founded : Founded n wei
               ∙ ap (λ (l : List ℕ). run_has lines l i) (first-is w)
 
   -- ── two offices ──
-  first-of : (cs a a' : List Call) → a ++ a' ≡ cs → (k : ℕ) (d : Replica) → replica_at (after start a) k ≡ some d → (p : ℕ) → Within d p → first d p ≡ take p (order start cs)
+  first-of : (cs a a' : List Call) → a ++ a' ≡ cs → (k : ℕ) (d : Replica) → replica_at (after start a) k ≡ Some d → (p : ℕ) → Within d p → first d p ≡ take p (order start cs)
   first-of cs a a' q k d e p w =
       let log : (says d).log ⊑ order start cs = subst (λ (x : Option Replica). on_some x [] (λ d. (says d).log) ⊑ order start cs) e ((one-order n weights start founded cs).logs a a' q k) in
       sym (take-append-le p (says d).log (drop (length (says d).log) (order start cs)) w.1) ∙ ap (take p) (⊑-rest (says d).log (order start cs) log)
 
   alike : (cs a a' b b' : List Call) → a ++ a' ≡ cs → b ++ b' ≡ cs
-      → (j k : ℕ) (d e : Replica) → replica_at (after start a) j ≡ some d → replica_at (after start b) k ≡ some e
+      → (j k : ℕ) (d e : Replica) → replica_at (after start a) j ≡ Some d → replica_at (after start b) k ≡ Some e
       → (p : ℕ) (lines : List ℕ) → Within d p → Within e p
       → ((answer d p lines).number ≡ (answer e p lines).number) × ((answer d p lines).edits ≡ (answer e p lines).edits)
   alike cs a a' b b' q r j k d e x y p lines v w = (ap (λ (s : Shown). s.0) both, ap (λ (s : Shown). s.1) both)

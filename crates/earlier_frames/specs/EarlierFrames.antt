@@ -3,7 +3,7 @@
 -- that part and uses the kept codes, so it reads p less the dropped count where no undropped run has every named line". The theorem is
 -- `earlier-frames` in proofs/EarlierFrames.antt, of every world that is `Founded`. Assumes nothing.
 use Rattle.std.specs.Prelude.{◌≡◌, List, ◌++◌, ℕ, ◌-◌, ◌≤◌, ◌<◌, min, length, get_or, take}
-use Rattle.std.proofs.Math.Option.{some}
+use Rattle.std.specs.Prelude.{Some}
 use Rattle.protocol.specs.Codes.{cell}
 use Rattle.protocol.specs.Frames.{last_edit}
 use Rattle.runs.specs.Runs.{Named, shortest_run}
@@ -37,17 +37,17 @@ pub record Answered (d : Replica) (p : ℕ) (lines : List ℕ) : Type 0 where
 
 pub record EarlierFrames (start : World) : Type 0 where
   -- of every office, after every list of calls
-  pub answered : (cs : List Call) (k : ℕ) (d : Replica) → replica_at (after start cs) k ≡ some d
+  pub answered : (cs : List Call) (k : ℕ) (d : Replica) → replica_at (after start cs) k ≡ Some d
       → (p : ℕ) (lines : List ℕ) → (answer d p lines).number ≡ 0 → Answered d p lines
   -- it is done for every such p and up to 64 lines of the frame
-  pub done : (cs : List Call) (k : ℕ) (d : Replica) → replica_at (after start cs) k ≡ some d
+  pub done : (cs : List Call) (k : ℕ) (d : Replica) → replica_at (after start cs) k ≡ Some d
       → (p : ℕ) (lines : List ℕ) → Within d p → Named lines → (answer d p lines).number ≡ 0
   -- two offices, at whatever moments of one list of calls, answer alike of a p that both have, whatever each has dropped by then: the number and the
   -- edits. The words read may differ, by what is dropped
   pub alike : (cs a a' b b' : List Call) → a ++ a' ≡ cs → b ++ b' ≡ cs
-      → (j k : ℕ) (d e : Replica) → replica_at (after start a) j ≡ some d → replica_at (after start b) k ≡ some e
+      → (j k : ℕ) (d e : Replica) → replica_at (after start a) j ≡ Some d → replica_at (after start b) k ≡ Some e
       → (p : ℕ) (lines : List ℕ) → Within d p → Within e p
       → ((answer d p lines).number ≡ (answer e p lines).number) × ((answer d p lines).edits ≡ (answer e p lines).edits)
   -- no office's answer is refused with 1
-  pub sound : (cs : List Call) (k : ℕ) (d : Replica) → replica_at (after start cs) k ≡ some d
+  pub sound : (cs : List Call) (k : ℕ) (d : Replica) → replica_at (after start cs) k ≡ Some d
       → (p : ℕ) (lines : List ℕ) → (answer d p lines).number ≡ 1 → ⊥

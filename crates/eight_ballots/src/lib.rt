@@ -10,25 +10,26 @@ ghost use Rattle.eight_ballots.specs.Fours.{coding_cells, entry_cells, fair_tail
 use ballots::Ballot;
 
 // Walks of fixed length over the cells need no copy of the array, as a walk over a part of it would. They go over four ballots at once: the
-// compiler takes a walk over four into its caller, where the ballots need no copy; a walk over one it would call, with a copy for each.
+// compiler takes a walk over four into its caller, where the ballots need no copy; a walk over one it would call, with a copy for each. A walk over
+// each ballot, lent, was tried: all eight took 106 ns in place of 57.
 
 // Whether all the cells are zero.
 fn zero_cells(cells: [u32; 32]) -> bool
     ensures { result ≡ all_b (eqb 0) cells }
 {
     let mut good = true;
-    for i in 0..32 {
-        good = good & (0 == cells[i]);
+    for cell in &cells {
+        good = good & (0 == *cell);
     }
     good
 }
 
+// No `==` with a ballot of no entries: like the other walks here, this one is of fixed length and has no branch.
 // Whether the ballot is none: no entries, and every cell zero.
 fn is_none(b: Ballot) -> bool
     ensures { result ≡ empty_ballot b }
 {
-    let cells = b.cells;
-    (0 == b.len) & zero_cells(cells)
+    (0 == b.len) & zero_cells(b.cells)
 }
 
 // Whether every ballot is none, as after an election they often are.
@@ -36,9 +37,8 @@ fn no_ballots(all: [Ballot; 8]) -> bool
     ensures { result ≡ all_b empty_ballot all }
 {
     let mut none = true;
-    for i in 0..8 {
-        let b = all[i];
-        none = none & is_none(b);
+    for b in &all {
+        none = none & is_none(*b);
     }
     none
 }
@@ -47,14 +47,14 @@ fn no_ballots(all: [Ballot; 8]) -> bool
 fn entry_cells(b: Ballot, n: usize) -> bool
     ensures { result ≡ entry_cells n b }
 {
-    let cells = b.cells;
     let mut good = true;
-    for i in 0..32 {
-        good = good & entries::is_entry(cells[i], n);
+    for cell in &b.cells {
+        good = good & entries::is_entry(*cell, n);
     }
     good
 }
 
+// Four ballots are four parameters, as the walk is for speed.
 // Whether all the cells of four ballots are entries for n offices that code lines.
 fn four_coding(a: Ballot, b: Ballot, c: Ballot, d: Ballot, n: usize) -> bool
     ensures { result ≡ of_four (coding_cells n) a b c d }
@@ -67,6 +67,7 @@ fn four_coding(a: Ballot, b: Ballot, c: Ballot, d: Ballot, n: usize) -> bool
     let mut q: u32 = 0;
     let mut r: u32 = 0;
     let mut s: u32 = 0;
+    // Four arrays side by side: iterators zipped three times would be no plainer.
     for i in 0..32 {
         p = p | entries::raised(w[i], n);
         q = q | entries::raised(x[i], n);
@@ -76,14 +77,15 @@ fn four_coding(a: Ballot, b: Ballot, c: Ballot, d: Ballot, n: usize) -> bool
     entries::no_carry(p) & entries::no_carry(q) & entries::no_carry(r) & entries::no_carry(s)
 }
 
+// This walk and `eight_fair` are one but for the test: a closure would bring its own `pre` and `post` into the contract. n is a number of a record
+// here and in three contracts below: a type that says it is 1 to 8 would be made for one call.
 // Whether all the cells of eight ballots are entries for n offices. Slower, so only for ballots of which a cell codes no line.
 fn eight_entries(all: [Ballot; 8], n: usize) -> bool
     ensures { result ≡ all_b (entry_cells n) all }
 {
     let mut good = true;
-    for i in 0..8 {
-        let b = all[i];
-        good = good & entry_cells(b, n);
+    for b in &all {
+        good = good & entry_cells(*b, n);
     }
     good
 }
@@ -93,8 +95,7 @@ fn fair_tail(b: Ballot, n: usize) -> bool
     requires { (1 ≤ n) × ((n ≤ 8) × (padded_entries n b ≡ true)) }
     ensures { result ≡ fair_tail n b }
 {
-    let cells = b.cells;
-    parts::fair(cells, b.len, n)
+    parts::fair(b.cells, b.len, n)
 }
 
 // The same of eight ballots.
@@ -103,9 +104,8 @@ fn eight_fair(all: [Ballot; 8], n: usize) -> bool
     ensures { result ≡ all_b (fair_tail n) all }
 {
     let mut good = true;
-    for i in 0..8 {
-        let b = all[i];
-        good = good & fair_tail(b, n);
+    for b in &all {
+        good = good & fair_tail(*b, n);
     }
     good
 }
@@ -115,9 +115,7 @@ fn masks() -> [u32; 64]
     ensures { result ≡ mask_words }
 {
     let mut words: [u32; 64] = [4294967295; 64];
-    for i in 0..32 {
-        words[i] = 0;
-    }
+    words[..32].fill(0);
     words
 }
 
@@ -148,6 +146,7 @@ fn four_unused(a: Ballot, b: Ballot, c: Ballot, d: Ballot, masks: &[u32]) -> boo
     let mut q: u32 = 0;
     let mut r: u32 = 0;
     let mut s: u32 = 0;
+    // Four arrays side by side, with the masks from four places: iterators zipped seven times would be no plainer.
     for i in 0..32 {
         p = p | masked(w[i], masks[j + i]);
         q = q | masked(x[i], masks[k + i]);
@@ -181,8 +180,8 @@ pub fn fine(all: [Ballot; 8], n: usize, held: usize) -> bool
         return true;
     }
     let mut fit = true;
-    for i in 0..8 {
-        fit = fit & fits(all[i].len, i, n, held);
+    for (place, b) in all.iter().enumerate() {
+        fit = fit & fits(b.len, place, n, held);
     }
     if !fit {
         return false;

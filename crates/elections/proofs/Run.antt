@@ -7,7 +7,7 @@
 use mathlib.Core.Path.{◌≡◌, refl, sym, ap, ap₂, subst₂, ◌∙◌}
 use mathlib.Core.Bool.{true}
 use mathlib.Core.List.{List, [], ◌∷◌, ◌++◌, map, append_assoc}
-use mathlib.Core.Option.{Option, none, some}
+use Rattle.std.specs.Prelude.{Option, None, Some}
 use Prim.Native.Nat.{ℕ, ◌+◌, ◌<◌, ◌≤◌}
 use native.Mathlib.Numerals.{add-one}
 use native.Mathlib.Omega.{arith}
@@ -40,9 +40,9 @@ use Rattle.elections.proofs.Holding.{state_of, Electable, elected_in, log-length
 abbrev pub stepped : State → List ℕ → ℕ → Office
 stepped s words e = settle e (held_in s words)
 
-module _ (n : ℕ) (s : State) (words : List ℕ) (S : Steppable n s words) (counts : List ℕ) (e : ℕ) (w : winner_in counts s words ≡ some e) where
+module _ (n : ℕ) (s : State) (words : List ℕ) (S : Steppable n s words) (counts : List ℕ) (e : ℕ) (w : winner_in counts s words ≡ Some e) where
   -- the winner has a vote
-  voted : (k : ℕ) × (votes (held_in s words) k ≡ some e)
+  voted : (k : ℕ) × (votes (held_in s words) k ≡ Some e)
   voted = let x = winner-voted s.summary.present (quieter_by counts) (votes (held_in s words)) e w in (x.0, x.2)
 
   pub winning : (is_entry n e ≡ true) × (s.held < 1024)
@@ -52,7 +52,7 @@ module _ (n : ℕ) (s : State) (words : List ℕ) (S : Steppable n s words) (cou
   step-fine = Limits.settle-fine n e (held_in s words) (held-fine n s words S) voted.0 voted.1
 
 module _ (counts : List ℕ) (s : State) (words : List ℕ) where
-  pub step-won : (e : ℕ) → winner_in counts s words ≡ some e → (bs : List Ballot) → bs ≡ map ballot_of (map (lose e) (map tail_of s.ballots))
+  pub step-won : (e : ℕ) → winner_in counts s words ≡ Some e → (bs : List Ballot) → bs ≡ map ballot_of (map (lose e) (map tail_of s.ballots))
       → (x : Summary) → x ≡ summary_next s.summary e
       → (◌≡◌ {A = State} (record { summary = x; held = s.held + 1; ballots = bs }) (step_of counts s words)) × (set words s.held e ≡ step_words counts s words)
   unfolding step_of step_words
@@ -61,7 +61,7 @@ module _ (counts : List ℕ) (s : State) (words : List ℕ) where
     ap (λ (o : Option ℕ). next o words (set words s.held)) (sym w),
   )
 
-  pub step-nobody : winner_in counts s words ≡ none → (s ≡ step_of counts s words) × (words ≡ step_words counts s words)
+  pub step-nobody : winner_in counts s words ≡ None → (s ≡ step_of counts s words) × (words ≡ step_words counts s words)
   unfolding step_of step_words
   step-nobody w = (ap (λ (o : Option ℕ). next o s (settled_by s)) (sym w), ap (λ (o : Option ℕ). next o words (set words s.held)) (sym w))
 
@@ -110,13 +110,13 @@ module _ (s : State) (words : List ℕ) (out : State) (last : List ℕ) where
   Last w = last ≡ next w words (set words s.held)
 
   -- a step that leaves the held length had no winner
-  no-win : (w : Option ℕ) → Out w → Last w → out.held ≡ s.held → (w ≡ none) × (out ≡ s) × (last ≡ words)
-  no-win (some e) p q h = absurd (omega (arith, h, ap (λ (x : State). x.held) p))
-  no-win none p q h = (refl, p, q)
+  no-win : (w : Option ℕ) → Out w → Last w → out.held ≡ s.held → (w ≡ None) × (out ≡ s) × (last ≡ words)
+  no-win (Some e) p q h = absurd (omega (arith, h, ap (λ (x : State). x.held) p))
+  no-win None p q h = (refl, p, q)
 
-  a-win : (w : Option ℕ) → Out w → Last w → (out.held ≡ s.held → ⊥) → (e : ℕ) × (w ≡ some e) × (out ≡ settled_by s e) × (last ≡ set words s.held e)
-  a-win (some e) p q h = (e, refl, p, q)
-  a-win none p q h = absurd (h (ap (λ (x : State). x.held) p))
+  a-win : (w : Option ℕ) → Out w → Last w → (out.held ≡ s.held → ⊥) → (e : ℕ) × (w ≡ Some e) × (out ≡ settled_by s e) × (last ≡ set words s.held e)
+  a-win (Some e) p q h = (e, refl, p, q)
+  a-win None p q h = absurd (h (ap (λ (x : State). x.held) p))
 
 -- ── a run of steps ──
 -- what it keeps, from the state s₀ with the words words₀
@@ -148,11 +148,11 @@ module _ (n : ℕ) (kept : Kept) (s₀ : State) (words₀ : List ℕ) (s : State
       ∙ ap (λ (k : ℕ). drop k words₀) (sym more))
 
   module _ (cs : List ℕ) (c : cs ≡ counts_after kept.counts (take s.held words)) where
-    fits : (e : ℕ) → winner_in cs s words ≡ some e → length (stepped s words e).log ≤ length words
+    fits : (e : ℕ) → winner_in cs s words ≡ Some e → length (stepped s words e).log ≤ length words
     unfolding settle
     fits e w = let S = R.sound.limits in omega (arith, (winning n s words S cs e w).1, S.room, next-length n kept s words R.sound e)
 
-    won : (e : ℕ) → winner_in cs s words ≡ some e → Running n kept s₀ words₀ (state_of kept (stepped s words e)) (words_with (stepped s words e).log words)
+    won : (e : ℕ) → winner_in cs s words ≡ Some e → Running n kept s₀ words₀ (state_of kept (stepped s words e)) (words_with (stepped s words e).log words)
     won e w =
         let E = R.sound in
         let o = stepped s words e in
@@ -169,7 +169,7 @@ module _ (n : ℕ) (kept : Kept) (s₀ : State) (words₀ : List ℕ) (s : State
     module _ (out : State) (p : out ≡ step_of cs s words) (last : List ℕ) (q : last ≡ step_words cs s words) where
       -- a step that raises the held length settled an entry
       settles : (out.held ≡ s.held → ⊥)
-          → (e : ℕ) × (winner_in cs s words ≡ some e) × (out ≡ state_of kept (stepped s words e)) × (last ≡ words_with (stepped s words e).log words)
+          → (e : ℕ) × (winner_in cs s words ≡ Some e) × (out ≡ state_of kept (stepped s words e)) × (last ≡ words_with (stepped s words e).log words)
       unfolding step_of step_words
       settles h =
           let m = a-win s words out last (winner_in cs s words) p q h in

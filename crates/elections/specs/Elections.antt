@@ -1,6 +1,6 @@
 -- What takes and elections change of a record, the office that it holds with a log's words, and what an election step makes of both. Assumes nothing.
 use Rattle.std.specs.Prelude.{ℕ, ◌+◌, ◌≤◌, ◌≡◌, true, List, map, length, take, drop, set}
-use Rattle.std.proofs.Math.Option.{Option}
+use Rattle.std.specs.Prelude.{Option}
 use Rattle.lists.specs.Tests.{all_b}
 use Rattle.protocol.specs.Entry.{is_entry}
 use Rattle.protocol.specs.Counts.{quieter_by}

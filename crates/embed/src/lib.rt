@@ -1,5 +1,6 @@
 // The engine's calls as C functions, for a service to link: the record by value, log and buffers lent. Each answers what the call that it hands on
 // answers, by that call's equation; settled, the two frames of a line and the forecast cross as `Part`, and as `Framed` and `Foreseen` of `crossing`.
+// Functions of one shape stand side by side here, since C calls each by its name.
 // include/joukerpan.h declares them for C.
 #![tactic(auto)]
 
@@ -46,6 +47,7 @@ pub struct Weights {
 }
 
 // What Settled answers across C: a part of the log cannot cross, so its length does. The part is the front of the caller's own log.
+// C has it as it lies here, so it holds the number and is no `Result`.
 #[repr(C)]
 #[derive(Clone, Copy)]
 pub struct Part {

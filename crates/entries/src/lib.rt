@@ -15,10 +15,7 @@ pub const CODES: u32 = 10000;
 fn offices(n: usize) -> u32
     ensures { result ≡ pick (leb n 256) n 256 }
 {
-    if n > 256 {
-        return 256;
-    }
-    n as u32
+    n.min(256) as u32
 }
 
 // Whether an entry of n offices may have this line and code: a code of a line, or a weight to move to an office.
@@ -62,8 +59,8 @@ fn all_coding(words: &[u32], n: usize) -> bool
     ensures { result ≡ all_b (is_coding n) words.now }
 {
     let mut bits: u32 = 0;
-    for i in 0..words.len() {
-        bits = bits | raised(words[i], n);
+    for word in words {
+        bits = bits | raised(*word, n);
     }
     no_carry(bits)
 }
@@ -76,8 +73,9 @@ pub fn all_entries(words: &[u32], n: usize) -> bool
         return true;
     }
     let mut good = true;
-    for i in 0..words.len() {
-        good = good & is_entry(words[i], n);
+    // The walk has no early end, so no `all`: it runs on vectors.
+    for word in words {
+        good = good & is_entry(*word, n);
     }
     good
 }

@@ -4,7 +4,7 @@ use mathlib.Core.Path.{◌≡◌, sym, ap, subst, ◌∙◌}
 use mathlib.Core.Bool.{Bool, true, false}
 use mathlib.Core.Logic.{⊎_elim}
 use mathlib.Core.List.{List, [], append-nil}
-use mathlib.Core.Option.{Option, some}
+use Rattle.std.specs.Prelude.{Option, Some}
 use Prim.Native.Nat.{ℕ}
 use native.Mathlib.Omega.{arith}
 use lib.ListN.{length}
@@ -47,7 +47,7 @@ same_length : (a b c : List ℕ) → a ⊑ c → b ⊑ c → length a ≡ length
 same_length a b c p q h = ⊎_elim (λ l. ⊎_elim (λ e. e) (λ x. absurd (omega (arith, ⊏-length a b x))) (⊑-cases a b l)) (λ x. absurd (omega (arith, ⊏-length b a x))) (⊑-comparable a b c p q)
 
 module _ (n : ℕ) (weights : List ℕ) (start : World) (founded : Founded n weights start) where
-  equal : (cs ds : List Call) (j k : ℕ) (d e : Replica) → replica_at (after start cs) j ≡ some d → replica_at (after start ds) k ≡ some e
+  equal : (cs ds : List Call) (j k : ℕ) (d e : Replica) → replica_at (after start cs) j ≡ Some d → replica_at (after start ds) k ≡ Some e
       → (says d).log ≡ (says e).log → (s : List ℕ) → printed d s ≡ printed e s
   equal cs ds j k d e p q h =
       let a = always n weights start founded cs in
@@ -57,7 +57,7 @@ module _ (n : ℕ) (weights : List ℕ) (start : World) (founded : Founded n wei
       ∙ ap (λ (log : List ℕ). record { number = 0; codes = codes_after no_codes log }) h
       ∙ sym (settled_lines e.held e.words (says e).log (b.sound k e q) (b.codes k e q)))
 
-  log-at : (cs : List Call) (k : ℕ) (d : Replica) → replica_at (after start cs) k ≡ some d → (says d).log ⊑ order start cs
+  log-at : (cs : List Call) (k : ℕ) (d : Replica) → replica_at (after start cs) k ≡ Some d → (says d).log ⊑ order start cs
   log-at cs k d e = subst (λ (x : Option Replica). on_some x [] (λ d. (says d).log) ⊑ order start cs) e ((one-order n weights start founded cs).logs cs [] (append-nil cs) k)
 
   pub equal-sheets : EqualSheets start

@@ -1,41 +1,35 @@
 -- The undropped entries in the message that are written to the part of a log that is lent. Assumes nothing.
-use Prim.Native.Nat.{ℕ, ◌*◌, ◌-◌, ◌≤◌, suc, zero, ◌+◌, ◌<◌}
+use Prim.Native.Nat.{ℕ, ◌*◌, ◌-◌, ◌≤◌, ◌+◌, ◌<◌}
 use mathlib.Core.Bool.{true}
-use mathlib.Core.List.{List, [], ◌++◌, ◌∷◌, append-nil}
-use mathlib.Core.Path.{◌∙◌, ◌≡◌, ap, refl, sym}
+use mathlib.Core.List.{List, ◌++◌, append-nil}
+use mathlib.Core.Path.{◌∙◌, ◌≡◌, ap}
 use native.Mathlib.Omega.{arith}
 use lib.ListN.{drop, drop_of_length-le, length, length-drop, set, take}
-use lib.Seq.{sets, take_all, length-take-le, sets-eq}
+use Rattle.std.proofs.Common.{append_assoc}
+use lib.Seq.{drop-drop, sets, length-take-le, sets-eq}
 use Rattle.protocol.specs.Beginning.{begins}
 use Rattle.numbers.specs.Numbers.{run_at}
 use Rattle.spelling.specs.Reading.{record_at}
 use Rattle.protocol_laws.proofs.Beginning.{begins-true, ⊑-rest}
-use Rattle.numbers.proofs.Runs.{run-rest}
+use Rattle.numbers.proofs.Runs.{run-rest, run_at-length}
 use Rattle.numbers.proofs.Steps.{fill_step}
 
-sets-cons : (x : ℕ) (xs : List ℕ) (i : ℕ) (vs : List ℕ) → sets (x ∷ xs) (suc i) vs ≡ x ∷ sets xs i vs
-sets-cons x xs i [] = refl
-sets-cons x xs i (v ∷ vs) = sets-cons x (set xs i v) (suc i) vs
-
-sets-part : (a : ℕ) (xs vs : List ℕ) → a ≤ length xs → take a xs ++ sets (drop a xs) 0 vs ≡ sets xs a vs
-sets-part zero xs vs h = refl
-sets-part (suc a) [] vs h = absurd (omega arith)
-sets-part (suc a) (x ∷ xs) vs h = ap (λ (l : List ℕ). x ∷ l) (sets-part a xs vs (omega arith)) ∙ sym (sets-cons x xs a vs)
-
--- stores into the part from a on are stores into the whole
-pub part-back : (a : ℕ) (xs ys vs : List ℕ) → a ≤ length xs → ys ≡ sets (take (length xs - a) (drop a xs)) 0 vs
-    → take a xs ++ (ys ++ drop (length xs - a) (drop a xs)) ≡ sets xs a vs
-part-back a xs ys vs h e =
-    let t : take (length xs - a) (drop a xs) ≡ drop a xs = take_all (length xs - a) (drop a xs) (omega (arith, length-drop a xs)) in
-    let d : drop (length xs - a) (drop a xs) ≡ [] = drop_of_length-le (drop a xs) {i = length xs - a} (omega (arith, length-drop a xs)) in
-    rw (e, t, d, append-nil) (sets-part a xs vs h)
+-- stores over all of a list
+pub sets-all : (xs vs : List ℕ) → length vs ≡ length xs → sets xs 0 vs ≡ vs
+sets-all xs vs e =
+    let h : length xs ≤ 0 + length vs = omega arith in sets-eq vs xs 0 (omega arith) ∙ rw (drop_of_length-le xs h) (append-nil vs)
 
 -- the missing entries, stored into the part of the log behind the first that are held
-pub extend-stores : (held k : ℕ) (log ys rest : List ℕ) → held ≤ k → held ≤ length log
-    → ys ≡ sets (take (length log - held) (drop held log)) 0 (run_at 6 record_at (k - held) (drop (6 * held) rest))
-    → take held log ++ (ys ++ drop (length log - held) (drop held log)) ≡ sets log held (drop held (run_at 6 record_at k rest))
+pub extend-stores : (held k : ℕ) (log ys rest : List ℕ) → held ≤ k → k ≤ length log
+    → ys ≡ run_at 6 record_at (length (take (k - held) (drop held log))) (drop (6 * held) rest)
+    → take held log ++ (ys ++ drop (k - held) (drop held log)) ≡ sets log held (drop held (run_at 6 record_at k rest))
 extend-stores held k log ys rest h j e =
-    part-back held log ys (run_at 6 record_at (k - held) (drop (6 * held) rest)) j e ∙ rw (run-rest 6 record_at k held rest h)
+    let m : length (take (k - held) (drop held log)) ≡ k - held = length-take-le (k - held) (drop held log) (omega (arith, length-drop held log)) in
+    let vs : ys ≡ drop held (run_at 6 record_at k rest) = e ∙ rw (m, run-rest 6 record_at k held rest h) in
+    let l : length ys ≡ k - held = ap length e ∙ run_at-length 6 record_at _ (drop (6 * held) rest) ∙ m in
+    let d : held + length ys ≡ k = omega arith in
+    let t : held + (k - held) ≡ k = omega arith in
+    rw (← vs) (rw (sets-eq ys log held (omega arith), d, drop-drop, t, append_assoc))
 
 -- a turn of the loop that writes them
 pub fill-turn : (part : List ℕ) (k i at : ℕ) (rest : List ℕ) (v p : ℕ) → i < k → v ≡ record_at (drop at rest) → p ≡ at + 6

@@ -6,17 +6,17 @@ ghost use Rattle.std.proofs.lemmas.List.Edits.{sets};
 ghost use Rattle.numbers.specs.Numbers.{run_at};
 ghost use Rattle.spelling.specs.Reading.{record_at};
 
-use reader::read_entry;
+use reader::Reader;
 
-// The values of the k log records from a position on, written to the start of a part of the log.
-fn fill(part: &mut [u32], rest: &[u8], from: usize, k: usize)
-    requires { (k ≤ length part.old) × (from + 6 * k ≤ length rest.now) }
-    ensures { part.new ≡ sets part.old 0 (run_at 6 record_at k (drop from rest.now)) }
+// The values of the log records from a position on, written to a part of the log.
+fn fill(part: &mut [u32], rest: &[u8], from: usize)
+    requires { from + 6 * length part.old ≤ length rest.now }
+    ensures { part.new ≡ run_at 6 record_at (length part.old) (drop from rest.now) }
 {
     let mut at = from;
-    for i in 0..k {
-        let step = read_entry(rest, at);
-        part[i] = step.value;
+    for word in part.iter_mut() {
+        let step = Reader::new(rest, at).entry().unwrap();
+        *word = step.value;
         at = step.next;
     }
 }
@@ -27,5 +27,5 @@ pub fn extend(log: &mut [u32], held: usize, rest: &[u8], k: usize)
     requires { (held ≤ k) × ((k ≤ length log.old) × (6 * k ≤ length rest.now)) }
     ensures { log.new ≡ sets log.old held (drop held (run_at 6 record_at k rest.now)) }
 {
-    fill(&mut log[held..], rest, 6 * held, k - held)
+    fill(&mut log[held..k], rest, 6 * held)
 }

@@ -5,7 +5,9 @@ ghost use Rattle.std.specs.Prelude.{◌≡◌};
 ghost use Rattle.folding.specs.Folding.{fold_of, fold_words};
 
 use frame::Record;
+use refusals::Refusal;
 
+// C has it as it lies here, so it holds the number and is no `Result`.
 #[repr(C)]
 #[derive(Clone, Copy)]
 pub struct Folded {
@@ -21,7 +23,7 @@ pub fn fold(office: Record, log: &mut [u32]) -> Folded
     if !office.sound(&log[..]) {
         return Folded {
             record: office,
-            number: 1,
+            number: Refusal::Unsound.number(),
             count: 0,
         };
     }

@@ -1,17 +1,17 @@
 -- Request (xii): "Given a sound record's ballots, name the entry that would win the first step whichever weights within the bounds are chosen, or
 -- say that none would." What is named is computed here, by the worst choice for each entry; that this is what the request says is claimed in
 -- `Exact`. Assumes nothing.
-use Rattle.std.specs.Prelude.{ℕ, List, eqb, take}
-use Rattle.std.proofs.Math.Option.{Option, none}
+use Rattle.std.specs.Prelude.{ℕ, List, take}
+use Rattle.std.specs.Prelude.{Option, None, Result, Ok, Err}
 use Rattle.lists.specs.Tests.{pick}
 use Rattle.protocol.specs.Office.{votes}
-use Rattle.tallies.specs.Tallies.{winner_is}
 use Rattle.bounds.specs.Bounds.{fits, sure_winner}
 use Rattle.frame.specs.State.{held_by}
 use Rattle.frame.specs.Soundness.{sound_b}
 use Rattle.frame.specs.Electing.{tie_order}
 use Rattle.frame.specs.declared.Record.{Record}
-use Rattle.forecast.specs.declared.Forecast.{Forecast}
+use Rattle.refusals.specs.declared.Refusal.{Refusal}
+use Rattle.refusals.specs.declared.Refusal.TheVariants.{Unsound, NoWeights}
 
 -- "Bounds from place n on aren't looked at"
 abbrev pub bounds_of : Record → List ℕ → List ℕ
@@ -25,9 +25,11 @@ named_of r words lowest highest = sure_winner (bounds_of r lowest) (bounds_of r 
 unfoldable pub forecast_number : Record → List ℕ → List ℕ → List ℕ → ℕ
 forecast_number r words lowest highest = pick (sound_b r words) (pick (fits (bounds_of r lowest) (bounds_of r highest)) 0 15) 1
 
--- "a refusal names none"
-unfoldable pub forecast_of : Record → List ℕ → List ℕ → List ℕ → Forecast
-forecast_of r words lowest highest = record {
-  number = forecast_number r words lowest highest;
-  winner = winner_is (pick (eqb (forecast_number r words lowest highest) 0) (named_of r words lowest highest) none);
-}
+-- the answer
+unfoldable pub forecast_of : Record → List ℕ → List ℕ → List ℕ → Result (Option ℕ) Refusal
+forecast_of r words lowest highest = pick (sound_b r words) (pick (fits (bounds_of r lowest) (bounds_of r highest)) (Ok (named_of r words lowest highest)) (Err NoWeights)) (Err Unsound)
+
+-- the entry that an answer names, if any: "a refusal names none"
+abbrev pub winner_in : Result (Option ℕ) Refusal → Option ℕ
+winner_in (Ok w) = w
+winner_in (Err x) = None

@@ -7,7 +7,7 @@
 use mathlib.Core.Path.{◌≡◌, refl, sym, ap, ap₂, subst₂, ◌∙◌}
 use mathlib.Core.Bool.{Bool, true, false}
 use mathlib.Core.List.{List, ◌++◌}
-use mathlib.Core.Option.{none}
+use Rattle.std.specs.Prelude.{None}
 use Prim.Native.Nat.{ℕ, ◌+◌}
 use native.Mathlib.Omega.{arith}
 use lib.ListN.{length}
@@ -121,7 +121,7 @@ elect-grows r words q =
     (g.0, ap (λ (f : F.FoldedOffice). f.held.log) (elect-state r words q) ∙ g.1, g.2 ∙ sym D.counted)
 
 -- "until no entry wins"
-pub elect-ends : (r : Record) (words : List ℕ) → (elect_of r words).number ≡ 0 → winner_of (elect_of r words).«record» (elect_words r words) ≡ none
+pub elect-ends : (r : Record) (words : List ℕ) → (elect_of r words).number ≡ 0 → winner_of (elect_of r words).«record» (elect_words r words) ≡ None
 unfolding with_folded_elect
 elect-ends r words q =
     let D = elect-done r words q in

@@ -10,7 +10,7 @@
 -- Assumes nothing.
 use mathlib.Core.Path.{◌≡◌, refl, sym, ap, subst, ◌∙◌}
 use mathlib.Core.List.{List, map}
-use mathlib.Core.Option.{none, some}
+use Rattle.std.specs.Prelude.{None, Some}
 use Prim.Native.Nat.{ℕ, ◌+◌, ◌-◌, ◌<◌}
 use native.Mathlib.Omega.{arith}
 use lib.ListN.{length, get_or, take, set}
@@ -57,12 +57,12 @@ settled_is r words S e bs q x p =
 
 -- the record after a step
 module _ (counts : List ℕ) (r : Record) (words : List ℕ) (S : Stepping r words) where
-  pub step-won : (e : ℕ) → winner_in counts (state_in r) words ≡ some e → (settled_in r e ≡ step_in counts r words) × (set words (held_length r) e ≡ step_words_in counts r words)
+  pub step-won : (e : ℕ) → winner_in counts (state_in r) words ≡ Some e → (settled_in r e ≡ step_in counts r words) × (set words (held_length r) e ≡ step_words_in counts r words)
   step-won e w =
       let m = E.step-won counts (state_in r) words e w _ refl _ refl in
       (ap (with_state r) m.0, m.1)
 
-  pub step-nobody : winner_in counts (state_in r) words ≡ none → (r ≡ step_in counts r words) × (words ≡ step_words_in counts r words)
+  pub step-nobody : winner_in counts (state_in r) words ≡ None → (r ≡ step_in counts r words) × (words ≡ step_words_in counts r words)
   step-nobody w =
       let m = E.step-nobody counts (state_in r) words w in
       let whole : r.settled ≡ r.kept.dropped + held_length r = omega (arith, S.within) in

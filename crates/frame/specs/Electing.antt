@@ -1,6 +1,6 @@
 -- "Elect repeats this step until no entry wins, and answers how many entries it settled, 0 included." Assumes nothing.
 use Rattle.std.specs.Prelude.{ℕ, Bool, List}
-use Rattle.std.proofs.Math.Option.{Option}
+use Rattle.std.specs.Prelude.{Option}
 use Rattle.lists.specs.Tests.{pick}
 use Rattle.protocol.specs.Counts.{quieter}
 use Rattle.protocol.specs.Vote.{Rule}

@@ -5,8 +5,10 @@ ghost use Rattle.frame.specs.Stepping.{Stepping, step_in, step_words_in};
 
 use crate::Record;
 use ballots::Ballot;
-use tallies::Winner;
+use refusals::Refusal;
+use tallies::Step;
 
+// C has it as it lies here, so it holds the number and is no `Result`.
 #[repr(C)]
 #[derive(Clone, Copy)]
 pub struct Elected {
@@ -26,36 +28,37 @@ impl Record {
     {
         let held = self.held();
         let n = self.n;
-        let summary = self.summary;
-        let present = summary.present;
-        let mut next = self;
-        let none = tallies::NO_VOTE;
-        let mut votes = [none; 8];
+        let mut votes = [None; 8];
+        for (i, b) in self.ballots[..n].iter().enumerate() {
+            votes[i] = votes::vote(*b);
+        }
+        let election = Step {
+            n,
+            votes,
+            weights: self.summary.present,
+            counts,
+        };
+        let Some(entry) = election.winner() else {
+            return self;
+        };
+        log[held] = entry;
+        let mut next = Record {
+            settled: self.settled + 1,
+            summary: self.summary.next(entry),
+            ..self
+        };
+        // Tried with iter_mut: the proof did not close.
         for i in 0..n {
             let b = next.ballots[i];
-            votes[i] = votes::vote(b);
-        }
-        let w = tallies::find_winner(votes, present, counts, n);
-        match w {
-            Winner::Nobody => next,
-            Winner::Entry(e) => {
-                log[held] = e;
-                next.settled = next.settled + 1;
-                let after = summary.next(e);
-                next.summary = after;
-                for i in 0..n {
-                    let b = next.ballots[i];
-                    if b.len > 0 {
-                        if votes::vote(b) == e {
-                            next.ballots[i] = votes::without_first(b);
-                        } else {
-                            next.ballots[i] = Ballot::none();
-                        }
-                    }
+            if b.len > 0 {
+                if votes::vote(b) == Some(entry) {
+                    next.ballots[i] = votes::without_first(b);
+                } else {
+                    next.ballots[i] = Ballot::none();
                 }
-                next
             }
         }
+        next
     }
 
     // Elect repeats the election step until no entry wins, and answers how many entries it settled.
@@ -65,15 +68,15 @@ impl Record {
         if !self.sound(&log[..]) {
             return Elected {
                 record: self,
-                number: 1,
+                number: Refusal::Unsound.number(),
                 count: 0,
             };
         }
         let start = self.held();
-        let behind = self.kept.counts;
-        let mut counts = counting::counts_after(behind, &log[..start]);
+        let mut counts = counting::counts_after(self.kept.counts, &log[..start]);
         let mut now = self;
         let mut count: usize = 0;
+        // No walk over places: it ends with the step that settles nothing.
         loop {
             let before = now.settled;
             now = now.step(counts, log);

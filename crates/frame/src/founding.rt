@@ -2,12 +2,15 @@
 ghost use Rattle.std.specs.Prelude.{◌≡◌};
 ghost use Rattle.frame.specs.State.{fresh_record, zero_record};
 ghost use Rattle.frame.specs.Founding.{found_of};
+ghost use Rattle.refusals.specs.Refusals.{number_of};
 
 use crate::Record;
 use ballots::Ballot;
 use kept::Kept;
+use refusals::Refusal;
 use summary::Summary;
 
+// C has it as it lies here, so it holds the number and is no `Result`.
 #[repr(C)]
 #[derive(Clone, Copy)]
 pub struct Founded {
@@ -19,27 +22,26 @@ pub struct Founded {
 fn fresh(n: usize, own: usize, weights: [u16; 8]) -> Record
     ensures { result ≡ fresh_record n own weights }
 {
-    let none = Ballot::none();
-    let kept = Kept::nothing(weights);
-    let summary = Summary::start(weights);
     Record {
         n,
         own,
         weights,
-        kept,
+        kept: Kept::nothing(weights),
         noted: [0; 8],
-        summary,
+        summary: Summary::start(weights),
         settled: 0,
-        ballots: [none; 8],
+        ballots: [Ballot::none(); 8],
     }
 }
 
-// The answer of a refused founding: all zero.
-fn refused(number: u32) -> Founded
-    ensures { result ≡ record { number = number; «record» = zero_record } }
+// The answer of a refused founding: all zero behind the number.
+fn refused(why: Refusal) -> Founded
+    ensures { result ≡ record { number = number_of why; «record» = zero_record } }
 {
-    let record = fresh(0, 0, [0; 8]);
-    Founded { record, number }
+    Founded {
+        record: fresh(0, 0, [0; 8]),
+        number: why.number(),
+    }
 }
 
 impl Record {
@@ -48,12 +50,14 @@ impl Record {
         ensures { result ≡ found_of n own weights log.now }
     {
         if log.len() < Record::LOG {
-            return refused(1);
+            return refused(Refusal::Unsound);
         }
         if !limits::head_fine(n, own, weights) {
-            return refused(2);
+            return refused(Refusal::Founding);
         }
-        let record = fresh(n, own, weights);
-        Founded { record, number: 0 }
+        Founded {
+            record: fresh(n, own, weights),
+            number: 0,
+        }
     }
 }

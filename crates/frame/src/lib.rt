@@ -17,6 +17,7 @@ pub mod founding;
 // n offices with their founding weights, the own office, what is kept of the dropped entries, the longest settled length in accepted messages of
 // each other office, what the settled log has done (the present weights, the settled codes), the settled length, dropped entries included, and each
 // office's ballot. The settled entries that are not dropped are the log's first words.
+// C has it so: n beside arrays of eight.
 #[repr(C)]
 #[derive(Clone, Copy)]
 pub struct Record {
@@ -47,20 +48,15 @@ impl Record {
     pub fn sound(self, log: &[u32]) -> bool
         ensures { result ≡ sound_b self log.now }
     {
-        let weights = self.weights;
-        let kept = self.kept;
-        let noted = self.noted;
-        let summary = self.summary;
-        let ballots = self.ballots;
         soundness::sound(
             self.n,
             self.own,
-            weights,
-            kept,
-            noted,
-            summary,
+            self.weights,
+            self.kept,
+            self.noted,
+            self.summary,
             self.settled,
-            ballots,
+            self.ballots,
             log,
         )
     }

@@ -4,6 +4,7 @@
 ghost use Rattle.std.specs.Prelude.{◌≡◌, ◌≤◌};
 ghost use Rattle.spelling.specs.Spelling.{length_place, dropped_place, head_size};
 
+// Three places of one head, each by its name: one function of a number would not say which field it is. n is at most 8 in each.
 // Where the settled length stands in the head of n offices. The three are public only for the crates above, which prove that n is at most 8.
 pub fn length_place(n: usize) -> usize
     requires { n ≤ 8 }

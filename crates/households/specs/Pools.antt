@@ -1,5 +1,5 @@
 -- The weights of households by line: which lines are met, and the sum under each. A weight of 0 makes its line met. Assumes nothing.
-use Rattle.std.specs.Prelude.{Bool, true, false, ℕ, ◌+◌, get_or, set, replicate}
+use Rattle.std.specs.Prelude.{Option, Some, None, Bool, true, false, ℕ, ◌+◌, get_or, set, replicate}
 use mathlib.Core.List.{List, foldl}
 use Rattle.lists.specs.Tests.{pick}
 use Rattle.households.specs.Households.{Household, are_households, households_in}
@@ -27,8 +27,5 @@ none_met = replicate 64 false
 abbrev pub no_totals : List ℕ
 no_totals = replicate 64 0
 
-abbrev pub no_pools : Pools
-no_pools = record { ok = false; met = none_met; totals = no_totals }
-
-unfoldable pub pools_of : List ℕ → Pools
-pools_of s = pick (are_households s) (record { ok = true; met = met_after none_met (households_in s); totals = totals_after no_totals (households_in s) }) no_pools
+unfoldable pub pools_of : List ℕ → Option Pools
+pools_of s = pick (are_households s) (Some (record { met = met_after none_met (households_in s); totals = totals_after no_totals (households_in s) })) None

@@ -50,16 +50,20 @@ fn take_aligned(
     ensures words { log.new ≡ words_with (aligned_take log.old state own (run_at 6 record_at k rest.now) sender offers).log
         log.old }
 {
-    let summary = state.summary;
-    let held = state.held;
-    let ballots = state.ballots;
-    let end = catch_up(log, held, rest, k);
-    let next = merging::merge(ballots, offers, own, sender, &log[held..end], &log[k..end]);
-    let after = summary.after(&log[held..end]);
+    let end = catch_up(log, state.held, rest, k);
+    let ballots = merging::merge(
+        state.ballots,
+        offers,
+        own,
+        sender,
+        &log[state.held..end],
+        &log[k..end],
+    );
+    let summary = state.summary.after(&log[state.held..end]);
     State {
-        summary: after,
+        summary,
         held: end,
-        ballots: next,
+        ballots,
     }
 }
 
@@ -71,27 +75,26 @@ pub fn take_in(
     kept: Kept,
     own: usize,
     rest: &[u8],
-    m: Reading,
+    m: &Reading,
 ) -> Intaken
-    requires { Ready log.old state kept rest.now m }
-    ensures made { result ≡ intaken_of log.old state kept own rest.now m }
-    ensures words { log.new ≡ words_with (taken_in log.old state kept own rest.now m).log log.old }
+    requires { Ready log.old state kept rest.now m.now }
+    ensures made { result ≡ intaken_of log.old state kept own rest.now m.now }
+    ensures words { log.new ≡ words_with (taken_in log.old state kept own rest.now m.now).log log.old }
 {
-    let held = state.held;
-    let offers = m.ballots;
     let ahead = comparing::later(m.dropped, kept.dropped);
     let behind = comparing::later(kept.dropped, m.dropped);
-    let mut aligned = state;
-    aligned.held = held - ahead;
-    let from = 6 * behind;
-    let remains = kept.drop_first(log, held, ahead);
+    let aligned = State {
+        held: state.held - ahead,
+        ..state
+    };
+    let remains = kept.drop_first(log, state.held, ahead);
     let next = take_aligned(
         log,
         aligned,
         own,
         m.sender,
-        offers,
-        &rest[from..],
+        m.ballots,
+        &rest[6 * behind..],
         m.held - behind,
     );
     Intaken {

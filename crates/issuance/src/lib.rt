@@ -1,8 +1,9 @@
-// The number of an issue, by what it is asked of: the offices, the line and the code, the lengths and the own ballot; and the own ballot with
+// Whether an issue may be, by what it is asked of: the offices, the line and the code, the lengths and the own ballot; and the own ballot with
 // the entry. Public only for the crate above, which proves what the functions require.
 #![tactic(auto)]
 
 ghost use Rattle.std.specs.Prelude.{◌≡◌, ◌<◌, ◌≤◌};
+ghost use Rattle.refusals.specs.Refusals.{number_in};
 ghost use Rattle.protocol.specs.Entry.{value};
 ghost use Rattle.protocol.specs.Counts.{count_in};
 ghost use Rattle.protocol.specs.Issue.{refusal_at};
@@ -10,10 +11,12 @@ ghost use Rattle.protocol.specs.Limits.{length_limit};
 ghost use Rattle.ballots.specs.Ballots.{tail_of, pushed};
 
 use ballots::Ballot;
+use refusals::Refusal;
 
-// The number of an issue by office `own` of n, on a sound record with this settled length, this length of the undropped part and this own
-// ballot.
-pub fn refusal(
+// Whether office `own` of n may issue, on a sound record with this settled length, this length of the undropped part and this own ballot; or why
+// not.
+// The record's fields are handed over one by one, since its type is declared in a crate above.
+pub fn allowed(
     n: usize,
     own: usize,
     line: u32,
@@ -21,26 +24,24 @@ pub fn refusal(
     settled: u64,
     held: usize,
     b: Ballot,
-) -> u32
+) -> Result<(), Refusal>
     requires { (1 ≤ n) × ((n ≤ 8) × ((own < 8) × ((settled ≤ length_limit) × ((held ≤ 1024) × (b.len ≤ 32))))) }
-    ensures { result ≡ refusal_at n line code settled held b.len (count_in own (tail_of b)) }
+    ensures { number_in result ≡ refusal_at n line code settled held b.len (count_in own (tail_of b)) }
 {
     if !entries::proper(n as u32, line, code) {
-        return 3;
+        return Err(Refusal::NoEntry);
     }
-    let len = b.len;
-    if held + len == Ballot::PATH {
-        return 5;
+    if held + b.len == Ballot::PATH {
+        return Err(Refusal::LogFull);
     }
-    if settled + len as u64 == lengths::LIMIT {
-        return 5;
+    if settled + b.len as u64 == lengths::LIMIT {
+        return Err(Refusal::LogFull);
     }
-    let cells = b.cells;
-    let counts = counting::in_words(&cells[..len]);
+    let counts = counting::in_words(&b.cells[..b.len]);
     if counts[own] as usize >= Ballot::CELLS / n {
-        return 11;
+        return Err(Refusal::PartFull);
     }
-    0
+    Ok(())
 }
 
 // The ballot with the entry of this office, line and code.

@@ -6,7 +6,9 @@ ghost use Rattle.issuing.specs.Issuing.{with_own, issue_of};
 
 use ballots::Ballot;
 use frame::Record;
+use refusals::Refusal;
 
+// C has it as it lies here, so it holds the number and is no `Result`.
 #[repr(C)]
 #[derive(Clone, Copy)]
 pub struct Issued {
@@ -32,24 +34,20 @@ pub fn issue(office: Record, log: &[u32], line: u32, code: u32) -> Issued
     if !office.sound(log) {
         return Issued {
             record: office,
-            number: 1,
+            number: Refusal::Unsound.number(),
         };
     }
     let own = office.own;
-    let ballots = office.ballots;
-    let b = ballots[own];
+    let b = office.ballots[own];
     let held = (office.settled - office.kept.dropped) as usize;
-    let number = issuance::refusal(office.n, own, line, code, office.settled, held, b);
-    if number != 0 {
-        return Issued {
+    match issuance::allowed(office.n, own, line, code, office.settled, held, b) {
+        Ok(()) => Issued {
+            record: with_own(office, issuance::issued(b, own, line, code)),
+            number: 0,
+        },
+        Err(refusal) => Issued {
             record: office,
-            number,
-        };
-    }
-    let longer = issuance::issued(b, own, line, code);
-    let next = with_own(office, longer);
-    Issued {
-        record: next,
-        number: 0,
+            number: refusal.number(),
+        },
     }
 }

@@ -16,26 +16,14 @@ pub struct Kept {
     pub counts: [u64; 8],
 }
 
-// The words from place k on, up to the held length, moved to the front; nothing else is written.
-fn move_down(log: &mut [u32], held: usize, k: usize)
-    requires { (k ≤ held) × (held ≤ length log.old) }
-    ensures { log.new ≡ words_with (drop k (take held log.old)) log.old }
-{
-    for i in 0..(held - k) {
-        let word = log[k + i];
-        log[i] = word;
-    }
-}
-
 impl Kept {
     // Of no entries, in a frame with these founding weights.
     pub fn nothing(founding: [u16; 8]) -> Kept
         ensures { result ≡ kept_nothing founding }
     {
-        let summary = Summary::start(founding);
         Kept {
             dropped: 0,
-            summary,
+            summary: Summary::start(founding),
             counts: [0; 8],
         }
     }
@@ -45,15 +33,10 @@ impl Kept {
         requires { Roomy self (length words.now) }
         ensures { result ≡ kept_after self words.now }
     {
-        let dropped = self.dropped + words.len() as u64;
-        let before = self.summary;
-        let had = self.counts;
-        let summary = before.after(words);
-        let counts = counting::counts_after(had, words);
         Kept {
-            dropped,
-            summary,
-            counts,
+            dropped: self.dropped + words.len() as u64,
+            summary: self.summary.after(words),
+            counts: counting::counts_after(self.counts, words),
         }
     }
 
@@ -68,7 +51,7 @@ impl Kept {
             return self;
         }
         let kept = self.after(&log[..k]);
-        move_down(log, held, k);
+        log.copy_within(k..held, 0);
         kept
     }
 }

@@ -10,8 +10,8 @@ use lib.Dec.{eqb}
 use lib.ListN.{length, get_or, drop}
 use borrow.Author.Tests.{eqb-true, eq-eqb, ne_eqb}
 use Rattle.lists.proofs.Tests.{alike}
-use Rattle.protocol.specs.Limits.{total}
 use Rattle.limits.proofs.Sums.{sum-next, sum_done}
+use Rattle.protocol.specs.Limits.{total}
 
 -- what is left of x beside the whole sum is x beside the sum of what is left
 abbrev pub Left : ℕ → List ℕ → ℕ → ℕ → Type 0

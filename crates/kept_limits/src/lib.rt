@@ -9,29 +9,16 @@ ghost use Rattle.kept.specs.Kept.{is_kept_code, kept_fine};
 use kept::Kept;
 use summary::Summary;
 
-// Whether the counts from place n on are zero.
-fn no_counts_from(counts: [u64; 8], n: usize) -> bool
-    ensures { result ≡ all_b (eqb 0) (drop n counts) }
-{
-    for i in n..8 {
-        if counts[i] != 0 {
-            return false;
-        }
-    }
-    true
-}
-
 // Whether the counts add up to the dropped count: each is taken from what is left of it, since their sum may be past any number of 64 bits.
 fn add_up(counts: [u64; 8], dropped: u64) -> bool
     ensures { result ≡ eqb (total counts) dropped }
 {
     let mut left = dropped;
-    for i in 0..8 {
-        let count = counts[i];
-        if count > left {
+    for count in &counts {
+        if *count > left {
             return false;
         }
-        left = left - count;
+        left -= *count;
     }
     left == 0
 }
@@ -41,8 +28,8 @@ fn codes_fine(codes: [u32; 64]) -> bool
     ensures { result ≡ all_b is_kept_code codes }
 {
     let mut good = true;
-    for i in 0..64 {
-        good = good & (codes[i] <= entries::CODES);
+    for code in &codes {
+        good = good & (*code <= entries::CODES);
     }
     good
 }
@@ -51,26 +38,20 @@ fn codes_fine(codes: [u32; 64]) -> bool
 pub fn fine(kept: Kept, n: usize, founding: [u16; 8]) -> bool
     ensures { result ≡ kept_fine n founding kept }
 {
-    let dropped = kept.dropped;
-    let counts = kept.counts;
-    let summary = kept.summary;
-    let present = summary.present;
-    let codes = summary.codes;
-    if !add_up(counts, dropped) {
+    if !add_up(kept.counts, kept.dropped) {
         return false;
     }
-    if !no_counts_from(counts, n) {
+    if !kept.counts.iter().skip(n).all(|count| *count == 0) {
         return false;
     }
-    if !limits::zero_from(present, n) {
+    if !limits::zero_from(kept.summary.present, n) {
         return false;
     }
-    if dropped == 0 {
-        let start = Summary::start(founding);
-        return summary.same(start);
+    if kept.dropped == 0 {
+        return kept.summary == Summary::start(founding);
     }
-    if limits::total(present) != limits::total(founding) {
+    if limits::total(kept.summary.present) != limits::total(founding) {
         return false;
     }
-    codes_fine(codes)
+    codes_fine(kept.summary.codes)
 }

@@ -6,25 +6,25 @@ ghost use Rattle.protocol.specs.Entry.{line_of};
 ghost use Rattle.protocol.specs.Codes.{cell, of_cell};
 ghost use Rattle.protocol.specs.Frames.{edit_after};
 
+use settled_codes::cell_of;
+use words::line_of;
+
 // Whether the word is an entry for the line.
 fn is_for(word: u32, line: u32) -> bool
     ensures { result ≡ eqb (line_of word) line }
 {
-    word / 65536 % 256 == line
+    line_of(word) == line as usize
 }
 
 // The last edit of the line as it is stored (0 for no edit yet, else the code + 1), or the one before where no entry is for the line. The newest
-// entry is the likeliest, so the walk is from the end.
+// entry is the likeliest, so the walk is from the end. No `Option`: the one before is a code as a record has it for C.
 pub fn last_edit(words: &[u32], line: u32, before: u32) -> u32
     ensures { result ≡ cell (edit_after line (of_cell before) words.now) }
 {
-    let mut end = words.len();
-    while end > 0 {
-        let word = words[end - 1];
-        if is_for(word, line) {
-            return word % 65536 + 1;
+    for word in words.iter().rev() {
+        if is_for(*word, line) {
+            return cell_of(*word);
         }
-        end = end - 1;
     }
     before
 }

@@ -25,8 +25,9 @@ pub fn within(settled: u64, ballots: [Ballot; 8]) -> bool
     }
     let room = LIMIT - settled;
     let mut good = true;
-    for i in 0..8 {
-        good = good & (ballots[i].len as u64 <= room);
+    // The walk has no early end, so no `all`.
+    for ballot in &ballots {
+        good = good & (ballot.len as u64 <= room);
     }
     good
 }

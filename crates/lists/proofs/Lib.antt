@@ -4,5 +4,6 @@ pub mod Padded
 pub mod Stores
 pub mod Walk
 pub mod Fill
+pub mod Chains
 pub mod Fold
 pub mod Same

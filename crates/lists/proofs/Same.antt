@@ -1,13 +1,14 @@
--- The test whether two lists of numbers are the same: what it says, and a walk of it from the front. Assumes nothing.
-use mathlib.Core.Path.{◌≡◌, refl, sym, ap₂}
-use mathlib.Core.Bool.{true, false, true≢false}
+-- The test whether two lists of numbers are the same: what it says, and that `==` of two arrays is it. Assumes nothing.
+use mathlib.Core.Path.{◌≡◌, refl, sym, ap, ap₂, ◌∙◌}
+use mathlib.Core.Bool.{true, false, not, true≢false}
 use mathlib.Core.List.{List, [], ◌∷◌}
-use Prim.Native.Nat.{ℕ, ◌+◌, ◌<◌, ◌≤◌}
-use lib.ListN.{length, get_or, drop, drop_of_length-le}
-use borrow.Author.Tests.{eqb-true, eq-eqb, ne_eqb}
+use Prim.Native.Nat.{ℕ}
+use lib.Dec.{eqb}
+use borrow.Author.Tests.{eqb-true, eq-eqb, not-true, not-false}
+use Rattle.std.specs.Cmp.Lexicographic.{pointwise}
 use Rattle.lists.specs.Tests.{both, same}
 use Rattle.lists.proofs.Tests.{both-0, both-1, both_true}
-use Rattle.lists.proofs.Walk.{rest-step}
+use Rattle.lists.proofs.Walk.{and_both}
 
 pub same_true : (ws vs : List ℕ) → same ws vs ≡ true → ws ≡ vs
 unfolding same
@@ -21,15 +22,17 @@ unfolding same
 same_refl [] = refl
 same_refl (w ∷ ws) = both_true _ _ (eq-eqb w w refl) (same_refl ws)
 
-module _ (ws vs : List ℕ) (i : ℕ) (here : i < length ws) (there : i < length vs) where
-  pub same_next : get_or ws i 0 ≡ get_or vs i 0 → same (drop i ws) (drop i vs) ≡ same (drop (i + 1) ws) (drop (i + 1) vs)
-  unfolding same both
-  same_next e = rw (rest-step 0 ws i here, rest-step 0 vs i there, eq-eqb (get_or ws i 0) (get_or vs i 0) e)
-
-  pub same_stop : (get_or ws i 0 ≡ get_or vs i 0 → ⊥) → same (drop i ws) (drop i vs) ≡ false
-  unfolding same both
-  same_stop e = rw (rest-step 0 ws i here, rest-step 0 vs i there, ne_eqb (get_or ws i 0) (get_or vs i 0) e)
-
-pub same-done : (ws vs : List ℕ) (i : ℕ) → length ws ≤ i → length vs ≤ i → same (drop i ws) (drop i vs) ≡ true
+-- what `==` of two arrays answers
+pub same_is : (ws vs : List ℕ) → pointwise eqb ws vs ≡ same ws vs
 unfolding same
-same-done ws vs i h l = rw (drop_of_length-le ws h, drop_of_length-le vs l)
+same_is [] [] = refl
+same_is [] (v ∷ vs) = refl
+same_is (w ∷ ws) [] = refl
+same_is (w ∷ ws) (v ∷ vs) = and_both (eqb w v) (pointwise eqb ws vs) ∙ ap (both (eqb w v)) (same_is ws vs)
+
+-- the same of `!=`
+pub same_not : (ws vs : List ℕ) → not (pointwise eqb ws vs) ≡ true → same ws vs ≡ false
+same_not ws vs e = sym (same_is ws vs) ∙ not-true (pointwise eqb ws vs) e
+
+pub same_still : (ws vs : List ℕ) → not (pointwise eqb ws vs) ≡ false → same ws vs ≡ true
+same_still ws vs e = sym (same_is ws vs) ∙ not-false (pointwise eqb ws vs) e

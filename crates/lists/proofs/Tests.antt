@@ -1,5 +1,6 @@
 -- What a test that is a conjunction, a choice, or a test of every element says, and what lists that are mapped or set keep of it.
 --     both-0, both-1, both_true    a conjunction and its two parts
+--     both-then, both-else         what the code's `&&` answers by its first part
 --     alike                        two tests that hold in the same cases
 --     both-comm, both-assoc, both-swap     conjunctions in any order
 --     pick_true, pick-false        a choice whose test is known
@@ -41,6 +42,15 @@ pub both-false-1 : (a b : Bool) → b ≡ false → both a b ≡ false
 unfolding both
 both-false-1 true b p = p
 both-false-1 false b p = refl
+
+-- `a && b`: where a holds, b decides; where it fails, that is the answer
+pub both-then : {a b : Bool} → a ≡ true → b ≡ both a b
+unfolding both
+both-then p = rw p
+
+pub both-else : {a : Bool} (b : Bool) → a ≡ false → a ≡ both a b
+unfolding both
+both-else b p = rw p
 
 -- two tests that hold in the same cases
 pub alike : (a b : Bool) → (a ≡ true → b ≡ true) → (b ≡ true → a ≡ true) → a ≡ b

@@ -1,14 +1,14 @@
--- A walk that tests whether one list extends another: after i equal elements the rests answer as the lists do. Assumes nothing.
-use mathlib.Core.Path.{◌≡◌, refl, sym}
-use mathlib.Core.Bool.{Bool, true, false}
-use mathlib.Core.List.{List}
-use Prim.Native.Nat.{ℕ, ◌+◌, ◌<◌, ◌≤◌}
+-- A list that is longer than another extends it exactly if it starts with it, and one that is not longer extends nothing. Assumes nothing.
+use mathlib.Core.Path.{◌≡◌, refl, ap}
+use mathlib.Core.Bool.{Bool, true, false, ◌&&◌}
+use mathlib.Core.List.{List, [], ◌∷◌}
+use Prim.Native.Nat.{ℕ, ◌<◌, ◌≤◌}
 use native.Mathlib.Omega.{arith}
-use lib.ListN.{length, get_or, drop, drop_of_length-le}
-use borrow.Author.Tests.{eq-eqb, ne_eqb}
+use lib.Dec.{eqb}
+use lib.ListN.{length}
+use Rattle.std.specs.List.{starts_with}
 use Rattle.protocol.specs.Beginning.{extends}
 use Rattle.protocol_laws.proofs.Beginning.{⊏-length, extends-true}
-use Rattle.lists.proofs.Walk.{rest-step}
 
 -- a list that is not longer extends nothing
 pub not-longer : (t ws : List ℕ) → length t ≤ length ws → extends t ws ≡ false
@@ -18,15 +18,10 @@ not-longer t ws h = go (extends t ws) refl
     go false e = refl
     go true e = absurd (omega (arith, ⊏-length ws t (extends-true t ws e)))
 
-module _ (t ws : List ℕ) (i : ℕ) (longer : length ws < length t) where
-  pub extends-next : i < length ws → get_or t i 0 ≡ get_or ws i 0 → extends (drop i t) (drop i ws) ≡ extends (drop (i + 1) t) (drop (i + 1) ws)
-  unfolding extends
-  extends-next h e = rw (rest-step 0 t i (omega arith), rest-step 0 ws i h, eq-eqb (get_or ws i 0) (get_or t i 0) (sym e))
+pub longer-starts : (t ws : List ℕ) → length ws < length t → starts_with eqb t ws ≡ extends t ws
+unfolding extends
+longer-starts [] ws h = absurd (omega arith)
+longer-starts (y ∷ t) [] h = refl
+longer-starts (y ∷ t) (x ∷ ws) h = ap (λ (b : Bool). eqb x y && b) (longer-starts t ws (omega arith))
 
-  pub extends-stop : i < length ws → (get_or t i 0 ≡ get_or ws i 0 → ⊥) → extends (drop i t) (drop i ws) ≡ false
-  unfolding extends
-  extends-stop h e = rw (rest-step 0 t i (omega arith), rest-step 0 ws i h, ne_eqb (get_or ws i 0) (get_or t i 0) (λ d. e (sym d)))
-
-  pub extends-done : i ≡ length ws → extends (drop i t) (drop i ws) ≡ true
-  unfolding extends
-  extends-done h = rw (rest-step 0 t i (omega arith), drop_of_length-le ws {i = i} (omega arith))
+pub ruleset longer = (not-longer, longer-starts)

@@ -5,16 +5,9 @@ ghost use Rattle.std.specs.Prelude.{◌≡◌};
 ghost use Rattle.protocol.specs.Beginning.{extends};
 
 // Whether the tail begins with the words and is longer.
+#[tactic(auto, using(crate::proofs::Walks::longer))]
 pub fn extends(tail: &[u32], words: &[u32]) -> bool
     ensures { result ≡ extends tail.now words.now }
 {
-    if tail.len() <= words.len() {
-        return false;
-    }
-    for i in 0..words.len() {
-        if tail[i] != words[i] {
-            return false;
-        }
-    }
-    true
+    tail.len() > words.len() && tail.starts_with(words)
 }

@@ -4,7 +4,7 @@ use mathlib.Core.Path.{◌≡◌, refl, sym, ap, ap₂, subst, subst₂, ◌∙�
 use mathlib.Core.List.{List, [], ◌∷◌, ◌++◌, append-nil, append_assoc}
 use mathlib.Core.Bool.{Bool, true, false, true≢false}
 use mathlib.Core.Logic.{◌⊎◌, inl, inr}
-use mathlib.Core.Option.{Option, some}
+use Rattle.std.specs.Prelude.{Option, Some}
 use Prim.Native.Nat.{ℕ}
 use native.Mathlib.Omega.{arith}
 use Rattle.protocol.specs.Beginning.{◌⊑◌, begins}
@@ -25,7 +25,7 @@ pub parts-value : (e : ℕ) → value (office_of e) (line_of e) (code_of e) ≡ 
 parts-value e = omega arith
 
 -- what an office says
-office-is : (w : World) (k : ℕ) (d : Replica) → replica_at w k ≡ some d → office_at w k ≡ says d
+office-is : (w : World) (k : ℕ) (d : Replica) → replica_at w k ≡ Some d → office_at w k ≡ says d
 office-is w k d e = ap (λ (x : Option Replica). on_some x fresh says) e
 
 module _ (n : ℕ) (ws : List ℕ) (start : World) (f : Founded n ws start) (cs : List Call) where
@@ -51,7 +51,7 @@ module _ (n : ℕ) (ws : List ℕ) (start : World) (f : Founded n ws start) (cs 
         let split : next ++ lost.later ≡ cs = append_assoc lost.earlier (lost.c ∷ []) lost.later ∙ lost.listed in
         nowhere (order start cs) (rw (log_is (after start next) k) ((one-order n ws start f cs).logs next lost.later split k))
 
-    never_back : (between : List Call) (d : Replica) → replica_at (after start (lost.earlier ++ (lost.c ∷ between))) k ≡ some d
+    never_back : (between : List Call) (d : Replica) → replica_at (after start (lost.earlier ++ (lost.c ∷ between))) k ≡ Some d
         → (j : ℕ) → (p ++ (e ∷ [])) ⊑ path (says d) j → ⊥
     never_back between d here j =
         let o : Office = office_at (after start next) k in

@@ -4,10 +4,11 @@
 -- Assumes nothing.
 use mathlib.Core.Path.{◌≡◌, refl, sym, ap, subst, subst₂, ◌∙◌}
 use mathlib.Core.List.{List, [], ◌∷◌, ◌++◌, map, append-nil, append_assoc}
-use mathlib.Core.Option.{Option, none, some}
+use Rattle.std.specs.Prelude.{Option, None, Some}
 use Prim.Native.Nat.{ℕ, zero, suc, ◌<◌}
 use native.Mathlib.Omega.{arith}
-use lib.ListN.{length, set, get_elem?, get_or-eq_default, length-map}
+use lib.ListN.{length, set, get_or-eq_default, length-map}
+use Rattle.std.specs.Prelude.{slice_get}
 use lib.Seq.{get_or-set_same}
 use Rattle.protocol.specs.Entry.{value}
 use Rattle.protocol.specs.Issue.{with_issue}
@@ -38,7 +39,7 @@ unfolding after
 after_one w a c = after-append w a (c ∷ [])
 
 -- an element that was set
-pub set_at : {A : Type 0} (l : List A) (i : ℕ) (x : A) → i < length l → get_elem? (set l i x) i ≡ some x
+pub set_at : {A : Type 0} (l : List A) (i : ℕ) (x : A) → i < length l → slice_get (set l i x) i ≡ Some x
 set_at [] i x h = absurd (omega arith)
 set_at (y ∷ l) zero x h = refl
 set_at (y ∷ l) (suc i) x h = set_at l i x (omega arith)
@@ -52,24 +53,24 @@ office-at : (w : World) (k : ℕ) → P.at (view w) k ≡ office_at w k
 office-at w k = go (replica_at w k) refl
   where
     go : (x : Option Replica) → replica_at w k ≡ x → P.at (view w) k ≡ on_some x fresh says
-    go none e =
+    go None e =
         S.view-at (shape w) k
         ∙ ap F.whole_desk (get_or-eq_default (map desk_of w.replicas) (F.new_desk []) (rw length-map (not_there w.replicas k e)))
-    go (some d) e = view-at w k d e
+    go (Some d) e = view-at w k d e
 
 pub log_is : (w : World) (k : ℕ) → (office_at w k).log ≡ log_at w k
 log_is w k = go (replica_at w k)
   where
     go : (x : Option Replica) → (on_some x fresh says).log ≡ on_some x [] (λ d. (says d).log)
-    go none = refl
-    go (some d) = refl
+    go None = refl
+    go (Some d) = refl
 
 pub path-is : (n : ℕ) (ws : List ℕ) (w : World) → SoundWorld n ws w → (k : ℕ) → path (office_at w k) k ≡ view_at w k
 path-is n ws w s k = go (replica_at w k) refl
   where
     go : (x : Option Replica) → replica_at w k ≡ x → path (on_some x fresh says) k ≡ on_some x [] (λ d. path (says d) d.held.own)
-    go none e = fresh-path k
-    go (some d) e = ap (path (says d)) (sym (s.each k d e).own)
+    go None e = fresh-path k
+    go (Some d) e = ap (path (says d)) (sym (s.each k d e).own)
 
 -- ── every list of calls ──
 module _ (n : ℕ) (ws : List ℕ) (start : World) (f : Founded n ws start) where
@@ -104,7 +105,7 @@ module _ (n : ℕ) (ws : List ℕ) (start : World) (f : Founded n ws start) wher
       let w : World = after start cs in
       let replica = find w.replicas k (omega (arith, f.offices, (sound cs).offices)) in
       let d : Replica = replica.0 in
-      let here : replica_at w k ≡ some d = replica.1 in
+      let here : replica_at w k ≡ Some d = replica.1 in
       let m = (sound cs).each k d here in
       let is : office_at w k ≡ says d = ap (λ (x : Option Replica). on_some x fresh says) here in
       let moved : after start (cs ++ (issue k line code ∷ [])) ≡ put w k (issued d line code) =

@@ -4,7 +4,7 @@ use mathlib.Core.Path.{◌≡◌, refl, sym, ap, ap₂, subst, subst₂, ◌∙�
 use mathlib.Core.Bool.{true, true≢false}
 use mathlib.Core.List.{List, [], ◌∷◌, ◌++◌, append-nil}
 use mathlib.Core.Logic.{◌⊎◌, ◌↔◌, inl, inr}
-use mathlib.Core.Option.{Option, none, some}
+use Rattle.std.specs.Prelude.{Option, None, Some}
 use Prim.Native.Nat.{ℕ, ◌-◌}
 use native.Mathlib.Omega.{arith}
 use Rattle.protocol.specs.Beginning.{◌⊑◌}
@@ -42,9 +42,9 @@ no-message d e = record {
 }
 
 -- the replica that a call put there
-is-put : (w v : World) (k : ℕ) (d d' x : Replica) → replica_at w k ≡ some d → v ≡ put w k x → replica_at v k ≡ some d' → x ≡ d'
+is-put : (w v : World) (k : ℕ) (d d' x : Replica) → replica_at w k ≡ Some d → v ≡ put w k x → replica_at v k ≡ Some d' → x ≡ d'
 is-put w v k d d' x here e left =
-    let there : some x ≡ some d' = sym (set_at w.replicas k x (there w.replicas k d here)) ∙ ap (λ (u : World). replica_at u k) (sym e) ∙ left in
+    let there : Some x ≡ Some d' = sym (set_at w.replicas k x (there w.replicas k d here)) ∙ ap (λ (u : World). replica_at u k) (sym e) ∙ left in
     cc
 
 module _ (n : ℕ) (ws : List ℕ) (start : World) (f : Founded n ws start) (cs : List Call) (k : ℕ) (d d' : Replica) (x : CalledAt start cs k d d') where
@@ -70,12 +70,12 @@ module _ (n : ℕ) (ws : List ℕ) (start : World) (f : Founded n ws start) (cs 
   left = go x.is
     where
       by-take : (m : ℕ) → x.c ≡ take k m → (y : Option Posted) → message_at w m ≡ y → Left d d'
-      by-take m e none q =
+      by-take m e None q =
           let still : w' ≡ w = moved (take k m) e ∙ ap₂ by_take x.was q in
-          let same : some d ≡ some d' = sym x.was ∙ ap (λ (u : World). replica_at u k) (sym still) ∙ x.left in
+          let same : Some d ≡ Some d' = sym x.was ∙ ap (λ (u : World). replica_at u k) (sym still) ∙ x.left in
           let z : d ≡ d' = cc in
           subst (Left d) z (no-message d sound-before)
-      by-take m e (some b) q =
+      by-take m e (Some b) q =
           let to : w' ≡ put w k (W.taken d b.bytes) = moved (take k m) e ∙ ap₂ by_take x.was q in
           subst (Left d) (is-put w w' k d d' (W.taken d b.bytes) x.was to x.left) (record { called = took b.bytes refl refl; former = refl })
 

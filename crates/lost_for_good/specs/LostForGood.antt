@@ -7,7 +7,7 @@
 -- What would be false, by lists of calls that are computed: worked_histories, proofs/LostEdits.antt. A settled log and a path begin with what their
 -- office had dropped by then, and an entry is known by its place: e behind p, the entries before it. Assumes nothing.
 use Rattle.std.specs.Prelude.{◌≡◌, List, [], ◌∷◌, ◌++◌, Bool, false, ◌⊎◌, ◌↔◌, ℕ, ◌+◌, ◌≤◌, eqb, ltb, length}
-use Rattle.std.proofs.Math.Option.{some}
+use Rattle.std.specs.Prelude.{Some}
 use Rattle.lists.specs.Tests.{both, pick, times}
 use Rattle.protocol.specs.Entry.{value, office_of, line_of, code_of}
 use Rattle.protocol.specs.Beginning.{◌⊑◌}
@@ -49,7 +49,7 @@ pub record LostForGood (start : World) (cs : List Call) : Type 0 where
   pub not-ordered : (k : ℕ) (p : List ℕ) (e : ℕ) → LostIn start cs k p e → (p ++ (e ∷ [])) ⊑ order start cs → ⊥
   -- and after the call no path of that office has it there again, neither its own nor one that it holds of another office
   pub never_back : (k : ℕ) (p : List ℕ) (e : ℕ) (lost : LostIn start cs k p e) (between rest : List Call) → between ++ rest ≡ lost.later → (d : Replica)
-      → replica_at (after start (lost.earlier ++ (lost.c ∷ between))) k ≡ some d → (j : ℕ) → (p ++ (e ∷ [])) ⊑ path (says d) j → ⊥
+      → replica_at (after start (lost.earlier ++ (lost.c ∷ between))) k ≡ Some d → (j : ℕ) → (p ++ (e ∷ [])) ⊑ path (says d) j → ⊥
 
 pub record NotLost (start : World) (cs : List Call) : Type 0 where
   -- right after its done issue an entry is pending
@@ -64,7 +64,7 @@ pub record NotLost (start : World) (cs : List Call) : Type 0 where
 -- it and d' after it, nothing is pending or nothing is lost
 abbrev pub AllOrNone : World → List Call → Type 0
 AllOrNone start cs = (earlier later : List Call) (c : Call) → earlier ++ (c ∷ later) ≡ cs → (k : ℕ) (d d' : Replica)
-    → replica_at (after start earlier) k ≡ some d → replica_at (after start (earlier ++ (c ∷ []))) k ≡ some d'
+    → replica_at (after start earlier) k ≡ Some d → replica_at (after start (earlier ++ (c ∷ []))) k ≡ Some d'
     → (pending_of k (says d) (says d') ≡ []) ⊎ (lost_of k (says d) (says d') ≡ [])
 
 -- ── what is told ──
@@ -75,8 +75,8 @@ pub record CalledAt (start : World) (cs : List Call) (k : ℕ) (d d' : Replica) 
   pub later : List Call
   pub listed : earlier ++ (c ∷ later) ≡ cs
   pub is : ((m : ℕ) × (c ≡ take k m)) ⊎ ((c ≡ elect k) ⊎ (c ≡ fold k))
-  pub was : replica_at (after start earlier) k ≡ some d
-  pub left : replica_at (after start (earlier ++ (c ∷ []))) k ≡ some d'
+  pub was : replica_at (after start earlier) k ≡ Some d
+  pub left : replica_at (after start (earlier ++ (c ∷ []))) k ≡ Some d'
 
 -- what `report` of the crate `outcome` tells of it, by the two records and the log after the call
 pub record ToldLost (start : World) (cs : List Call) : Type 0 where

@@ -10,15 +10,11 @@ ghost use Rattle.merging.specs.Merging.{past_ballot, adopted_ballot, adopted_all
 use ballots::Ballot;
 use longer_tails::extends;
 
-// How many entries the ballot's tail has.
-fn tail_len(b: Ballot) -> usize
-    ensures { (result ≡ length (tail_of b)) × (result ≤ 32) }
+// The ballot's tail.
+fn tail(b: &Ballot) -> &[u32]
+    ensures { result.now ≡ tail_of b.now }
 {
-    let len = b.len;
-    if len > Ballot::CELLS {
-        return Ballot::CELLS;
-    }
-    len
+    &b.cells[..b.len.min(Ballot::CELLS)]
 }
 
 // The ballot that holds the words.
@@ -27,9 +23,7 @@ fn ballot_of(words: &[u32]) -> Ballot
     ensures { result ≡ ballot_of words.now }
 {
     let mut cells = [0u32; 32];
-    for i in 0..words.len() {
-        cells[i] = words[i];
-    }
+    cells[..words.len()].copy_from_slice(words);
     let len = words.len();
     Ballot { len, cells }
 }
@@ -38,24 +32,18 @@ fn ballot_of(words: &[u32]) -> Ballot
 fn past_ballot(words: &[u32], b: Ballot) -> Ballot
     ensures { result ≡ past_ballot words.now b }
 {
-    let len = tail_len(b);
-    let cells = b.cells;
-    if !extends(&cells[..len], words) {
+    let tail = tail(&b);
+    if !extends(tail, words) {
         return Ballot::none();
     }
-    let from = words.len();
-    ballot_of(&cells[from..len])
+    ballot_of(&tail[words.len()..])
 }
 
 // The ballot after its offer: it becomes the offered one where that one's tail extends its own.
 fn adopted_ballot(b: Ballot, offer: Ballot) -> Ballot
     ensures { result ≡ adopted_ballot b offer }
 {
-    let own_len = tail_len(b);
-    let own = b.cells;
-    let offer_len = tail_len(offer);
-    let offered = offer.cells;
-    if extends(&offered[..offer_len], &own[..own_len]) {
+    if extends(tail(&offer), tail(&b)) {
         return offer;
     }
     b
@@ -66,12 +54,7 @@ fn adopted_ballot(b: Ballot, offer: Ballot) -> Ballot
 fn offered(b: Ballot, offer: Ballot, words: &[u32]) -> Ballot
     ensures { result ≡ adopted_ballot b (past_ballot words.now offer) }
 {
-    let own = b.len;
-    let len = offer.len;
-    if len <= words.len() {
-        return b;
-    }
-    if len - words.len() <= own {
+    if offer.len.saturating_sub(words.len()) <= b.len {
         return b;
     }
     adopted_ballot(b, past_ballot(words, offer))
@@ -100,6 +83,7 @@ pub fn merge(
     ensures { result ≡ adopted_all between.now (map (past_ballot grown.now) ballots) (set offers own (get_or offers sender off_end)) }
 {
     let mut next = ballots;
+    // A number and no `enumerate`: the place says whose offer the ballot has, and `giver` wants it below 8.
     for i in 0..8 {
         let len = next[i].len;
         if (len > 0) & (grown.len() > 0) {

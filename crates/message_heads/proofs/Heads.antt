@@ -2,14 +2,15 @@
 --     Within, within-..     what `head_within` says, and both ways between the test and its facts
 --     head-..               the head's reading, by that test
 -- Assumes nothing.
-use Prim.Native.Nat.{ℕ, ◌+◌, ◌-◌, ◌≤◌, ◌<◌}
-use mathlib.Core.Bool.{false, false≢true, true}
+use Prim.Native.Nat.{ℕ, ◌+◌, ◌≤◌, ◌<◌}
+use mathlib.Core.Bool.{false, true}
 use mathlib.Core.List.{List}
 use mathlib.Core.Path.{◌∙◌, ◌≡◌, sym}
 use native.Mathlib.Omega.{arith}
 use lib.Dec.{leb}
 use lib.ListN.{drop, replicate}
-use borrow.Author.Tests.{leb-true, ltb-true}
+use borrow.Author.Tests.{le-leb, leb-true, ltb-true}
+use Rattle.std.proofs.lemmas.Option.{none-some, same_Some}
 use Rattle.lists.specs.Tests.{both, pick}
 use Rattle.lists.proofs.Tests.{both-0, both-1, pick-false, pick_true}
 use Rattle.protocol.specs.Limits.{is_office}
@@ -22,7 +23,8 @@ use Rattle.spelling.specs.Spelling.{head_size, length_place, dropped_place}
 use Rattle.spelling.specs.Reading.{count_at, head_ok, sender_at, settled_at, dropped_at, held_at}
 use Rattle.spelling.proofs.Ballots.{by-test}
 use Rattle.spelling.proofs.Head.{Head, head-facts, head-test}
-use Rattle.readings.specs.Read.{bad_reading}
+use Rattle.std.specs.Prelude.{None, Some}
+use Rattle.readings.specs.declared.Reading.{Reading}
 use Rattle.message_heads.specs.Heads.{eight_weights, head_said, head_within, head_reading}
 
 -- an office of n: n is 1 to 8, and the office is below it
@@ -54,10 +56,10 @@ within-facts s e =
     }
 
 -- the test fails where a fact does not hold; where all but the last hold, that one decides
-pub within-not : (s : List ℕ) → (Within s → ⊥) → false ≡ head_within s
+within-not : (s : List ℕ) → (Within s → ⊥) → false ≡ head_within s
 within-not s f = by-test _ (head_within s) (λ e. absurd (f (within-facts s e))) sym
 
-pub within-last : (s : List ℕ) → Head s → is_office (count_at s) (sender_at s) ≡ true → leb (held_at s) 1024 ≡ head_within s
+within-last : (s : List ℕ) → Head s → is_office (count_at s) (sender_at s) ≡ true → leb (held_at s) 1024 ≡ head_within s
 unfolding head_within both
 within-last s h office = rw (head-test s h, office)
 
@@ -70,25 +72,27 @@ pub dropped-is : (s : List ℕ) (m p v : ℕ) → m ≡ count_at s → p ≡ dro
 unfolding dropped_at
 dropped-is s m p v e q r = r ∙ rw (q, e)
 
--- the head's reading, by the test
-pub head-refused : (s : List ℕ) → head_within s ≡ false → bad_reading ≡ head_reading s
+-- the head's reading, by the facts
+pub head-refused : (s : List ℕ) → (Within s → ⊥) → None ≡ head_reading s
 unfolding head_reading
-head-refused s e = sym (pick-false _ _ bad_reading e)
+head-refused s f = sym (pick-false _ (Some (head_said s (replicate 8 no_ballot))) None (sym (within-not s f)))
 
-pub head-made : (s : List ℕ) (a n d k h : ℕ) (ws : List ℕ) (b : Ballot) → head_within s ≡ true → a ≡ sender_at s → n ≡ count_at s → ws ≡ eight_weights n (run_at 2 be16 n (drop 4 s))
-    → d ≡ dropped_at s → k ≡ settled_at s → h ≡ head_size n → b ≡ no_ballot
-    → record { ok = true; sender = a; n = n; weights = ws; dropped = d; held = k - d; head = h; ballots = replicate 8 b } ≡ head_reading s
+pub head-made : (s : List ℕ) (a n d k h : ℕ) (ws : List ℕ) (b : Ballot) → Head s → is_office (count_at s) (sender_at s) ≡ true → a ≡ sender_at s → n ≡ count_at s
+    → ws ≡ eight_weights n (run_at 2 be16 n (drop 4 s)) → d ≡ dropped_at s → k ≡ held_at s → k ≤ 1024 → h ≡ head_size n → b ≡ no_ballot
+    → Some (record { sender = a; n = n; weights = ws; dropped = d; held = k; head = h; ballots = replicate 8 b }) ≡ head_reading s
 unfolding head_reading
-head-made s a n d k h ws b e ea en ew ed ek eh eb = rw (eb, eh, ek, ed, ew, en, ea) (sym (pick_true _ _ bad_reading e))
+head-made s a n d k h ws b head office ea en ew ed ek few eh eb =
+    let e : head_within s ≡ true = sym (within-last s head office) ∙ le-leb (held_at s) 1024 (omega arith) in
+    rw (eb, eh, ek, ed, ew, en, ea) (sym (pick_true _ _ None e))
 
--- a head's reading that is not refused, and one that is
-pub head_passed : (s : List ℕ) → (head_reading s).ok ≡ true → (head_within s ≡ true) × (head_reading s ≡ head_said s (replicate 8 no_ballot))
-unfolding head_reading bad_reading pick
-head_passed s e = by-test _ (head_within s) (λ p. (p, rw p)) (λ p. absurd (false≢true (rw p at e)))
-
-pub head-failed : (s : List ℕ) → (head_reading s).ok ≡ false → (head_within s ≡ false) × (head_reading s ≡ bad_reading)
+-- a head that is read, and one that is not
+pub head_passed : (s : List ℕ) (m : Reading) → Some m ≡ head_reading s → (head_within s ≡ true) × (m ≡ head_said s (replicate 8 no_ballot))
 unfolding head_reading pick
-head-failed s e = by-test _ (head_within s) (λ p. absurd (false≢true (sym (rw p at e)))) (λ p. (p, rw p))
+head_passed s m e = by-test _ (head_within s) (λ p. (p, same_Some _ _ (rw p at e))) (λ p. absurd (none-some m (sym (rw p at e))))
+
+pub head-failed : (s : List ℕ) → head_reading s ≡ None → head_within s ≡ false
+unfolding head_reading pick
+head-failed s e = by-test _ (head_within s) (λ p. absurd (none-some (head_said s (replicate 8 no_ballot)) (sym (rw p at e)))) (λ p. p)
 
 -- the settled length is the dropped count and what is held, a number of 64 bits
 pub settled-fits : (s : List ℕ) → Bytes s → Within s → dropped_at s + held_at s < 18446744073709551616

@@ -1,5 +1,5 @@
 -- The test of a message's head, and what the head says. Assumes nothing.
-use Rattle.std.specs.Prelude.{ℕ, ◌-◌, Bool, true, List, ◌++◌, leb, drop, replicate}
+use Rattle.std.specs.Prelude.{ℕ, ◌-◌, Bool, List, ◌++◌, Option, None, Some, leb, drop, replicate}
 use Rattle.ballots.specs.declared.Ballot.{Ballot}
 use Rattle.ballots.specs.Ballots.{no_ballot}
 use Rattle.lists.specs.Tests.{both, pick}
@@ -8,7 +8,6 @@ use Rattle.numbers.specs.Numbers.{be16, run_at}
 use Rattle.spelling.specs.Spelling.{head_size}
 use Rattle.spelling.specs.Reading.{head_ok, sender_at, count_at, dropped_at, held_at}
 use Rattle.readings.specs.declared.Reading.{Reading}
-use Rattle.readings.specs.Read.{bad_reading}
 
 -- the head is of the layout, and its fields are within the limits: "the 1024 limit then covers what is undropped"
 unfoldable pub head_within : List ℕ → Bool
@@ -22,7 +21,6 @@ eight_weights n ws = ws ++ replicate (8 - n) 0
 abbrev pub head_said : List ℕ → List Ballot → Reading
 head_said s ballots =
     record {
-      ok = true;
       sender = sender_at s;
       n = count_at s;
       weights = eight_weights (count_at s) (run_at 2 be16 (count_at s) (drop 4 s));
@@ -32,6 +30,6 @@ head_said s ballots =
       ballots = ballots;
     }
 
--- the reading of the head alone: no ballots yet, or a refusal
-unfoldable pub head_reading : List ℕ → Reading
-head_reading s = pick (head_within s) (head_said s (replicate 8 no_ballot)) bad_reading
+-- the reading of the head alone: no ballots yet; nothing where it is not within the limits
+unfoldable pub head_reading : List ℕ → Option Reading
+head_reading s = pick (head_within s) (Some (head_said s (replicate 8 no_ballot))) None

@@ -3,12 +3,12 @@
 
 ghost use Rattle.std.specs.Prelude.{◌≡◌, ◌+◌, ◌*◌, ◌≤◌, length, drop};
 ghost use Rattle.numbers.specs.Numbers.{be16, run_at};
-ghost use Rattle.message_heads.specs.Heads.{head_within, eight_weights, head_reading};
+ghost use Rattle.message_heads.specs.Heads.{eight_weights, head_reading};
 
 use ballots::Ballot;
 use head_places::{dropped_place, head_size, length_place};
-use numbers::{be16_at, be64_at, wide};
-use readings::{Reading, bad_reading};
+use numbers::{Number, read_run};
+use readings::Reading;
 
 // The k weights at a position, and zeros after them.
 fn weights_at(s: &[u8], from: usize, k: usize) -> [u16; 8]
@@ -16,65 +16,36 @@ fn weights_at(s: &[u8], from: usize, k: usize) -> [u16; 8]
     ensures { result ≡ eight_weights k (run_at 2 be16 k (drop from s.now)) }
 {
     let mut weights = [0u16; 8];
-    let mut at = from;
-    for i in 0..k {
-        weights[i] = be16_at(s, at);
-        at += 2;
-    }
+    read_run(&mut weights[..k], s, from);
     weights
 }
 
-// Whether a message starts with a head whose fields are within the limits.
-fn head_within(s: &[u8]) -> bool
-    ensures { result ≡ head_within s.now }
-{
-    if s.len() < 4 {
-        return false;
-    }
-    if s[0] != 0x53 {
-        return false;
-    }
-    if s[1] != 0x48 {
-        return false;
-    }
-    let n = wide(s[3]) as usize;
-    let sender = wide(s[2]) as usize;
-    if !limits::is_office(n, sender) {
-        return false;
-    }
-    if s.len() < head_size(n) {
-        return false;
-    }
-    let settled = be64_at(s, length_place(n));
-    let dropped = be64_at(s, dropped_place(n));
-    if dropped > settled {
-        return false;
-    }
-    (settled - dropped) as usize <= Ballot::PATH
-}
-
-// What the head of a message says, with no ballots yet, or a refusal.
-pub fn read_head(s: &[u8]) -> Reading
+// What the head of a message says, with no ballots yet; nothing where its fields are not within the limits.
+pub fn read_head(s: &[u8]) -> Option<Reading>
     ensures { result ≡ head_reading s.now }
 {
-    if !head_within(s) {
-        return bad_reading();
+    let [0x53, 0x48, sender, n, ..] = s else {
+        return None;
+    };
+    let sender = usize::from(*sender);
+    let n = usize::from(*n);
+    if !limits::is_office(n, sender) || s.len() < head_size(n) {
+        return None;
     }
-    let n = wide(s[3]) as usize;
-    let dropped = be64_at(s, dropped_place(n));
-    let held = (be64_at(s, length_place(n)) - dropped) as usize;
-    let sender = wide(s[2]) as usize;
+    let settled = u64::read_at(s, length_place(n));
+    let dropped = u64::read_at(s, dropped_place(n));
+    let held = settled.checked_sub(dropped)? as usize;
+    if held > Ballot::PATH {
+        return None;
+    }
     let weights = weights_at(s, 4, n);
-    let head = head_size(n);
-    let none = Ballot::none();
-    Reading {
-        ok: true,
+    Some(Reading {
         sender,
         n,
         weights,
         dropped,
         held,
-        head,
-        ballots: [none; 8],
-    }
+        head: head_size(n),
+        ballots: [Ballot::none(); 8],
+    })
 }

@@ -13,8 +13,8 @@ fn no_moves(words: &[u32]) -> bool
     ensures { result ≡ all_b no_move words.now }
 {
     let mut bits: u32 = 0;
-    for i in 0..words.len() {
-        bits = bits | words[i];
+    for word in words {
+        bits = bits | *word;
     }
     bits / 4194304 % 4 == 0
 }
@@ -69,8 +69,8 @@ pub fn weights_after(weights: [u16; 8], words: &[u32]) -> [u16; 8]
     if no_moves(words) {
         return present;
     }
-    for i in 0..words.len() {
-        settle_move(&mut present, words[i]);
+    for word in words {
+        settle_move(&mut present, *word);
     }
     present
 }

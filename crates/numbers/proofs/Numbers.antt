@@ -94,7 +94,7 @@ be64-below s b = omega (arith, be32-below s b, be32-below (drop 4 s) (bytes_drop
 -- ---- a run of stores
 
 -- cells that are all alike, the first of them stored
-drop-alike : {A : Type 0} (m k : ℕ) (x : A) → drop k (replicate m x) ≡ replicate (m - k) x
+pub drop-alike : {A : Type 0} (m k : ℕ) (x : A) → drop k (replicate m x) ≡ replicate (m - k) x
 drop-alike zero zero x = refl
 drop-alike (suc m) zero x = rw sub-zero
 drop-alike zero (suc k) x = let e : zero - suc k ≡ zero = omega arith in rw e

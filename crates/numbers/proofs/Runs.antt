@@ -23,7 +23,7 @@ pub record Item (w : ℕ) (f : ℕ → List ℕ) (g : List ℕ → ℕ) (p : Lis
 pub bytes_drop : (k : ℕ) (s : List ℕ) → Bytes s → Bytes (drop k s)
 bytes_drop k s h i = rw get_or-drop (h (k + i))
 
-pub run_at-length : (w : ℕ) (g : List ℕ → ℕ) (k : ℕ) (s : List ℕ) → length (run_at w g k s) ≡ k
+pub run_at-length : {A : Type 0} (w : ℕ) (g : List ℕ → A) (k : ℕ) (s : List ℕ) → length (run_at w g k s) ≡ k
 unfolding run_at
 run_at-length w g zero s = refl
 run_at-length w g (suc k) s = ap suc (run_at-length w g k (drop w s))

@@ -1,37 +1,79 @@
-// Numbers in bytes, most significant byte first, read at a position. The functions are public only for the crates above, which prove the room that
+// Numbers in bytes, most significant byte first, read at a position. What is here is public only for the crates above, which prove the room that
 // each requires.
 #![tactic(auto)]
 
-ghost use Rattle.std.specs.Prelude.{◌≡◌, ◌+◌, ◌<◌, ◌≤◌, length, drop};
-ghost use Rattle.numbers.specs.Numbers.{be16, be32, be64};
+ghost use Rattle.std.specs.Prelude.{◌≡◌, ℕ, List, ◌+◌, ◌*◌, ◌≤◌, length, drop};
+ghost use Rattle.numbers.specs.Numbers.{be16, be32, be64, run_at};
 
-// A byte as a number to compute with.
-pub fn wide(x: u8) -> u32
-    ensures { (result ≡ x) × (result < 256) }
-{
-    x as u32
+// A number that stands in so many bytes.
+pub trait Number: Copy {
+    ghost SIZE: { ℕ };
+
+    const SIZE: usize;
+
+    // the number that the first bytes spell
+    ghost number: { List ℕ → Self };
+
+    // The number in the bytes at a position.
+    fn read_at(s: &[u8], at: usize) -> Self
+        requires { at + SIZE ≤ length s.now }
+        ensures { result ≡ number (drop at s.now) };
 }
 
-// The number in the two bytes at a position.
-pub fn be16_at(s: &[u8], at: usize) -> u16
-    requires { at + 2 ≤ length s.now }
-    ensures { result ≡ be16 (drop at s.now) }
-{
-    (wide(s[at]) * 256 + wide(s[at + 1])) as u16
+impl Number for u16 {
+    ghost SIZE = { 2 };
+
+    const SIZE: usize = 2;
+
+    ghost number = { be16 };
+
+    fn read_at(s: &[u8], at: usize) -> u16 {
+        u16::from_be_bytes([s[at], s[at + 1]])
+    }
 }
 
-// The number in the four bytes at a position.
-pub fn be32_at(s: &[u8], at: usize) -> u32
-    requires { at + 4 ≤ length s.now }
-    ensures { result ≡ be32 (drop at s.now) }
-{
-    wide(s[at]) * 16777216 + (wide(s[at + 1]) * 65536 + (wide(s[at + 2]) * 256 + wide(s[at + 3])))
+impl Number for u32 {
+    ghost SIZE = { 4 };
+
+    const SIZE: usize = 4;
+
+    ghost number = { be32 };
+
+    fn read_at(s: &[u8], at: usize) -> u32 {
+        u32::from_be_bytes([s[at], s[at + 1], s[at + 2], s[at + 3]])
+    }
 }
 
-// The number in the eight bytes at a position.
-pub fn be64_at(s: &[u8], at: usize) -> u64
-    requires { at + 8 ≤ length s.now }
-    ensures { result ≡ be64 (drop at s.now) }
+impl Number for u64 {
+    ghost SIZE = { 8 };
+
+    const SIZE: usize = 8;
+
+    ghost number = { be64 };
+
+    fn read_at(s: &[u8], at: usize) -> u64 {
+        u64::from_be_bytes([
+            s[at],
+            s[at + 1],
+            s[at + 2],
+            s[at + 3],
+            s[at + 4],
+            s[at + 5],
+            s[at + 6],
+            s[at + 7],
+        ])
+    }
+}
+
+// Fills the cells with numbers read one behind the other, from a position on.
+pub fn read_run<N: Number>(cells: &mut [N], s: &[u8], from: usize)
+    requires { from + N.SIZE * length cells.old ≤ length s.now }
+    ensures { cells.new ≡ run_at N.SIZE N.number (length cells.old) (drop from s.now) }
 {
-    be32_at(s, at) as u64 * 4294967296 + be32_at(s, at + 4) as u64
+    let mut at = from;
+    // The position is counted, with no `chunks_exact`: the trait doesn't say that SIZE is not 0.
+    for cell in cells {
+        *cell = N::read_at(s, at);
+        at += N::SIZE;
+    }
 }

@@ -1,13 +1,15 @@
 -- Every call keeps the invariant, so it holds after any list of calls; and no call of such a list is refused with 10. Assumes nothing.
 use mathlib.Core.Path.{◌≡◌, refl, sym, ap, ◌∙◌}
 use mathlib.Core.List.{List, [], ◌∷◌}
-use mathlib.Core.Option.{Option, none, some, some-injective}
+use Rattle.std.specs.Prelude.{Option, None, Some}
+use Rattle.std.proofs.lemmas.Option.{same_Some}
 use mathlib.Core.Bool.{Bool, true, false, ◌&&◌, ◌||◌, not, cond, true≢false}
 use mathlib.Core.Logic.{◌⊎◌, inl, inr}
 use Prim.Native.Nat.{ℕ, zero, suc, ◌<◌}
 use native.Mathlib.Omega.{arith}
 use lib.Dec.{eqb, ltb}
-use lib.ListN.{length, get_elem?}
+use lib.ListN.{length}
+use Rattle.std.specs.Prelude.{slice_get}
 use borrow.Author.Tests.{eqb-true, ltb-true}
 use Rattle.lists.specs.Tests.{pick}
 use Rattle.protocol.specs.Entry.{value, proper}
@@ -61,9 +63,9 @@ module _ (rule : Rule) (n : ℕ) (law : Lawful rule) where
     sent = new;
   }
     where
-      new : (i : ℕ) (m : Message) → get_elem? (with_sent cs k).sent i ≡ some m → Sent rule n cs m
+      new : (i : ℕ) (m : Message) → slice_get (with_sent cs k).sent i ≡ Some m → Sent rule n cs m
       new zero m e =
-          let same = some-injective _ m e in
+          let same = same_Some _ m e in
           (cs, past-refl cs, ap (λ (x : Message). office_at rule n x.sender cs) (sym same) ∙ ap (λ (x : Message). x.state) same)
       new (suc i) m e = inv.sent i m e
 
@@ -74,8 +76,8 @@ module _ (rule : Rule) (n : ℕ) (law : Lawful rule) where
       put_next rule n law (issue k line code) cs inv k (with_issue k (value k line code) (office_at rule n k cs)) (there cs k h) (issue-change rule n law cs inv k line code r (there cs k h))
   done_next (send k room) cs inv h r = send-next (send k room) cs inv k
   done_next (take k i) cs inv h r =
-      put_next rule n law (take k i) cs inv k (taking k (get_elem? (after rule n cs).sent i) (office_at rule n k cs)) (there cs k (and-true _ _ h).0)
-      (taking-change rule n law (take k i) cs inv k i (get_elem? (after rule n cs).sent i) refl)
+      put_next rule n law (take k i) cs inv k (taking k (slice_get (after rule n cs).sent i) (office_at rule n k cs)) (there cs k (and-true _ _ h).0)
+      (taking-change rule n law (take k i) cs inv k i (slice_get (after rule n cs).sent i) refl)
   done_next (elect k) cs inv h r = put_next rule n law (elect k) cs inv k (with_elect rule (office_at rule n k cs)) (there cs k h) (elect-change rule n law (elect k) cs inv k)
   done_next idle cs inv h r = same_next rule n law idle cs inv
 
@@ -91,10 +93,10 @@ module _ (rule : Rule) (n : ℕ) (law : Lawful rule) where
   invariant pos (c ∷ cs) = advance rule n law c cs (invariant pos cs) (step-next c cs (invariant pos cs))
 
   -- no call is refused with 10
-  take-never : (cs : List Call) → Invariant rule n law cs → (k : ℕ) (m : Option Message) (i : ℕ) → get_elem? (after rule n cs).sent i ≡ m → refuse_taking k m (office_at rule n k cs) ≡ 10 → ⊥
+  take-never : (cs : List Call) → Invariant rule n law cs → (k : ℕ) (m : Option Message) (i : ℕ) → slice_get (after rule n cs).sent i ≡ m → refuse_taking k m (office_at rule n k cs) ≡ 10 → ⊥
   unfolding refuse_take
-  take-never cs inv k none i e h = omega arith
-  take-never cs inv k (some m) i e h = go (eqb m.sender k) (⊑-comparable l m.state.log inv.order (inv.logs k) (known-message rule n law cs inv i m e).settled) h
+  take-never cs inv k None i e h = omega arith
+  take-never cs inv k (Some m) i e h = go (eqb m.sender k) (⊑-comparable l m.state.log inv.order (inv.logs k) (known-message rule n law cs inv i m e).settled) h
     where
       l : List ℕ
       l = log_at rule n k cs
@@ -108,6 +110,6 @@ module _ (rule : Rule) (n : ℕ) (law : Lawful rule) where
   unfolding refusal refuse_entry
   never-10 cs inv (issue k line code) h = issue-not (not (proper (length (after rule n cs).offices) line code)) h
   never-10 cs inv (send k room) h = send-not room h
-  never-10 cs inv (take k i) h = take-never cs inv k (get_elem? (after rule n cs).sent i) i refl h
+  never-10 cs inv (take k i) h = take-never cs inv k (slice_get (after rule n cs).sent i) i refl h
   never-10 cs inv (elect k) h = omega arith
   never-10 cs inv idle h = omega arith

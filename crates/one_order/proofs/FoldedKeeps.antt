@@ -2,14 +2,16 @@
 use mathlib.Core.Path.{◌≡◌, refl, sym, ap, subst, ◌∙◌}
 use mathlib.Core.Bool.{◌&&◌}
 use mathlib.Core.List.{List, [], ◌∷◌, map}
-use mathlib.Core.Option.{Option, none, some, some-injective}
+use Rattle.std.specs.Prelude.{Option, None, Some}
+use Rattle.std.proofs.lemmas.Option.{same_Some}
 use mathlib.Core.Logic.{◌⊎◌, inl, inr}
 use Prim.Native.Nat.{ℕ, zero, suc, ◌-◌, ◌≤◌, ◌<◌, max}
 use native.Mathlib.Decide.{ℕ_discrete}
 use native.Mathlib.Omega.{arith}
 use lib.Dec.{eqb}
 use lib.ListN as L
-use lib.ListN.{length, get_or, set, get_elem?, replicate, length-append, length-take}
+use lib.ListN.{length, get_or, set, replicate, length-append, length-take}
+use Rattle.std.specs.Prelude.{slice_get}
 use borrow.Author.Tests.{eqb-true}
 use Rattle.protocol.specs.Entry.{value}
 use Rattle.protocol.specs.Vote.{Rule}
@@ -134,7 +136,7 @@ module _ (founding : List ℕ) (n : ℕ) (pos : 0 < n) where
   pub record Follow (w x : World) : Type 0 where
     pub kept : (k : ℕ) → k < n → (desk_at x k).kept ≡ effect_of founding (desk_at x k).former
     pub desks : (k : ℕ) → Fit n (lengths w) (desk_at x k)
-    pub sent : (i : ℕ) (m : Posted) → get_elem? x.sent i ≡ some m → FitSent n (lengths w) m
+    pub sent : (i : ℕ) (m : Posted) → slice_get x.sent i ≡ Some m → FitSent n (lengths w) m
 
   abbrev Keeps : Desk → Type 0
   Keeps d = d.kept ≡ effect_of founding d.former
@@ -155,10 +157,10 @@ module _ (founding : List ℕ) (n : ℕ) (pos : 0 < n) where
       held j b (inl e) = subst Keeps (sym e) (s.kept j b)
       held j b (inr e) = subst Keeps (sym e.2) (leaving-kept founding (desk_at w k) f (s.kept k (omega (arith, e.0))))
 
-  take-follow : (w : World) (k i : ℕ) (s : Sound founding n w) (x : Option Posted) → get_elem? w.sent i ≡ x → refuse_taking k x (desk_at w k).now ≡ 0
+  take-follow : (w : World) (k i : ℕ) (s : Sound founding n w) (x : Option Posted) → slice_get w.sent i ≡ x → refuse_taking k x (desk_at w k).now ≡ 0
       → Follow w (put w k (taking k x (desk_at w k).now))
-  take-follow w k i s none e h = put-follow w k (desk_at w k).now s (same-fit n (lengths w) (desk_at w k) (desk_at w k).now refl refl (s.desks k))
-  take-follow w k i s (some m) e h =
+  take-follow w k i s None e h = put-follow w k (desk_at w k).now s (same-fit n (lengths w) (desk_at w k) (desk_at w k).now refl refl (s.desks k))
+  take-follow w k i s (Some m) e h =
       put-follow w k (with_folded_take k m.message (desk_at w k).now) s
       (take-fit n (lengths w) k (desk_at w k) m (message-heard founding n pos w s i m e) (take_found k m.message (desk_at w k).now h) (s.sent i m e) (s.desks k))
 
@@ -171,10 +173,10 @@ module _ (founding : List ℕ) (n : ℕ) (pos : 0 < n) where
       now : Posted
       now = record { message = record { sender = k; dropped = (desk_at w k).now.dropped; state = (desk_at w k).now.held }; former = (desk_at w k).former }
 
-      new : (i : ℕ) (m : Posted) → get_elem? (now ∷ w.sent) i ≡ some m → FitSent n (lengths w) m
-      new zero m e = subst (λ (x : Posted). FitSent n (lengths w) x) (some-injective now m e) (record { counted = (s.desks k).counted; low = (s.desks k).low })
+      new : (i : ℕ) (m : Posted) → slice_get (now ∷ w.sent) i ≡ Some m → FitSent n (lengths w) m
+      new zero m e = subst (λ (x : Posted). FitSent n (lengths w) x) (same_Some now m e) (record { counted = (s.desks k).counted; low = (s.desks k).low })
       new (suc i) m e = s.sent i m e
-  done-follow w (take k i) s h = take-follow w k i s (get_elem? w.sent i) refl h
+  done-follow w (take k i) s h = take-follow w k i s (slice_get w.sent i) refl h
   done-follow w (elect k) s h =
       let f : FoldedOffice = with_folded_elect (rule_behind (desk_at w k).kept) (desk_at w k).now in
       put-follow w k f s (same-fit n (lengths w) (desk_at w k) f refl refl (s.desks k))

@@ -5,10 +5,11 @@
 -- Assumes nothing.
 use mathlib.Core.Path.{◌≡◌, refl, sym, ap, ap₂, subst, ◌∙◌}
 use mathlib.Core.List.{List, [], ◌∷◌}
-use mathlib.Core.Option.{some}
+use Rattle.std.specs.Prelude.{Some}
 use Prim.Native.Nat.{ℕ, zero, suc, ◌+◌, ◌-◌, ◌<◌}
 use native.Mathlib.Omega.{arith}
-use lib.ListN.{length, get_elem?}
+use lib.ListN.{length}
+use Rattle.std.specs.Prelude.{slice_get}
 use borrow.Author.Tests.{ne_eqb, le-ltb}
 use Rattle.lists.specs.Tests.{pick}
 use Rattle.protocol.specs.Beginning.{◌⊑◌, extends}
@@ -145,7 +146,7 @@ module _ (founding : List ℕ) (n : ℕ) (pos : 0 < n) (w : World) (s : Sound fo
     pub whole : whole_desk (takes_both k a b d) ≡ with_take k (whole_message b) (with_take k (whole_message a) (whole_desk d))
     pub kept : (takes_both k a b d).kept ≡ effect_of founding (takes_both k a b d).former
 
-  behind : (i j : ℕ) (a b : Posted) → get_elem? w.sent i ≡ some a → get_elem? w.sent j ≡ some b → AcceptedBoth k a b d → Behind a b
+  behind : (i j : ℕ) (a b : Posted) → slice_get w.sent i ≡ Some a → slice_get w.sent j ≡ Some b → AcceptedBoth k a b d → Behind a b
   behind i j a b ea eb h =
       let da : Desk = takes_at k a d in
       let found = take_found k a.message d.now h.0 in
@@ -164,7 +165,7 @@ module _ (founding : List ℕ) (n : ℕ) (pos : 0 < n) (w : World) (s : Sound fo
       }
 
   -- two sent messages "accepted in both orders"
-  pub folded-either-order : (i j : ℕ) (a b : Posted) → get_elem? w.sent i ≡ some a → get_elem? w.sent j ≡ some b
+  pub folded-either-order : (i j : ℕ) (a b : Posted) → slice_get w.sent i ≡ Some a → slice_get w.sent j ≡ Some b
       → AcceptedBoth k a b d → AcceptedBoth k b a d → FoldedEitherOrder k a b d
   unfolding with_folded_take
   folded-either-order i j a b ea eb ab ba =

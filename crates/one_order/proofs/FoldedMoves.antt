@@ -2,11 +2,12 @@
 use mathlib.Core.Path.{◌≡◌, refl, sym, ap, ap₂, ◌∙◌}
 use mathlib.Core.Bool.{Bool, true, false, ◌&&◌, cond, true≢false}
 use mathlib.Core.List.{List, [], ◌∷◌, map}
-use mathlib.Core.Option.{Option, none, some}
+use Rattle.std.specs.Prelude.{Option, None, Some}
 use Prim.Native.Nat.{ℕ, zero, suc, ◌<◌, ◌≤◌}
 use native.Mathlib.Omega.{arith}
 use lib.Dec.{eqb, ltb}
-use lib.ListN.{length, get_elem?, length-map}
+use lib.ListN.{length, length-map}
+use Rattle.std.specs.Prelude.{slice_get}
 use lib.Seq.{set-get_or}
 use borrow.Author.Tests.{lt-ltb, le-ltb, ltb-true, eqb-true}
 use Rattle.protocol.specs.Entry.{value}
@@ -73,12 +74,12 @@ put_view w k f o e =
 put_same : (v : P.World) (k : ℕ) → P.put v k (P.at v k) ≡ v
 put_same v k = ap (λ (l : List Office). record { offices = l; sent = v.sent }) (set-get_or v.offices k fresh)
 
-not-sent : (l : List Posted) (i : ℕ) → get_elem? l i ≡ none → length l ≤ i
+not-sent : (l : List Posted) (i : ℕ) → slice_get l i ≡ None → length l ≤ i
 not-sent [] i e = omega arith
 not-sent (y ∷ l) zero e = let z : ◌≡◌ {A = ℕ} 0 1 = cc in absurd (omega arith)
 not-sent (y ∷ l) (suc i) e = let h = not-sent l i e in omega arith
 
-is-sent : (l : List Posted) (i : ℕ) (m : Posted) → get_elem? l i ≡ some m → i < length l
+is-sent : (l : List Posted) (i : ℕ) (m : Posted) → slice_get l i ≡ Some m → i < length l
 is-sent [] i m e = let z : ◌≡◌ {A = ℕ} 0 1 = cc in absurd (omega arith)
 is-sent (y ∷ l) zero m e = omega arith
 is-sent (y ∷ l) (suc i) m e = let h = is-sent l i m e in omega arith
@@ -125,7 +126,7 @@ module _ (founding : List ℕ) (n : ℕ) (pos : 0 < n) (w : World) (s : Sound fo
       go false = refl
 
   -- an accepted message that was sent
-  taken : (k i : ℕ) (m : Posted) → get_elem? w.sent i ≡ some m → is_there w k ≡ true → refuse_folded_take k m.message (desk_at w k).now ≡ 0
+  taken : (k i : ℕ) (m : Posted) → slice_get w.sent i ≡ Some m → is_there w k ≡ true → refuse_folded_take k m.message (desk_at w k).now ≡ 0
       → view (put w k (with_folded_take k m.message (desk_at w k).now)) ≡ step_p rule (view w) (P.take k i)
   unfolding names_p refusal done_p
   taken k i m e p h =
@@ -134,8 +135,8 @@ module _ (founding : List ℕ) (n : ℕ) (pos : 0 < n) (w : World) (s : Sound fo
       let f : TakeFound k m.message d.now = take_found k m.message d.now h in
       let mine : (whole_desk d).log ⊑ q = desk-in founding n pos w s k in
       let theirs : (whole_message m).state.log ⊑ q = message-in founding n pos w s i m e in
-      let was : get_elem? (view w).sent i ≡ some (whole_message m) = view-sent w i m e in
-      put_view w k (with_folded_take k m.message d.now) (P.taking k (get_elem? (view w).sent i) (P.at (view w) k))
+      let was : slice_get (view w).sent i ≡ Some (whole_message m) = view-sent w i m e in
+      put_view w k (with_folded_take k m.message d.now) (P.taking k (slice_get (view w).sent i) (P.at (view w) k))
       (take-desk d m q (s.desks k).counted (s.sent i m e).counted mine theirs f.reaches f.lasts k ∙ ap₂ (P.taking k) (sym was) (sym (view-at w k)))
       ∙ sym (step-done rule (view w) (P.take k i)
       (ap₂ ◌&&◌ (view-there w k ∙ p) (lt-ltb i (length (view w).sent) (rw length-map (is-sent w.sent i m e))))
@@ -143,7 +144,7 @@ module _ (founding : List ℕ) (n : ℕ) (pos : 0 < n) (w : World) (s : Sound fo
 
   take-moves : (k i : ℕ) → view (step w (take k i)) ≡ step_p rule (view w) (call_of w (take k i))
   unfolding step names number done names_p
-  take-moves k i = go (get_elem? w.sent i) refl
+  take-moves k i = go (slice_get w.sent i) refl
     where
       Goal : Option Posted → Type 0
       Goal x = view (cond ((is_there w k && ltb i (length w.sent)) && eqb (refuse_taking k x (desk_at w k).now) 0) (put w k (taking k x (desk_at w k).now)) w)
@@ -154,7 +155,7 @@ module _ (founding : List ℕ) (n : ℕ) (pos : 0 < n) (w : World) (s : Sound fo
       unnamed true false x e = refl
       unnamed false b x e = refl
 
-      sent : (m : Posted) → get_elem? w.sent i ≡ some m → (a : Bool) → is_there w k ≡ a → (t : Bool) → t ≡ true → (b : Bool) → eqb (refuse_folded_take k m.message (desk_at w k).now) 0 ≡ b
+      sent : (m : Posted) → slice_get w.sent i ≡ Some m → (a : Bool) → is_there w k ≡ a → (t : Bool) → t ≡ true → (b : Bool) → eqb (refuse_folded_take k m.message (desk_at w k).now) 0 ≡ b
           → view (cond ((a && t) && b) (put w k (with_folded_take k m.message (desk_at w k).now)) w) ≡ step_p rule (view w) (cond b (P.take k i) P.idle)
       sent m e a p false r b q = absurd (true≢false (sym r))
       sent m e false p true r false q = step-idle rule (view w)
@@ -162,11 +163,11 @@ module _ (founding : List ℕ) (n : ℕ) (pos : 0 < n) (w : World) (s : Sound fo
       sent m e false p true r true q = step-unnamed rule (view w) (P.take k i) (ap (λ (b : Bool). b && ltb i (length (view w).sent)) (view-there w k ∙ p))
       sent m e true p true r true q = taken k i m e p (eqb-true _ 0 q)
 
-      go : (x : Option Posted) → get_elem? w.sent i ≡ x → Goal x
-      go none e =
+      go : (x : Option Posted) → slice_get w.sent i ≡ x → Goal x
+      go None e =
           unnamed (is_there w k) (ltb i (length w.sent)) (put w k (desk_at w k).now) (le-ltb i (length w.sent) (not-sent w.sent i e))
           ∙ step-unnamed rule (view w) (P.take k i) (and-false-1 (P.is_there (view w) k) (ltb i (length (view w).sent)) (le-ltb i (length (view w).sent) (rw length-map (not-sent w.sent i e))))
-      go (some m) e =
+      go (Some m) e =
           sent m e (is_there w k) refl (ltb i (length w.sent)) (lt-ltb i (length w.sent) (is-sent w.sent i m e)) (eqb (refuse_folded_take k m.message (desk_at w k).now) 0) refl
 
   -- an office that is there

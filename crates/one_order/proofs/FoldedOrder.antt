@@ -9,12 +9,13 @@
 use mathlib.Core.Path.{◌≡◌, refl, sym, ap, ap₂, subst, ◌∙◌}
 use mathlib.Core.Bool.{Bool, true, false, cond}
 use mathlib.Core.List.{List, [], ◌∷◌, ◌++◌}
-use mathlib.Core.Option.{Option, none, some}
+use Rattle.std.specs.Prelude.{Option, None, Some}
 use mathlib.Core.Logic.{◌⊎◌, inl, inr}
 use Prim.Native.Nat.{ℕ, ◌≤◌, ◌<◌}
 use native.Mathlib.Omega.{arith}
 use lib.Dec.{eqb}
-use lib.ListN.{length, get_elem?}
+use lib.ListN.{length}
+use Rattle.std.specs.Prelude.{slice_get}
 use borrow.Author.Tests.{eqb-true, ltb-true}
 use Rattle.protocol.specs.Beginning.{◌⊑◌}
 use Rattle.protocol.specs.Vote.{Rule}
@@ -112,30 +113,30 @@ module _ (founding : List ℕ) (n : ℕ) (pos : 0 < n) where
 
   -- ── what holds of a world that the calls reach ──
   module _ (w : World) (s : Sound founding n w) where
-    take-never : (k i : ℕ) (x : Option Posted) → get_elem? w.sent i ≡ x → refuse_taking k x (desk_at w k).now ≡ 10 → ⊥
+    take-never : (k i : ℕ) (x : Option Posted) → slice_get w.sent i ≡ x → refuse_taking k x (desk_at w k).now ≡ 10 → ⊥
     unfolding refusal
-    take-never k i none e h = omega arith
-    take-never k i (some m) e h =
+    take-never k i None e h = omega arith
+    take-never k i (Some m) e h =
         let d : Desk = desk_at w k in
         let found = take-ten k m.message d.now h in
         let q : List ℕ = (known founding n pos w s).order in
         let ten : refuse_take k (whole_message m) (whole_desk d) ≡ 10 =
         sym (refuse-desk d m q (s.desks k).counted (s.sent i m e).counted (desk-in founding n pos w s k) (message-in founding n pos w s i m e) found.0 found.1 k) ∙ found.2 in
         never-10 rule n law s.history (known founding n pos w s) (P.take k i)
-        (ap (λ (v : P.World). P.refuse_taking k (get_elem? v.sent i) (P.at v k)) (sym s.reached) ∙ ap₂ (P.refuse_taking k) (view-sent w i m e) (view-at w k) ∙ ten)
+        (ap (λ (v : P.World). P.refuse_taking k (slice_get v.sent i) (P.at v k)) (sym s.reached) ∙ ap₂ (P.refuse_taking k) (view-sent w i m e) (view-at w k) ∙ ten)
 
     pub never : (c : Call) → number w c ≡ 10 → ⊥
     unfolding number
     never (issue k line code) h = (issue-never (length w.desks) k line code (desk_at w k).now).no-10 h
     never (send k room) h = omega (arith, send-small room)
-    never (take k i) h = take-never k i (get_elem? w.sent i) refl h
+    never (take k i) h = take-never k i (slice_get w.sent i) refl h
     never (elect k) h = omega arith
     never (fold k) h = omega arith
     never idle h = omega arith
 
-    take_meets : (k i : ℕ) → k < n → (x : Option Posted) → get_elem? w.sent i ≡ x → refuse_taking k x (desk_at w k).now ≡ 16 → ⊥
-    take_meets k i b none e h = omega arith
-    take_meets k i b (some m) e h = take-sixteen k m.message (desk_at w k).now (omega (arith, (s.sent i m e).low k b, own-length founding n pos w s k)) h
+    take_meets : (k i : ℕ) → k < n → (x : Option Posted) → slice_get w.sent i ≡ x → refuse_taking k x (desk_at w k).now ≡ 16 → ⊥
+    take_meets k i b None e h = omega arith
+    take_meets k i b (Some m) e h = take-sixteen k m.message (desk_at w k).now (omega (arith, (s.sent i m e).low k b, own-length founding n pos w s k)) h
 
     pub meets : (c : Call) → names w c ≡ true → number w c ≡ 16 → ⊥
     unfolding names number
@@ -143,7 +144,7 @@ module _ (founding : List ℕ) (n : ℕ) (pos : 0 < n) where
     meets (send k room) b h = omega (arith, send-small room)
     meets (take k i) b h =
         let below : k < length w.desks = ltb-true k (length w.desks) (and-true _ _ b).0 in
-        take_meets k i (omega (arith, there founding n pos w s)) (get_elem? w.sent i) refl h
+        take_meets k i (omega (arith, there founding n pos w s)) (slice_get w.sent i) refl h
     meets (elect k) b h = omega arith
     meets (fold k) b h = omega arith
     meets idle b h = omega arith
@@ -151,12 +152,12 @@ module _ (founding : List ℕ) (n : ℕ) (pos : 0 < n) where
     -- of a sent message take is done, or refused at the sender's own office, or since the message ends inside what was dropped since
     pub takes : (k i : ℕ) → names w (take k i) ≡ true → (number w (take k i) ≡ 0) ⊎ ((number w (take k i) ≡ 9) ⊎ (number w (take k i) ≡ 17))
     unfolding number
-    takes k i b = go (get_elem? w.sent i) (never (take k i)) (meets (take k i) b)
+    takes k i b = go (slice_get w.sent i) (never (take k i)) (meets (take k i) b)
       where
         go : (x : Option Posted) → (refuse_taking k x (desk_at w k).now ≡ 10 → ⊥) → (refuse_taking k x (desk_at w k).now ≡ 16 → ⊥)
             → (refuse_taking k x (desk_at w k).now ≡ 0) ⊎ ((refuse_taking k x (desk_at w k).now ≡ 9) ⊎ (refuse_taking k x (desk_at w k).now ≡ 17))
-        go none a b = inl refl
-        go (some m) a b = by (take-values k m.message (desk_at w k).now)
+        go None a b = inl refl
+        go (Some m) a b = by (take-values k m.message (desk_at w k).now)
           where
             N : ℕ
             N = refuse_folded_take k m.message (desk_at w k).now
@@ -169,7 +170,7 @@ module _ (founding : List ℕ) (n : ℕ) (pos : 0 < n) where
             by (inr (inr (inr (inr q)))) = inr (inr q)
 
     -- of another office's message
-    pub takes-other : (k i : ℕ) (m : Posted) → k < n → get_elem? w.sent i ≡ some m → (m.message.sender ≡ k → ⊥)
+    pub takes-other : (k i : ℕ) (m : Posted) → k < n → slice_get w.sent i ≡ Some m → (m.message.sender ≡ k → ⊥)
         → (number w (take k i) ≡ 0) ⊎ (number w (take k i) ≡ 17)
     unfolding number
     takes-other k i m b e d =
@@ -181,8 +182,8 @@ module _ (founding : List ℕ) (n : ℕ) (pos : 0 < n) where
         by : (N ≡ 0) ⊎ ((N ≡ 9) ⊎ ((N ≡ 10) ⊎ ((N ≡ 16) ⊎ (N ≡ 17)))) → (N ≡ 0) ⊎ (N ≡ 17)
         by (inl q) = inl q
         by (inr (inl q)) = absurd (d (take-nine k m.message (desk_at w k).now q))
-        by (inr (inr (inl q))) = absurd (take-never k i (some m) e q)
-        by (inr (inr (inr (inl q)))) = absurd (take_meets k i b (some m) e q)
+        by (inr (inr (inl q))) = absurd (take-never k i (Some m) e q)
+        by (inr (inr (inr (inl q)))) = absurd (take_meets k i b (Some m) e q)
         by (inr (inr (inr (inr q)))) = inr q
 
     -- what an office has dropped, every office has

@@ -6,10 +6,11 @@
 -- Assumes nothing.
 use mathlib.Core.Path.{◌≡◌, sym, ap, subst, ◌∙◌}
 use mathlib.Core.List.{List, [], ◌∷◌, map}
-use mathlib.Core.Option.{some}
+use Rattle.std.specs.Prelude.{Some}
 use Prim.Native.Nat.{ℕ, zero, suc, ◌≤◌, ◌<◌}
 use native.Mathlib.Omega.{arith}
-use lib.ListN.{length, get_or, get_elem?, length-append, length-map}
+use lib.ListN.{length, get_or, length-append, length-map}
+use Rattle.std.specs.Prelude.{slice_get}
 use Rattle.protocol.specs.Beginning.{◌⊑◌}
 use Rattle.protocol.specs.Vote.{Rule}
 use Rattle.protocol.specs.SettledRule.{by_settled}
@@ -32,12 +33,12 @@ pub view-at : (w : World) (k : ℕ) → P.at (view w) k ≡ whole_desk (desk_at 
 view-at w k = get_d_map whole_desk (new_desk []) w.desks k
 
 -- the same place of a mapped list
-map-there : {A B : Type 0} (f : A → B) (l : List A) (i : ℕ) (x : A) → get_elem? l i ≡ some x → get_elem? (map f l) i ≡ some (f x)
+map-there : {A B : Type 0} (f : A → B) (l : List A) (i : ℕ) (x : A) → slice_get l i ≡ Some x → slice_get (map f l) i ≡ Some (f x)
 map-there f [] i x e = let z : ◌≡◌ {A = ℕ} 0 1 = cc in absurd (omega arith)
-map-there f (y ∷ l) zero x e = let q : y ≡ x = cc in ap (λ z. some (f z)) q
+map-there f (y ∷ l) zero x e = let q : y ≡ x = cc in ap (λ z. Some (f z)) q
 map-there f (y ∷ l) (suc i) x e = map-there f l i x e
 
-pub view-sent : (w : World) (i : ℕ) (m : Posted) → get_elem? w.sent i ≡ some m → get_elem? (view w).sent i ≡ some (whole_message m)
+pub view-sent : (w : World) (i : ℕ) (m : Posted) → slice_get w.sent i ≡ Some m → slice_get (view w).sent i ≡ Some (whole_message m)
 view-sent w i m e = map-there whole_message w.sent i m e
 
 -- how much each office has settled
@@ -61,7 +62,7 @@ pub record Sound (founding : List ℕ) (n : ℕ) (w : World) : Type 0 where
   pub reached : view w ≡ H.after (by_settled founding) n history
   pub kept : (k : ℕ) → k < n → (desk_at w k).kept ≡ effect_of founding (desk_at w k).former
   pub desks : (k : ℕ) → Fit n (lengths w) (desk_at w k)
-  pub sent : (i : ℕ) (m : Posted) → get_elem? w.sent i ≡ some m → FitSent n (lengths w) m
+  pub sent : (i : ℕ) (m : Posted) → slice_get w.sent i ≡ Some m → FitSent n (lengths w) m
 
 -- logs grow
 pub fit-grows : {n : ℕ} {len : ℕ → ℕ} {d : Desk} (more : ℕ → ℕ) → ((j : ℕ) → len j ≤ more j) → Fit n len d → Fit n more d
@@ -87,14 +88,14 @@ module _ (founding : List ℕ) (n : ℕ) (pos : 0 < n) (w : World) (s : Sound fo
   pub desk-in : (k : ℕ) → (whole_desk (desk_at w k)).log ⊑ known.order
   desk-in k = subst (λ (o : Office). o.log ⊑ known.order) (ap (λ (v : P.World). P.at v k) (sym s.reached) ∙ view-at w k) (known.logs k)
 
-  sent-there : (i : ℕ) (m : Posted) → get_elem? w.sent i ≡ some m → get_elem? (H.after rule n s.history).sent i ≡ some (whole_message m)
-  sent-there i m e = subst (λ (v : P.World). get_elem? v.sent i ≡ some (whole_message m)) s.reached (view-sent w i m e)
+  sent-there : (i : ℕ) (m : Posted) → slice_get w.sent i ≡ Some m → slice_get (H.after rule n s.history).sent i ≡ Some (whole_message m)
+  sent-there i m e = subst (λ (v : P.World). slice_get v.sent i ≡ Some (whole_message m)) s.reached (view-sent w i m e)
 
-  pub message-in : (i : ℕ) (m : Posted) → get_elem? w.sent i ≡ some m → (whole_message m).state.log ⊑ known.order
+  pub message-in : (i : ℕ) (m : Posted) → slice_get w.sent i ≡ Some m → (whole_message m).state.log ⊑ known.order
   message-in i m e = (known-message rule n law s.history known i (whole_message m) (sent-there i m e)).settled
 
   -- a message's length is at most its sender's
-  pub message-heard : (i : ℕ) (m : Posted) → get_elem? w.sent i ≡ some m → settled_length m.message.dropped m.message.state ≤ lengths w m.message.sender
+  pub message-heard : (i : ℕ) (m : Posted) → slice_get w.sent i ≡ Some m → settled_length m.message.dropped m.message.state ≤ lengths w m.message.sender
   message-heard i m e =
       let k : ℕ = m.message.sender in
       let b = known.sent i (whole_message m) (sent-there i m e) in

@@ -2,11 +2,12 @@
 use mathlib.Core.Path.{◌≡◌, refl, sym, ap, subst, ◌∙◌}
 use mathlib.Core.List.{List, [], ◌∷◌}
 use mathlib.Core.Logic.{◌⊎◌, inl, inr}
-use mathlib.Core.Option.{some, none-ne-some}
+use Rattle.std.specs.Prelude.{Some}
+use Rattle.std.proofs.lemmas.Option.{none-some}
 use Prim.Native.Nat.{ℕ, ◌<◌}
 use native.Mathlib.Decide.{ℕ_discrete}
 use native.Mathlib.Omega.{arith}
-use lib.ListN.{get_elem?}
+use Rattle.std.specs.Prelude.{slice_get}
 use lib.Seq.{get_or-set_same, get_or-set_other}
 use Rattle.protocol.specs.Beginning.{◌⊑◌, ◌⊏◌}
 use Rattle.protocol.specs.Vote.{Rule}
@@ -31,7 +32,7 @@ module _ (rule : Rule) (n : ℕ) (law : Lawful rule) where
     pub logs : (k : ℕ) → log_at rule n k cs ⊑ order
     -- Known: the ballots of every office at every moment, and every message
     pub known : (h : List Call) → Past h cs → (k : ℕ) → BallotsKnown rule n cs (office_at rule n k h)
-    pub sent : (i : ℕ) (m : Message) → get_elem? (after rule n cs).sent i ≡ some m → Sent rule n cs m
+    pub sent : (i : ℕ) (m : Message) → slice_get (after rule n cs).sent i ≡ Some m → Sent rule n cs m
     -- Issued: every own path of every moment
     pub issued : OwnIssued rule n cs
 
@@ -49,7 +50,7 @@ module _ (rule : Rule) (n : ℕ) (law : Lawful rule) where
     pub elected : EachElected rule n law cs order
     pub longest : (order ≡ q) ⊎ ((k : ℕ) × (k < n) × ((at w k).log ≡ order))
     pub left : (k : ℕ) → Left c cs order k (at w k)
-    pub sent : (i : ℕ) (m : Message) → get_elem? w.sent i ≡ some m → Sent rule n cs m
+    pub sent : (i : ℕ) (m : Message) → slice_get w.sent i ≡ Some m → Sent rule n cs m
 
   pub advance : (c : Call) (cs : List Call) (inv : Invariant cs) → NextWorld c cs inv.order (after rule n (c ∷ cs)) → Invariant (c ∷ cs)
   advance c cs inv nx = record {
@@ -147,7 +148,7 @@ module _ (rule : Rule) (n : ℕ) (law : Lawful rule) where
     known = λ h p k. subst (λ (g : List Call). BallotsKnown rule n [] (office_at rule n k g)) (past-nil p)
         (subst (λ (o : Office). BallotsKnown rule n [] o) (start rule n k) none-known);
     issued = λ h p k. subst (λ (g : List Call). EachIssued rule n [] (log_at rule n k g) (own_at rule n k g)) (past-nil p) (none-issued k);
-    sent = λ i m e. absurd (none-ne-some m e);
+    sent = λ i m e. absurd (none-some m e);
   }
     where
       none-issued : (k : ℕ) → EachIssued rule n [] (log_at rule n k []) (own_at rule n k [])

@@ -6,7 +6,7 @@
 -- Assumes nothing.
 use mathlib.Core.Path.{◌≡◌, refl, ap}
 use mathlib.Core.List.{List}
-use mathlib.Core.Option.{Option, none, some}
+use Rattle.std.specs.Prelude.{Option, None, Some}
 use mathlib.Core.Bool.{Bool}
 use Prim.Native.Nat.{ℕ}
 use Rattle.protocol.specs.Vote.{Votes, Rule, by_log}
@@ -21,10 +21,10 @@ use Rattle.protocol_laws.proofs.Quieter.{quieter-asymmetric}
 -- the rule's winner wins in a sense in which one entry at most does, more votes never undo it, and a vote is needed
 pub record Lawful (rule : Rule) : Type 1 where
   pub Winner : List ℕ → Votes → ℕ → Type 0
-  pub sound : (l : List ℕ) (v : Votes) (e : ℕ) → rule l v ≡ some e → Winner l v e
+  pub sound : (l : List ℕ) (v : Votes) (e : ℕ) → rule l v ≡ Some e → Winner l v e
   pub unique : (l : List ℕ) (v : Votes) (e f : ℕ) → Winner l v e → Winner l v f → e ≡ f
   pub grows : (l : List ℕ) (v v' : Votes) (e : ℕ) → Grows v v' → Winner l v e → Winner l v' e
-  pub voted : (l : List ℕ) (v : Votes) (e : ℕ) → Winner l v e → (k : ℕ) × (v k ≡ some e)
+  pub voted : (l : List ℕ) (v : Votes) (e : ℕ) → Winner l v e → (k : ℕ) × (v k ≡ Some e)
 
 pub lawful-voted : (rule : Rule) → Lawful rule → NamesVoted rule
 lawful-voted rule law l v e q = law.voted l v e (law.sound l v e q)
@@ -54,14 +54,14 @@ pub decides-alike : (founding : List ℕ) (o p : Office) → o.log ≡ p.log →
 decides-alike founding o p l v = λ i. by_settled founding (l i) (λ k. v k i)
 
 -- where they have heard different votes, and of no office two: if both settle an entry, it is the same
-pub hears-alike : (rule : Rule) → Lawful rule → (log : List ℕ) (v u : Votes) → ((k x y : ℕ) → v k ≡ some x → u k ≡ some y → x ≡ y)
-    → (e f : ℕ) → rule log v ≡ some e → rule log u ≡ some f → e ≡ f
+pub hears-alike : (rule : Rule) → Lawful rule → (log : List ℕ) (v u : Votes) → ((k x y : ℕ) → v k ≡ Some x → u k ≡ Some y → x ≡ y)
+    → (e f : ℕ) → rule log v ≡ Some e → rule log u ≡ Some f → e ≡ f
 hears-alike rule law log v u one e f p q =
     law.unique log joined e f (law.grows log v joined e mine (law.sound log v e p)) (law.grows log u joined f theirs (law.sound log u f q))
   where
     or : Option ℕ → Option ℕ → Option ℕ
-    or none b = b
-    or (some x) b = some x
+    or None b = b
+    or (Some x) b = Some x
 
     joined : Votes
     joined k = or (v k) (u k)
@@ -72,6 +72,6 @@ hears-alike rule law log v u one e f p q =
     theirs : Grows u joined
     theirs k y h = go (v k) (one k)
       where
-        go : (a : Option ℕ) → ((x y : ℕ) → a ≡ some x → u k ≡ some y → x ≡ y) → or a (u k) ≡ some y
-        go none same = h
-        go (some x) same = ap some (same x y refl h)
+        go : (a : Option ℕ) → ((x y : ℕ) → a ≡ Some x → u k ≡ Some y → x ≡ y) → or a (u k) ≡ Some y
+        go None same = h
+        go (Some x) same = ap Some (same x y refl h)

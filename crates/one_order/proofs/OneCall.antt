@@ -1,12 +1,12 @@
 -- One call and every office: what holds between an office and itself, and between an office and what issue, take or elect makes of it, holds
 -- between every office before and after any call. Assumes nothing.
 use mathlib.Core.Path.{sym, subst}
-use mathlib.Core.Option.{Option, none, some}
+use Rattle.std.specs.Prelude.{Option, None, Some}
 use mathlib.Core.Bool.{◌&&◌}
 use mathlib.Core.Logic.{inl, inr}
 use Prim.Native.Nat.{ℕ}
 use lib.Dec.{eqb}
-use lib.ListN.{get_elem?}
+use Rattle.std.specs.Prelude.{slice_get}
 use Rattle.protocol.specs.Entry.{value}
 use Rattle.protocol.specs.Vote.{Rule}
 use Rattle.protocol.specs.Office.{Office, Message, fresh}
@@ -33,14 +33,14 @@ module _ (rule : Rule) (R : Office → Office → Type 0) (each : EachChange rul
       go (inr e) = subst (λ (x : Office). R (at w j) x) (sym e.2) (subst (λ (i : ℕ). R (at w i) o) (sym e.0) h)
 
   taking-relates : (k : ℕ) (m : Option Message) (o : Office) → R o (taking k m o)
-  taking-relates k none o = each.alone o
-  taking-relates k (some m) o = each.taken k m o
+  taking-relates k None o = each.alone o
+  taking-relates k (Some m) o = each.taken k m o
 
   done-relates : (w : World) (c : Call) (j : ℕ) → R (at w j) (at (done rule w c) j)
   unfolding done
   done-relates w (issue k line code) j = put-relates w k (with_issue k (value k line code) (at w k)) (each.issued k (value k line code) (at w k)) j
   done-relates w (send k room) j = each.alone (at w j)
-  done-relates w (take k m) j = put-relates w k (taking k (get_elem? w.sent m) (at w k)) (taking-relates k (get_elem? w.sent m) (at w k)) j
+  done-relates w (take k m) j = put-relates w k (taking k (slice_get w.sent m) (at w k)) (taking-relates k (slice_get w.sent m) (at w k)) j
   done-relates w (elect k) j = put-relates w k (with_elect rule (at w k)) (each.elected (at w k)) j
   done-relates w idle j = each.alone (at w j)
 

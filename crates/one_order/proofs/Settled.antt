@@ -2,7 +2,8 @@
 -- office settles is in the order already or comes to its end. Assumes nothing.
 use mathlib.Core.Path.{◌≡◌, refl, ap, subst, ◌∙◌}
 use mathlib.Core.List.{List, [], ◌∷◌, ◌++◌}
-use mathlib.Core.Option.{Option, none, some, some-injective, none-ne-some}
+use Rattle.std.specs.Prelude.{Option, None, Some}
+use Rattle.std.proofs.lemmas.Option.{same_Some, none-some}
 use mathlib.Core.Logic.{◌⊎◌, inl, inr}
 use Prim.Native.Nat.{ℕ}
 use Rattle.protocol.specs.Beginning.{◌⊑◌, ◌⊏◌}
@@ -18,14 +19,14 @@ use Rattle.one_order.proofs.Known.{Snapshot, BallotsKnown}
 use Rattle.one_order.proofs.Issued.{OwnIssued, EachIssued, issued-under, each-issued-wider, each-issued-self}
 
 or_else : Option ℕ → Option ℕ → Option ℕ
-or_else none b = b
-or_else (some x) b = some x
+or_else None b = b
+or_else (Some x) b = Some x
 
 module _ (rule : Rule) (n : ℕ) (law : Lawful rule) where
   -- votes that were cast at p elect e
   pub record Elected (cs : List Call) (p : List ℕ) (e : ℕ) : Type 0 where
     pub ballots : Votes
-    pub cast : (k x : ℕ) → ballots k ≡ some x → Voted rule n cs k p x
+    pub cast : (k x : ℕ) → ballots k ≡ Some x → Voted rule n cs k p x
     pub wins : law.Winner p ballots e
 
   pub elected-unique : (cs : List Call) (p : List ℕ) (e f : ℕ) → Elected cs p e → Elected cs p f → e ≡ f
@@ -41,9 +42,9 @@ module _ (rule : Rule) (n : ℕ) (law : Lawful rule) where
       right : Grows b.ballots both
       right k x q = go (a.ballots k) refl
         where
-          go : (o : Option ℕ) → a.ballots k ≡ o → both k ≡ some x
-          go none r = ap (λ (o : Option ℕ). or_else o (b.ballots k)) r ∙ q
-          go (some y) r = ap (λ (o : Option ℕ). or_else o (b.ballots k)) r ∙ ap some (voted-unique rule n cs k p y x (a.cast k y r) (b.cast k x q))
+          go : (o : Option ℕ) → a.ballots k ≡ o → both k ≡ Some x
+          go None r = ap (λ (o : Option ℕ). or_else o (b.ballots k)) r ∙ q
+          go (Some y) r = ap (λ (o : Option ℕ). or_else o (b.ballots k)) r ∙ ap Some (voted-unique rule n cs k p y x (a.cast k y r) (b.cast k x q))
 
   pub elected-later : {h cs : List Call} {p : List ℕ} {e : ℕ} → Past h cs → Elected h p e → Elected cs p e
   elected-later a i = record { ballots = i.ballots; cast = λ k x q. voted-later rule n a (i.cast k x q); wins = i.wins }
@@ -53,13 +54,13 @@ module _ (rule : Rule) (n : ℕ) (law : Lawful rule) where
   EachElected cs q = (p : List ℕ) (e : ℕ) → (p ++ (e ∷ [])) ⊑ q → Elected cs p e
 
   -- the rule's winner at an office with known ballots is elected
-  pub rule-elects : (cs : List Call) (o : Office) (e : ℕ) → BallotsKnown rule n cs o → rule o.log (votes o) ≡ some e → Elected cs o.log e
+  pub rule-elects : (cs : List Call) (o : Office) (e : ℕ) → BallotsKnown rule n cs o → rule o.log (votes o) ≡ Some e → Elected cs o.log e
   rule-elects cs o e b w = record { ballots = votes o; cast = λ k x q. go k x (tail o k) refl q; wins = law.sound o.log (votes o) e w }
     where
-      go : (k x : ℕ) (t : List ℕ) → tail o k ≡ t → first t ≡ some x → Voted rule n cs k o.log x
-      go k x [] r q = absurd (none-ne-some x q)
+      go : (k x : ℕ) (t : List ℕ) → tail o k ≡ t → first t ≡ Some x → Voted rule n cs k o.log x
+      go k x [] r q = absurd (none-some x q)
       go k x (y ∷ t) r q =
-          let same : path o k ≡ o.log ++ (x ∷ t) = ap (λ (s : List ℕ). o.log ++ s) r ∙ ap (λ (z : ℕ). o.log ++ (z ∷ t)) (some-injective y x q) in
+          let same : path o k ≡ o.log ++ (x ∷ t) = ap (λ (s : List ℕ). o.log ++ s) r ∙ ap (λ (z : ℕ). o.log ++ (z ∷ t)) (same_Some y x q) in
           let s : Snapshot rule n cs k o.log (path o k) = b k (rw same (⊏-cons o.log x t)) in
           record { moment = s.moment; past = s.past; within = s.within; for = rw (s.own ∙ same) (snoc-⊑ o.log x t) }
 

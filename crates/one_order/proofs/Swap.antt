@@ -3,11 +3,12 @@
 -- beginnings of one another; so each take is a join (Join.antt), and joins may be swapped. The law is `either_order`. Assumes nothing.
 use mathlib.Core.Path.{◌≡◌, refl, sym, ap, subst, ◌∙◌}
 use mathlib.Core.List.{List, [], ◌∷◌, ◌++◌}
-use mathlib.Core.Option.{some}
+use Rattle.std.specs.Prelude.{Some}
 use mathlib.Core.Logic.{◌⊎◌, inl, inr}
 use Prim.Native.Nat.{ℕ, zero, suc, ◌<◌}
 use native.Mathlib.Omega.{arith}
-use lib.ListN.{length, length-set, length-map, get_elem?}
+use lib.ListN.{length, length-set, length-map}
+use Rattle.std.specs.Prelude.{slice_get}
 use Rattle.protocol.specs.Beginning.{◌⊑◌, ◌⊏◌}
 use Rattle.protocol.specs.Vote.{Rule}
 use Rattle.protocol.specs.Office.{Office, Message, tail, path, votes}
@@ -41,7 +42,7 @@ pub record EitherOrder (k : ℕ) (a b : Message) (o : Office) : Type 0 where
 
 -- m stands at some place of the sent messages
 abbrev pub IsSent : World → Message → Type 0
-IsSent w m = (i : ℕ) × (get_elem? w.sent i ≡ some m)
+IsSent w m = (i : ℕ) × (slice_get w.sent i ≡ Some m)
 
 -- at any office, for any two sent messages, whether it accepts them or not
 abbrev pub Swaps : World → Type 0
@@ -112,7 +113,7 @@ module _ (rule : Rule) (n : ℕ) (law : Lawful rule) where
     -- office k that took message a, and message b
     meets-after : (a b : Message) → IsSent (after rule n cs) a → IsSent (after rule n cs) b → Comparable j (with_take k a (office_at rule n k cs)) b.state
     meets-after a b x y =
-        let nx = taking-change rule n law idle cs inv k x.0 (some a) x.1 in
+        let nx = taking-change rule n law idle cs inv k x.0 (Some a) x.1 in
         let kb = sent-knows b y in
         comparable cs nx.order j (with_take k a (office_at rule n k cs)) b.state
         (record { eight = take-many k a (office_at rule n k cs) ∙ eight rule n cs k; settled = nx.left.settled; known = nx.left.known j other })

@@ -1,10 +1,11 @@
 -- Take keeps the invariant: the message's log is a beginning of the order, and its ballots are own paths that their offices had. Assumes nothing.
 use mathlib.Core.Path.{◌≡◌, refl, sym, ap, subst, ◌∙◌}
 use mathlib.Core.List.{List, [], ◌++◌}
-use mathlib.Core.Option.{Option, none, some}
+use Rattle.std.specs.Prelude.{Option, None, Some}
 use mathlib.Core.Logic.{◌⊎◌, inl, inr}
 use Prim.Native.Nat.{ℕ}
-use lib.ListN.{get_or, get_elem?}
+use lib.ListN.{get_or}
+use Rattle.std.specs.Prelude.{slice_get}
 use Rattle.protocol.specs.Beginning.{◌⊑◌, ◌⊏◌, extends}
 use Rattle.protocol.specs.Vote.{Rule}
 use Rattle.protocol.specs.Office.{Office, Message, tail, path}
@@ -94,7 +95,7 @@ module _ (rule : Rule) (n : ℕ) (law : Lawful rule) where
     pub known : BallotsKnown rule n cs m.state
     pub issued : PathsIssued cs m
 
-  pub known-message : (cs : List Call) (inv : Invariant rule n law cs) (i : ℕ) (m : Message) → get_elem? (after rule n cs).sent i ≡ some m → KnownMessage cs inv m
+  pub known-message : (cs : List Call) (inv : Invariant rule n law cs) (i : ℕ) (m : Message) → slice_get (after rule n cs).sent i ≡ Some m → KnownMessage cs inv m
   known-message cs inv i m e = record {
     settled = top;
     known = back;
@@ -130,13 +131,13 @@ module _ (rule : Rule) (n : ℕ) (law : Lawful rule) where
       up = catch_up-passing cs inv.order k (office_at rule n k cs) m.state.log kn.settled
           (order-issued rule n law cs inv.order inv.elected inv.issued) (now-passing rule n law cs inv k)
 
-  pub taking-change : (c : Call) (cs : List Call) (inv : Invariant rule n law cs) (k i : ℕ) (m : Option Message) → get_elem? (after rule n cs).sent i ≡ m
+  pub taking-change : (c : Call) (cs : List Call) (inv : Invariant rule n law cs) (k i : ℕ) (m : Option Message) → slice_get (after rule n cs).sent i ≡ m
       → NextOffice rule n law c cs inv.order k (taking k m (office_at rule n k cs))
-  taking-change c cs inv k i none e = record {
+  taking-change c cs inv k i None e = record {
     order = inv.order;
     grows = ⊑_refl inv.order;
     elected = inv.elected;
     longest = inl refl;
     left = same_left rule n law c cs inv inv.order (⊑_refl inv.order) k;
   }
-  taking-change c cs inv k i (some m) e = take-change c cs inv k m (known-message cs inv i m e)
+  taking-change c cs inv k i (Some m) e = take-change c cs inv k m (known-message cs inv i m e)

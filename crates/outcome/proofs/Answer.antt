@@ -20,8 +20,7 @@ use Rattle.protocol.specs.Limits.{tails_fine}
 use Rattle.ballots.specs.Ballots.{tail_of, ballot_fine, ballots_fine, off_end}
 use Rattle.ballots.proofs.Laws as B
 use Rattle.eight_ballots.proofs.Eight.{places-fine}
-use Rattle.own_entries.specs.Told.{told_of, told_words, told_refused}
-use Rattle.own_entries.specs.declared.Told.{Told}
+use Rattle.own_entries.specs.Told.{Telling, told_of, told_words, told_refused}
 use Rattle.frame.specs.State.{held_length, held_by, own_ballot}
 use Rattle.frame.specs.Soundness.{sound_b, Sound}
 use Rattle.frame.specs.declared.Record.{Record}
@@ -84,7 +83,7 @@ module _ (before after : Record) (words : List ℕ) where
         ap (λ (t : List ℕ). log_since before after words ++ t) (sym (tail_at after words before.own))
         ∙ sym (drop-append-le (place_in before after) (held_by after words).log (tail (held_by after words) before.own) (omega (arith, begins, log-length after words S)))
 
-    pub report-made : (rest : List ℕ) (told : Told)
+    pub report-made : (rest : List ℕ) (told : Telling)
         → let l = take (held_length after - place_in before after) (drop (place_in before after) words) in
         told ≡ told_of before.own (tail_before before) l (l ++ tail_of (get_or after.ballots before.own off_end)) rest
         → (rest' : List ℕ) → rest' ≡ told_words before.own (tail_before before) l rest → Reports before after words rest (outcome_is told) rest'

@@ -5,8 +5,7 @@ use Rattle.lists.specs.Tests.{both, pick, same}
 use Rattle.protocol.specs.Office.{path}
 use Rattle.ballots.specs.Ballots.{tail_of, ballots_fine}
 use Rattle.own_entries.specs.Parts.{settled_part, pending_part, lost_part, entries_of}
-use Rattle.own_entries.specs.Told.{told_of, told_words, told_refused}
-use Rattle.own_entries.specs.declared.Told.{Told}
+use Rattle.own_entries.specs.Told.{Telling, told_of, told_words, told_refused}
 use Rattle.frame.specs.State.{held_length, held_by, own_ballot}
 use Rattle.frame.specs.Soundness.{sound_b}
 use Rattle.frame.specs.declared.Record.{Record}
@@ -56,7 +55,7 @@ follows before after =
 unfoldable pub reportable : Record → Record → List ℕ → Bool
 reportable before after words = both (sound_b after words) (follows before after)
 
-abbrev pub outcome_is : Told → Outcome
+abbrev pub outcome_is : Telling → Outcome
 outcome_is told = record { number = told.number; settled = told.settled; pending = told.pending; lost = told.lost }
 
 -- 1, "then 6"; "what is refused answers zeros and no rows"

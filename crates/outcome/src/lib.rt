@@ -3,12 +3,16 @@
 #![tactic(auto)]
 
 ghost use Rattle.std.specs.Prelude.{◌≡◌, ◌≤◌};
-ghost use Rattle.outcome.specs.Outcome.{follows, report_of, report_words};
+ghost use Rattle.refusals.specs.Refusals.{number_of};
+ghost use Rattle.own_entries.specs.Told.{told_refused};
+ghost use Rattle.outcome.specs.Outcome.{follows, outcome_is, report_of, report_words};
 
 use ballots::Ballot;
 use frame::Record;
+use refusals::Refusal;
 
 // `number` is 0 when it is done; the counts are 0 where it is refused.
+// C has it as it lies here, so it holds the number and is no `Result`.
 #[repr(C)]
 #[derive(Clone, Copy)]
 pub struct Outcome {
@@ -29,9 +33,7 @@ fn follows(before: Record, after: Record) -> bool
     if before.own != after.own {
         return false;
     }
-    let weights = before.weights;
-    let founding = after.weights;
-    if !lists::same_eight(weights, founding) {
+    if before.weights != after.weights {
         return false;
     }
     let settled = before.settled;
@@ -53,6 +55,18 @@ fn follows(before: Record, after: Record) -> bool
     eight_ballots::fine(ballots, before.n, held)
 }
 
+// What is refused answers zeros.
+fn refused(refusal: Refusal) -> Outcome
+    ensures { result ≡ outcome_is (told_refused (number_of refusal)) }
+{
+    Outcome {
+        number: refusal.number(),
+        settled: 0,
+        pending: 0,
+        lost: 0,
+    }
+}
+
 // What became of the own entries that were pending in `before`, by the record `after` of the same office and its log. Those pending still, and
 // behind them those lost, are written to `rest`.
 pub fn report(before: Record, after: Record, log: &[u32], rest: &mut [u32]) -> Outcome
@@ -60,35 +74,24 @@ pub fn report(before: Record, after: Record, log: &[u32], rest: &mut [u32]) -> O
     ensures words { rest.new ≡ report_words before after log.now rest.old }
 {
     if !after.sound(log) {
-        return Outcome {
-            number: 1,
-            settled: 0,
-            pending: 0,
-            lost: 0,
-        };
+        return refused(Refusal::Unsound);
     }
     if !follows(before, after) {
-        return Outcome {
-            number: 1,
-            settled: 0,
-            pending: 0,
-            lost: 0,
-        };
+        return refused(Refusal::Unsound);
     }
     let own = before.own;
     let was = before.ballots[own];
-    let cells = was.cells;
-    let len = was.len;
     let now = after.ballots[own];
-    let later = now.cells;
-    let end = now.len;
     let from = (before.settled - after.kept.dropped) as usize;
     let held = (after.settled - after.kept.dropped) as usize;
-    let told = pending::tell(own, &cells[..len], &log[from..held], &later[..end], rest);
-    Outcome {
-        number: told.number,
-        settled: told.settled,
-        pending: told.pending,
-        lost: told.lost,
+    let tail = &was.cells[..was.len];
+    match pending::tell(own, tail, &log[from..held], &now.cells[..now.len], rest) {
+        Ok(told) => Outcome {
+            number: 0,
+            settled: told.settled,
+            pending: told.pending,
+            lost: told.lost,
+        },
+        Err(refusal) => refused(refusal),
     }
 }

@@ -15,8 +15,7 @@ use Rattle.lists.proofs.Walk.{take-from, rest_part}
 use Rattle.protocol.specs.Beginning.{◌⊑◌}
 use Rattle.protocol_laws.proofs.Beginning.{⊑-rest}
 use Rattle.own_entries.specs.Parts.{settled_part, kept_part, pending_part, lost_part, entries_of}
-use Rattle.own_entries.specs.Told.{rest_of, has_room, told_done, told_refused, told_of, told_words}
-use Rattle.own_entries.specs.declared.Told.{Told}
+use Rattle.own_entries.specs.Told.{Telling, rest_of, has_room, told_done, told_refused, told_of, told_words}
 use Rattle.own_entries.proofs.Common.{common-left, common-grows, common-take}
 use Rattle.own_entries.proofs.Own.{entries-append}
 
@@ -50,7 +49,7 @@ pub record Cut (own : ℕ) (t l p : List ℕ) (s k settled pending lost : ℕ) :
   pub of-lost : lost ≡ length (entries_of own (take (length t - k) (drop k t)))
 
 module _ {own : ℕ} {t l p : List ℕ} {s k settled pending lost : ℕ} (c : Cut own t l p s k settled pending lost) where
-  counts : ◌≡◌ {A = Told} (record { number = 0; settled = settled; pending = pending; lost = lost }) (told_done own t l p)
+  counts : ◌≡◌ {A = Telling} (record { number = 0; settled = settled; pending = pending; lost = lost }) (told_done own t l p)
   counts = λ i. record {
     number = 0;
     settled = (c.of-settled ∙ count (ap (λ (j : ℕ). take j t) c.first ∙ sym (common-take t l))) i;
@@ -64,7 +63,7 @@ module _ {own : ℕ} {t l p : List ℕ} {s k settled pending lost : ℕ} (c : Cu
   rest-long : length (rest_of own t l) ≡ pending + lost
   rest-long =
       ap length (rest-parts t l p c.low own) ∙ length-append (entries_of own (pending_part t l p)) (entries_of own (lost_part t p))
-      ∙ sym (ap (λ (x : Told). x.pending + x.lost) counts)
+      ∙ sym (ap (λ (x : Telling). x.pending + x.lost) counts)
 
   -- what is written
   rest-is : entries_of own (take (length t - s) (drop s t)) ≡ rest_of own t l
@@ -79,7 +78,7 @@ module _ {own : ℕ} {t l p : List ℕ} {s k settled pending lost : ℕ} (c : Cu
     tell-room h = omega (arith, rest-long, ap length rest-is)
 
     pub tell-done : pending + lost ≤ length rest → (last : List ℕ) → last ≡ sets rest 0 (entries_of own (take (length t - s) (drop s t)))
-        → (◌≡◌ {A = Told} (record { number = 0; settled = settled; pending = pending; lost = lost }) (told_of own t l p rest)) × (last ≡ told_words own t l rest)
+        → (◌≡◌ {A = Telling} (record { number = 0; settled = settled; pending = pending; lost = lost }) (told_of own t l p rest)) × (last ≡ told_words own t l rest)
     unfolding told_of told_words has_room pick
     tell-done h last w =
         let e = le-leb (length (rest_of own t l)) (length rest) (omega (arith, rest-long)) in (

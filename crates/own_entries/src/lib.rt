@@ -2,10 +2,9 @@
 // definitions and laws, no code.
 #![tactic(auto)]
 
-// Of the own entries that were pending, how many settled, how many are pending still and how many are lost. `number` is 0 when it is done.
+// Of the own entries that were pending, how many settled, how many are pending still and how many are lost.
 #[derive(Clone, Copy)]
 pub struct Told {
-    pub number: u32,
     pub settled: usize,
     pub pending: usize,
     pub lost: usize,

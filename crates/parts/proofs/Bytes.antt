@@ -1,11 +1,11 @@
 -- Counts as the bytes of one number.
---     low-next, low-done                      a walk over the bytes, each below 128
+--     low-all                                 each of its eight bytes is below 128
 --     Raised, raised-first, raised-next       a walk over cells that hold a tail: the counts of the cells so far, raised
 --     office-below, raised-room               each cell's office has a byte, and there is room for one entry more
 --     raised-fair                             at the walk's end the bytes are below 128 where the tail is fair
 -- Assumes nothing.
 use mathlib.Core.Path.{◌≡◌, refl, sym, ap, ◌∙◌}
-use mathlib.Core.Bool.{Bool, true, false, ◌&&◌}
+use mathlib.Core.Bool.{Bool, true}
 use mathlib.Core.List.{List, [], ◌∷◌, map}
 use Prim.Native.Nat.{ℕ, zero, suc, ◌+◌, ◌-◌, ◌*◌, ◌/◌, ◌%◌, ◌<◌, ◌≤◌}
 use native.Mathlib.Nat.{not-suc-le-zero, le_of_suc-le-suc, div-le_self}
@@ -16,8 +16,9 @@ use lib.Dec.{eqb, ltb}
 use lib.ListN.{length, get_or, take, drop, set, replicate, length-drop, take-append-drop, length-take}
 use lib.Seq.{take-suc, take_all}
 use borrow.Author.Tests.{eqb-true, ltb-true, lt-ltb}
+use Rattle.std.specs.List.{list_all}
 use Rattle.lists.specs.Tests.{both, pick, all_b}
-use Rattle.lists.proofs.Tests.{both-0, both-1, both-assoc, alike, all-at, all_of, all_take, all-mono, if-cases, get_d_map}
+use Rattle.lists.proofs.Tests.{both-0, both-1, alike, all-at, all_of, all_take, all-mono, if-cases, get_d_map}
 use Rattle.lists.proofs.Walk.{and_both}
 use Rattle.protocol.specs.Entry.{office_of, is_entry, proper}
 use Rattle.protocol.specs.Counts.{count_in, counts_after}
@@ -27,20 +28,24 @@ use Rattle.protocol_laws.proofs.Fair.{fair-at, fair-of}
 use Rattle.parts.specs.Bytes.{Holding, low_bytes}
 
 -- ── each byte is below 128 ──
-module _ {b : Bool} (low : Bool) (rest k : ℕ) (inv : b ≡ both low (low_bytes (8 - k) rest)) where
-  pub low-next : k < 8 → b ≡ both (low && ltb (rest % 256) 128) (low_bytes (8 - (k + 1)) (rest / 256))
-  unfolding low_bytes
-  low-next h =
-      let s : 8 - k ≡ suc (8 - (k + 1)) = omega arith in
-      inv ∙ ap (λ (j : ℕ). both low (low_bytes j rest)) s ∙ sym (both-assoc low _ _) ∙ ap (λ (t : Bool). both t (low_bytes (8 - (k + 1)) (rest / 256))) (sym (and_both low _))
+all-both : (p : ℕ → Bool) (xs : List ℕ) → list_all p xs ≡ all_b p xs
+unfolding all_b
+all-both p [] = refl
+all-both p (x ∷ xs) = and_both (p x) (list_all p xs) ∙ ap (both (p x)) (all-both p xs)
 
-  pub low-done : 8 ≤ k → low ≡ b
-  unfolding low_bytes both
-  low-done h = let s : 8 - k ≡ 0 = omega arith in sym (inv ∙ ap (λ (j : ℕ). both low (low_bytes j rest)) s ∙ end low)
-    where
-      end : (a : Bool) → both a true ≡ a
-      end true = refl
-      end false = refl
+abbrev eight_bytes : ℕ → List ℕ
+eight_bytes x = x % 256 ∷ x / 256 % 256 ∷ x / 65536 % 256 ∷ x / 16777216 % 256 ∷ x / 4294967296 % 256 ∷ x / 1099511627776 % 256 ∷ x / 281474976710656 % 256 ∷ x / 72057594037927936 % 256 ∷ []
+
+pub low-all : (x : ℕ) → list_all (λ (b : ℕ). ltb b 128) (eight_bytes x) ≡ low_bytes 8 x
+unfolding low_bytes all_b
+low-all x =
+    let d2 : x / 256 / 256 ≡ x / 65536 = omega arith in
+    let d3 : x / 65536 / 256 ≡ x / 16777216 = omega arith in
+    let d4 : x / 16777216 / 256 ≡ x / 4294967296 = omega arith in
+    let d5 : x / 4294967296 / 256 ≡ x / 1099511627776 = omega arith in
+    let d6 : x / 1099511627776 / 256 ≡ x / 281474976710656 = omega arith in
+    let d7 : x / 281474976710656 / 256 ≡ x / 72057594037927936 = omega arith in
+    rw (d2, d3, d4, d5, d6, d7) (all-both (λ (b : ℕ). ltb b 128) (eight_bytes x))
 
 -- ── numbers below 256 as the bytes of one number, the first as its lowest ──
 pub in_bytes : List ℕ → ℕ

@@ -11,13 +11,7 @@ use words::office_of;
 fn low_bytes(bytes: u64) -> bool
     ensures { result ≡ low_bytes 8 bytes }
 {
-    let mut rest = bytes;
-    let mut low = true;
-    for k in 0..8usize {
-        low = low & (rest % 256 < 128);
-        rest = rest / 256;
-    }
-    low
+    bytes.to_le_bytes().iter().all(|byte| *byte < 128)
 }
 
 // Whether none of n offices has more than its part of the tail of this length in 32 cells: at once where the tail is no longer than a part.
@@ -43,8 +37,8 @@ pub fn fair(cells: [u32; 32], len: usize, n: usize) -> bool
         72057594037927936,
     ];
     let mut counts: u64 = (127 - part as u64) * 72340172838076673 - (32 - len as u64);
-    for i in 0..32 {
-        counts = counts + units[office_of(cells[i])];
+    for cell in &cells {
+        counts = counts + units[office_of(*cell)];
     }
     low_bytes(counts)
 }

@@ -15,7 +15,7 @@ use borrow.Author.Tests.{lt-ltb, le-ltb, le-leb, lt-leb}
 use Rattle.lists.specs.Tests.{pick}
 use Rattle.lists.proofs.Tests.{pick-cases}
 use Rattle.lists.proofs.Stores.{sets-append}
-use Rattle.printing.specs.Printing.{glyph, decimal_in, decimal_of, printed_at}
+use Rattle.printing.specs.Printing.{glyph, decimal_in, decimal_of, printed_at, Puts}
 
 pub digits-none : (places n : ℕ) → places ≡ 0 → decimal_in places n ≡ []
 unfolding decimal_in
@@ -47,10 +47,10 @@ put-behind out at g xs = sym (sets-append out at xs (g ∷ []))
 
 module _ (out last : List ℕ) (at r g places n : ℕ) (h : 1 ≤ places) (l : 10 ≤ n) where
   pub put_last : r ≡ at + length (decimal_in (places - 1) (n / 10)) → last ≡ sets out at (decimal_in (places - 1) (n / 10)) → g ≡ glyph (n % 10)
-      → (r + 1 ≡ at + length (decimal_in places n)) × (set last r g ≡ sets out at (decimal_in places n))
+      → Puts out at (decimal_in places n) (r + 1) (set last r g)
   put_last er el eg =
       let e = digits_more places n h l in
-      (rw (e, length-append) (omega arith), rw (er, el, eg, e) (put-behind out at (glyph (n % 10)) (decimal_in (places - 1) (n / 10))))
+      record { end = rw (e, length-append) (omega arith); output = rw (er, el, eg, e) (put-behind out at (glyph (n % 10)) (decimal_in (places - 1) (n / 10))) }
 
 -- where there is room, all digits are printed, and else none
 module _ (out : List ℕ) (at n : ℕ) where

@@ -11,31 +11,29 @@ use lib.Dec.{ltb}
 use lib.ListN.{length, get_or, length-append, get_or-append}
 use borrow.Author.Tests.{le-leb, ne_eqb, ltb-true, ltb-false}
 use Rattle.lists.specs.Tests.{both, pick}
-use Rattle.decimal.specs.declared.number.Number.{Number}
-use Rattle.decimal.specs.declared.number.Number.TheVariants.{Value, Not}
-use Rattle.decimal.specs.Number.{by_number, is_digit, appended, digit_of, digits_of, leading_zero, number_of}
+use Rattle.std.specs.Prelude.{Option, Some, None, option_and_then}
+use Rattle.decimal.specs.Number.{is_digit, appended, digit_of, digits_of, leading_zero, number_of}
 use Rattle.printing.specs.Printing.{glyph, decimal_in, decimal_of}
 use Rattle.printing.proofs.Digits.{digits-one, digits_more}
 
 module _ (most : ℕ) where
   -- one more digit at the end
-  by_itself : (x : Number) → by_number x (λ (w : ℕ). digits_of most w []) Not ≡ x
-  unfolding by_number digits_of
-  by_itself (Value v) = refl
-  by_itself Not = refl
+  by_itself : (x : Option ℕ) → option_and_then (λ (w : ℕ). digits_of most w []) x ≡ x
+  unfolding digits_of
+  by_itself (Some v) = refl
+  by_itself None = refl
 
-  last-by : (x : Number) (xs : List ℕ) (d : ℕ) → ((w : ℕ) → digits_of most w (xs ++ (d ∷ [])) ≡ by_number (digits_of most w xs) (λ (u : ℕ). digit_of most u d) Not)
-      → by_number x (λ (w : ℕ). digits_of most w (xs ++ (d ∷ []))) Not ≡ by_number (by_number x (λ (w : ℕ). digits_of most w xs) Not) (λ (u : ℕ). digit_of most u d) Not
-  unfolding by_number
-  last-by (Value w) xs d h = h w
-  last-by Not xs d h = refl
+  last-by : (x : Option ℕ) (xs : List ℕ) (d : ℕ) → ((w : ℕ) → digits_of most w (xs ++ (d ∷ [])) ≡ option_and_then (λ (u : ℕ). digit_of most u d) (digits_of most w xs))
+      → option_and_then (λ (w : ℕ). digits_of most w (xs ++ (d ∷ []))) x ≡ option_and_then (λ (u : ℕ). digit_of most u d) (option_and_then (λ (w : ℕ). digits_of most w xs) x)
+  last-by (Some w) xs d h = h w
+  last-by None xs d h = refl
 
-  digits_last : (v : ℕ) (xs : List ℕ) (d : ℕ) → digits_of most v (xs ++ (d ∷ [])) ≡ by_number (digits_of most v xs) (λ (w : ℕ). digit_of most w d) Not
-  unfolding digits_of by_number
+  digits_last : (v : ℕ) (xs : List ℕ) (d : ℕ) → digits_of most v (xs ++ (d ∷ [])) ≡ option_and_then (λ (w : ℕ). digit_of most w d) (digits_of most v xs)
+  unfolding digits_of
   digits_last v [] d = by_itself (digit_of most v d)
   digits_last v (b ∷ xs) d = last-by (digit_of most v b) xs d (λ w. digits_last w xs d)
 
-  digit-read : (v d : ℕ) → d < 10 → v * 10 + d ≤ most → digit_of most v (glyph d) ≡ Value (v * 10 + d)
+  digit-read : (v d : ℕ) → d < 10 → v * 10 + d ≤ most → digit_of most v (glyph d) ≡ Some (v * 10 + d)
   unfolding digit_of is_digit both pick
   digit-read v d h l =
       let e : appended v (glyph d) ≡ v * 10 + d = omega arith in
@@ -43,8 +41,8 @@ module _ (most : ℕ) where
 
   -- a number of more than one digit, by the digits before its last
   module _ (places n : ℕ) (l : n ≤ most) where
-    read_by : (t : Bool) → ltb n 10 ≡ t → (10 ≤ n → digits_of most 0 (decimal_in places (n / 10)) ≡ Value (n / 10)) → digits_of most 0 (decimal_in (suc places) n) ≡ Value n
-    unfolding digits_of by_number
+    read_by : (t : Bool) → ltb n 10 ≡ t → (10 ≤ n → digits_of most 0 (decimal_in places (n / 10)) ≡ Some (n / 10)) → digits_of most 0 (decimal_in (suc places) n) ≡ Some n
+    unfolding digits_of
     read_by true e h =
         let k : n < 10 = ltb-true n 10 e in
         let z : 0 * 10 + n ≡ n = omega arith in
@@ -67,9 +65,9 @@ module _ (most : ℕ) where
         let g : get_or (ds ++ (glyph (n % 10) ∷ [])) 0 0 ≡ get_or ds 0 0 = get_or-append ds (glyph (n % 10) ∷ []) 0 0 (h k).0 in
         rw (digits_more (suc places) n (omega arith) k, p, g, length-append) (omega (arith, (h k).0), (h k).1)
 
-  digits-read : (places n : ℕ) → n ≤ most → n < 10 ^ places → digits_of most 0 (decimal_in places n) ≡ Value n
+  digits-read : (places n : ℕ) → n ≤ most → n < 10 ^ places → digits_of most 0 (decimal_in places n) ≡ Some n
   unfolding digits_of decimal_in
-  digits-read zero n l h = ap Value (omega arith)
+  digits-read zero n l h = ap Some (omega arith)
   digits-read (suc places) n l h =
       read_by places n l (ltb n 10) refl (λ k. digits-read places (n / 10) (omega arith) (omega (arith, rw pow-succ' at h)))
 
@@ -79,17 +77,17 @@ module _ (most : ℕ) where
   starts (suc places) n l h o =
       starts_by places n l (ltb n 10) refl o (λ k. starts places (n / 10) (omega arith) (omega (arith, rw pow-succ' at h)) (omega arith))
 
-  number-of : (field : List ℕ) (n : ℕ) → 0 < length field → 49 ≤ get_or field 0 0 → digits_of most 0 field ≡ Value n → number_of most field ≡ Value n
+  number-of : (field : List ℕ) (n : ℕ) → 0 < length field → 49 ≤ get_or field 0 0 → digits_of most 0 field ≡ Some n → number_of most field ≡ Some n
   unfolding number_of leading_zero both pick
   number-of field n h g e =
       rw (ne_eqb (length field) 0 (λ z. omega (arith, z)), ne_eqb (get_or field 0 0) 48 (λ z. omega (arith, z))) (without (ltb 1 (length field)))
     where
-      without : (t : Bool) → pick (both t false) Not (digits_of most 0 field) ≡ Value n
+      without : (t : Bool) → pick (both t false) None (digits_of most 0 field) ≡ Some n
       without true = e
       without false = e
 
-  pub printed-number : (n : ℕ) → n ≤ most → n < 10 ^ 20 → number_of most (decimal_of n) ≡ Value n
-  unfolding number_of leading_zero digits_of digit_of by_number decimal_in is_digit both pick
+  pub printed-number : (n : ℕ) → n ≤ most → n < 10 ^ 20 → number_of most (decimal_of n) ≡ Some n
+  unfolding number_of leading_zero digits_of digit_of decimal_in is_digit both pick
   printed-number zero l h = rw (le-leb 0 most l)
   printed-number (suc n) l h =
       let s = starts 20 (suc n) l h (omega arith) in

@@ -2,8 +2,7 @@
 #![tactic(auto)]
 
 ghost use Rattle.std.specs.Prelude.{◌≡◌, ◌+◌, ◌<◌, ◌≤◌, length};
-ghost use Rattle.std.proofs.lemmas.List.Edits.{sets};
-ghost use Rattle.printing.specs.Printing.{glyph, decimal_in, printed_at};
+ghost use Rattle.printing.specs.Printing.{glyph, decimal_in, printed_at, Puts};
 
 // The most digits that a number of 64 bits has.
 const PLACES: usize = 20;
@@ -13,13 +12,15 @@ fn glyph_of(digit: usize) -> u8
     requires { digit < 10 }
     ensures { result ≡ glyph digit }
 {
-    48 + (digit as u8)
+    b'0' + digit as u8
 }
 
+// Written by hand into the lent output, place by place: `format!` makes a `String`, and there is no heap; `itoa` writes to a buffer of its own, from
+// which the digits would be copied.
 // Writes the number's digits, at most `places` of them, and answers the place behind them.
 fn put_digits(out: &mut [u8], at: usize, n: usize, places: usize) -> usize
     requires { at + places ≤ length out.old }
-    ensures { (result ≡ at + length (decimal_in places n)) × (out.new ≡ sets out.old at (decimal_in places n)) }
+    ensures { Puts out.old at (decimal_in places n) result out.new }
 {
     if places == 0 {
         return at;
@@ -35,8 +36,7 @@ fn put_digits(out: &mut [u8], at: usize, n: usize, places: usize) -> usize
 
 // Writes the number's digits from `at` on, and answers the place behind them. It wants room for 20, and without it writes nothing.
 pub fn put_number(out: &mut [u8], at: usize, n: usize) -> usize
-    ensures end { result ≡ at + length (printed_at out.old at n) }
-    ensures output { out.new ≡ sets out.old at (printed_at out.old at n) }
+    ensures { Puts out.old at (printed_at out.old at n) result out.new }
 {
     if at > out.len() {
         return at;

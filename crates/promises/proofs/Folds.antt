@@ -3,7 +3,7 @@
 use mathlib.Core.Path.{◌≡◌, refl, sym, ap, ap₂, ◌∙◌}
 use mathlib.Core.Bool.{Bool, true, false}
 use mathlib.Core.List.{List}
-use mathlib.Core.Option.{Option}
+use Rattle.std.specs.Prelude.{Option}
 use Prim.Native.Nat.{ℕ, zero, suc, ◌+◌, ◌-◌, ◌<◌, ◌≤◌, min}
 use native.Mathlib.Omega.{arith}
 use lib.Dec.{eqb, leb}
@@ -23,11 +23,10 @@ use Rattle.ballots.specs.Ballots.{words_with}
 use Rattle.frame.specs.State.{held_by, folded_by, with_held, holding}
 use Rattle.frame.specs.Soundness.{sound_b, Sound}
 use Rattle.folding.specs.Folding.{shortened_of, fold_of, fold_words}
-use Rattle.shown_edits.specs.Shown.{edit_is}
-use Rattle.both_frames.specs.Frames.{kept_edit, refused_frame, shown_in, frame_of, settled_frame_of, tentative_frame_of, all_lines_of}
+use Rattle.both_frames.specs.Frames.{kept_edit, shown_in, frame_of, settled_frame_of, tentative_frame_of, all_lines_of}
 use Rattle.frame.specs.declared.Record.{Record}
 use Rattle.folding.specs.declared.Folded.{Folded}
-use Rattle.both_frames.specs.declared.Framed.{Framed}
+use Rattle.both_frames.specs.Framed.{Framed, refused_frame}
 use Rattle.frame.proofs.Sound.{sound-true}
 use Rattle.frame.proofs.State as State
 use Rattle.both_frames.proofs.Shown.{frame-shown, stored-code, lines-shown}
@@ -92,8 +91,8 @@ unfolding shown_in pick
 shown-same line b b' p p' e = go (leb line 63) refl
   where
     go : (t : Bool) → leb line 63 ≡ t
-        → pick {A = Framed} t (record { number = 0; edit = edit_is (edit_after line b' p') }) (refused_frame 3) ≡ pick t (record { number = 0; edit = edit_is (edit_after line b p) }) (refused_frame 3)
-    go true h = λ i. record { number = 0; edit = edit_is (e (leb-true line 63 h) i) }
+        → pick {A = Framed} t (record { number = 0; edit = edit_after line b' p' }) (refused_frame 3) ≡ pick t (record { number = 0; edit = edit_after line b p }) (refused_frame 3)
+    go true h = λ i. record { number = 0; edit = e (leb-true line 63 h) i }
     go false h = refl
 
 module _ (r : Record) (words : List ℕ) (q : (fold_of r words).number ≡ 0) where

@@ -6,7 +6,7 @@
 use mathlib.Core.Path.{◌≡◌, refl, sym, ap, ap₂, ◌∙◌}
 use mathlib.Core.Bool.{Bool, true, false}
 use mathlib.Core.List.{List, [], ◌∷◌, ◌++◌, append_assoc}
-use mathlib.Core.Option.{Option, some}
+use Rattle.std.specs.Prelude.{Option, Some}
 use Prim.Native.Nat.{ℕ, ◌<◌, ◌≤◌}
 use native.Mathlib.Omega.{arith}
 use lib.Dec.{eqb}
@@ -27,10 +27,9 @@ use Rattle.kept.specs.declared.Kept.{Kept}
 use Rattle.frame.specs.State.{held_by, folded_by}
 use Rattle.frame.specs.Soundness.{sound_b}
 use Rattle.issuing.specs.Issuing.{issue_of}
-use Rattle.both_frames.specs.Frames.{kept_edit, refused_frame, frame_of, shown_in, settled_frame_of, tentative_frame_of}
+use Rattle.both_frames.specs.Framed.{refused_frame}
+use Rattle.both_frames.specs.Frames.{kept_edit, frame_of, shown_in, settled_frame_of, tentative_frame_of}
 use Rattle.frame.specs.declared.Record.{Record}
-use Rattle.shown_edits.specs.declared.Edit.TheVariants.{Code}
-use Rattle.shown_edits.specs.Shown.{edit_is}
 use Rattle.frame.proofs.Sound.{sound-true}
 use Rattle.both_frames.proofs.Shown.{frame-shown, shown-done}
 use Rattle.frame.proofs.State.{folded-fine, kept-stays}
@@ -40,13 +39,13 @@ own-path : (k e : ℕ) (o : Office) → k < length o.tails → path (with_issue 
 unfolding with_issue
 own-path k e o h = ap (λ (t : List ℕ). o.log ++ t) (get_or-set_same o.tails k (tail o k ++ (e ∷ [])) [] h) ∙ sym (append_assoc o.log (tail o k) (e ∷ []))
 
-last-issued : (office line code : ℕ) (before : Option ℕ) (p : List ℕ) → line ≤ 63 → code ≤ 9999 → edit_after line before (p ++ (value office line code ∷ [])) ≡ some code
+last-issued : (office line code : ℕ) (before : Option ℕ) (p : List ℕ) → line ≤ 63 → code ≤ 9999 → edit_after line before (p ++ (value office line code ∷ [])) ≡ Some code
 unfolding edit_after pick
 last-issued office line code before p l c =
     let here : line_of (value office line code) ≡ line = omega arith in
     let shown : code_of (value office line code) ≡ code = omega arith in
     edit-append line before p (value office line code ∷ []) ∙
-    ap (λ (b : Bool). pick b (some (code_of (value office line code))) (edit_after line before p)) (eq-eqb (line_of (value office line code)) line here) ∙ ap some shown
+    ap (λ (b : Bool). pick b (Some (code_of (value office line code))) (edit_after line before p)) (eq-eqb (line_of (value office line code)) line here) ∙ ap Some shown
 
 held-issued : (k e : ℕ) (f : FoldedOffice) → (with_folded_issue k e f).held ≡ with_issue k e f.held
 unfolding with_folded_issue
@@ -57,7 +56,7 @@ unfolding with_folded_issue
 dropped-same k e f = refl
 
 pub edit-shows : (r : Record) (words : List ℕ) (line code : ℕ) → line ≤ 63 → (issue_of r words line code).number ≡ 0
-    → tentative_frame_of (issue_of r words line code).«record» words line ≡ record { number = 0; edit = Code code }
+    → tentative_frame_of (issue_of r words line code).«record» words line ≡ record { number = 0; edit = Some code }
 edit-shows r words line code low q =
     let D = issue-made r words line code q in
     let S = D.was in
@@ -70,8 +69,8 @@ edit-shows r words line code low q =
     let state : held_by r' words ≡ with_issue r.own e (held_by r words) = ap (λ (f : FoldedOffice). f.held) (issue-state r words line code q) ∙ held-issued r.own e (folded_by r words) in
     let shown : path (held_by r' words) r'.own ≡ path (held_by r words) r.own ++ (e ∷ []) =
     ap₂ path state own ∙ own-path r.own e (held_by r words) (omega (arith, F.eight, H.member, H.most)) in
-    sym (shown-done line (kept_edit r' line) (path (held_by r' words) r'.own) low (Code code)
-    (sym (ap (λ (p : List ℕ). edit_is (edit_after line (kept_edit r' line) p)) shown ∙ ap edit_is (last-issued r.own line code (kept_edit r' line) (path (held_by r words) r.own) low I.code_ok)))
+    sym (shown-done line (kept_edit r' line) (path (held_by r' words) r'.own) low (Some code)
+    (sym (ap (λ (p : List ℕ). edit_after line (kept_edit r' line) p) shown ∙ last-issued r.own line code (kept_edit r' line) (path (held_by r words) r.own) low I.code_ok))
     ∙ frame-shown r' words line (path (held_by r' words) r'.own) (sound-true r' words (issue-sound r words line code q)))
 
 frame_same : (r r' : Record) (words : List ℕ) (line : ℕ) (p p' : List ℕ) → sound_b r' words ≡ sound_b r words → kept_edit r' line ≡ kept_edit r line → p' ≡ p

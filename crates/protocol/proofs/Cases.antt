@@ -2,7 +2,7 @@
 -- limits. Nothing has been dropped. Assumes nothing.
 use mathlib.Core.Path.{◌≡◌, refl}
 use mathlib.Core.List.{List, [], ◌∷◌}
-use mathlib.Core.Option.{none}
+use Rattle.std.specs.Prelude.{None}
 use mathlib.Core.Bool.{true, false}
 use Prim.Native.Nat.{ℕ, ◌+◌}
 use lib.Dec.{ltb}
@@ -151,7 +151,7 @@ pub mistakes :
     -- "comparing paths by per-office counts": 1:ab has as many entries of each office as 0:bad, or fewer, and does not become it
     Takes 1 (from 0 (state [] (b ∷ a ∷ d ∷ []) [] [])) (state [] [] (a ∷ b ∷ []) []) (state [] (b ∷ a ∷ d ∷ []) (a ∷ b ∷ []) []) ×
     -- "leaving an office whose ballot was just reset out of U": in H office 2's ballot c was reset, and d stays unsettled
-    (votes (settle a in_h) 2 ≡ none) × (by_settled (three 40 30 30) (a ∷ []) (votes (settle a in_h)) ≡ none) ×
+    (votes (settle a in_h) 2 ≡ None) × (by_settled (three 40 30 30) (a ∷ []) (votes (settle a in_h)) ≡ None) ×
     -- "breaking a tie before U is added": T(a) = T(b) = 40, U 20
     (Tally (three 40 40 20) in_c a 40 × Tally (three 40 40 20) in_c b 40 × Unheard (three 40 40 20) in_c 20 × Elects (three 40 40 20) in_c in_c 0) ×
     -- "adopting a ballot that merely has more entries": 1:b does not become 0:ad

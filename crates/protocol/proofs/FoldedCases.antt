@@ -2,7 +2,7 @@
 -- and issue; what fold drops; and the limits. Assumes nothing.
 use mathlib.Core.Path.{◌≡◌, refl}
 use mathlib.Core.List.{List, [], ◌∷◌}
-use mathlib.Core.Option.{some}
+use Rattle.std.specs.Prelude.{Some}
 use mathlib.Core.Bool.{true, false}
 use Prim.Native.Nat.{ℕ}
 use lib.ListN.{replicate}
@@ -41,7 +41,7 @@ pub history :
     ((desk_at (after folded) 0).now.dropped ≡ 2) × ((desk_at (after folded) 0).now.held.log ≡ []) ×
     ((desk_at (after folded) 1).now.dropped ≡ 2) × ((desk_at (after folded) 1).now.held.log ≡ []) ×
     -- the code of each line is kept
-    (edit_in (desk_at (after folded) 0).kept.codes 5 ≡ some 120) × (edit_in (desk_at (after folded) 0).kept.codes 6 ≡ some 7) ×
+    (edit_in (desk_at (after folded) 0).kept.codes 5 ≡ Some 120) × (edit_in (desk_at (after folded) 0).kept.codes 6 ≡ Some 7) ×
     -- the whole logs are as they were
     (log_at (after folded) 0 ≡ a ∷ d ∷ []) × (log_at (after folded) 1 ≡ a ∷ d ∷ []) ×
     -- office 0's oldest message ends inside office 1's dropped part, and changes nothing; its message of both entries does not

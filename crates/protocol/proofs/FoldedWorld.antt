@@ -1,12 +1,13 @@
 -- The world of demand 3 with folding, on lists. Beside each office, and beside each sent message, stand the entries that the office had dropped
 -- by then. No call looks at them: they are there for what is claimed of whole logs. Assumes nothing.
 use mathlib.Core.List.{List, [], ◌∷◌, ◌++◌, map}
-use mathlib.Core.Option.{Option, none, some}
+use Rattle.std.specs.Prelude.{Option, None, Some}
 use mathlib.Core.Bool.{Bool, false, ◌&&◌, cond}
 use Prim.Native.Nat.{ℕ, ◌-◌}
 use lib.Dec.{eqb, ltb}
 use lib.ListN as L
-use lib.ListN.{length, get_or, set, replicate, get_elem?}
+use lib.ListN.{length, get_or, set, replicate}
+use Rattle.std.specs.Prelude.{slice_get}
 use Rattle.protocol.specs.Entry.{value}
 use Rattle.protocol.specs.Office.{Office, Message}
 use Rattle.protocol.specs.Folding.{FoldedOffice, Packet, unfolded, packet, with_fold, with_folded_issue, refuse_folded_issue, with_folded_elect, with_folded_take, refuse_folded_take}
@@ -72,18 +73,18 @@ names w (fold k) = is_there w k
 names w idle = false
 
 abbrev pub refuse_taking : ℕ → Option Posted → FoldedOffice → ℕ
-refuse_taking k none f = 0
-refuse_taking k (some m) f = refuse_folded_take k m.message f
+refuse_taking k None f = 0
+refuse_taking k (Some m) f = refuse_folded_take k m.message f
 
 abbrev pub taking : ℕ → Option Posted → FoldedOffice → FoldedOffice
-taking k none f = f
-taking k (some m) f = with_folded_take k m.message f
+taking k None f = f
+taking k (Some m) f = with_folded_take k m.message f
 
 -- the call's number, 0 when it is done; fold is never refused
 unfoldable pub number : World → Call → ℕ
 number w (issue k line code) = refuse_folded_issue (length w.desks) k line code (desk_at w k).now
 number w (send k room) = cond room 0 6
-number w (take k m) = refuse_taking k (get_elem? w.sent m) (desk_at w k).now
+number w (take k m) = refuse_taking k (slice_get w.sent m) (desk_at w k).now
 number w (elect k) = 0
 number w (fold k) = 0
 number w idle = 0
@@ -91,7 +92,7 @@ number w idle = 0
 unfoldable pub done : World → Call → World
 done w (issue k line code) = put w k (with_folded_issue k (value k line code) (desk_at w k).now)
 done w (send k room) = record { desks = w.desks; sent = record { message = packet k (desk_at w k).now; former = (desk_at w k).former } ∷ w.sent }
-done w (take k m) = put w k (taking k (get_elem? w.sent m) (desk_at w k).now)
+done w (take k m) = put w k (taking k (slice_get w.sent m) (desk_at w k).now)
 done w (elect k) = put w k (with_folded_elect (rule_behind (desk_at w k).kept) (desk_at w k).now)
 done w (fold k) = put w k (with_fold (length w.desks) k (desk_at w k).now)
 done w idle = w

@@ -1,11 +1,12 @@
 -- The world of demand 3 on lists: n offices, the messages sent so far, and what each call does. `rule` is the election rule. The world of the
 -- final claim is made of records, log words and message bytes (crate `agreement`); this one is what it is viewed as. Assumes nothing.
 use mathlib.Core.List.{List, [], ◌∷◌}
-use mathlib.Core.Option.{Option, none, some}
+use Rattle.std.specs.Prelude.{Option, None, Some}
 use mathlib.Core.Bool.{Bool, false, ◌&&◌, cond}
 use Prim.Native.Nat.{ℕ}
 use lib.Dec.{eqb, ltb}
-use lib.ListN.{length, get_or, set, replicate, get_elem?}
+use lib.ListN.{length, get_or, set, replicate}
+use Rattle.std.specs.Prelude.{slice_get}
 use Rattle.protocol.specs.Entry.{value}
 use Rattle.protocol.specs.Vote.{Rule}
 use Rattle.protocol.specs.Office.{Office, Message, fresh}
@@ -48,18 +49,18 @@ names w (elect k) = is_there w k
 names w idle = false
 
 abbrev pub refuse_taking : ℕ → Option Message → Office → ℕ
-refuse_taking k none o = 0
-refuse_taking k (some m) o = refuse_take k m o
+refuse_taking k None o = 0
+refuse_taking k (Some m) o = refuse_take k m o
 
 abbrev pub taking : ℕ → Option Message → Office → Office
-taking k none o = o
-taking k (some m) o = with_take k m o
+taking k None o = o
+taking k (Some m) o = with_take k m o
 
 -- the call's number, 0 when it is done. The limits of what an office holds are not this world's: an issue that meets one is viewed as `idle`
 unfoldable pub refusal : World → Call → ℕ
 refusal w (issue k line code) = refuse_entry (length w.offices) line code
 refusal w (send k room) = cond room 0 6
-refusal w (take k m) = refuse_taking k (get_elem? w.sent m) (at w k)
+refusal w (take k m) = refuse_taking k (slice_get w.sent m) (at w k)
 refusal w (elect k) = 0
 refusal w idle = 0
 
@@ -67,7 +68,7 @@ refusal w idle = 0
 unfoldable pub done : Rule → World → Call → World
 done rule w (issue k line code) = put w k (with_issue k (value k line code) (at w k))
 done rule w (send k room) = record { offices = w.offices; sent = record { sender = k; state = at w k } ∷ w.sent }
-done rule w (take k m) = put w k (taking k (get_elem? w.sent m) (at w k))
+done rule w (take k m) = put w k (taking k (slice_get w.sent m) (at w k))
 done rule w (elect k) = put w k (with_elect rule (at w k))
 done rule w idle = w
 

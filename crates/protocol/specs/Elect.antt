@@ -1,6 +1,6 @@
 -- "Elect repeats this step until no entry wins, and answers how many entries it settled, 0 included." Assumes nothing.
 use Rattle.std.specs.Prelude.{List, [], ◌∷◌, ◌++◌, map, cond, ℕ, zero, suc, ◌+◌, ◌-◌, eqb, length}
-use Rattle.std.proofs.Math.Option.{Option, none, some}
+use Rattle.std.specs.Prelude.{Option, None, Some}
 use Rattle.protocol.specs.Vote.{Rule}
 use Rattle.protocol.specs.Office.{Office, votes}
 
@@ -20,8 +20,8 @@ tail_entries (t ∷ ts) = length t + tail_entries ts
 
 -- what follows a step: `a` where no entry wins, `go e` where e does
 abbrev pub next : {A : Type 0} → Option ℕ → A → (ℕ → A) → A
-next none a go = a
-next (some e) a go = go e
+next None a go = a
+next (Some e) a go = go e
 
 -- at most `fuel` steps
 unfoldable pub electing : Rule → ℕ → Office → Office

@@ -1,6 +1,6 @@
 -- An office's state and the message that carries one. Assumes nothing.
 use Rattle.std.specs.Prelude.{List, [], ◌∷◌, ◌++◌, ℕ, get_or, replicate}
-use Rattle.std.proofs.Math.Option.{Option, none, some}
+use Rattle.std.specs.Prelude.{Option, None, Some}
 use Rattle.protocol.specs.Vote.{Votes}
 
 -- the settled log, and the tail of each of eight offices' ballots; an empty tail is no ballot
@@ -24,8 +24,8 @@ abbrev pub path : Office → ℕ → List ℕ
 path o j = o.log ++ tail o j
 
 abbrev pub first : List ℕ → Option ℕ
-first [] = none
-first (x ∷ t) = some x
+first [] = None
+first (x ∷ t) = Some x
 
 -- "each non-empty ballot supports its first tail entry"
 abbrev pub votes_of : List (List ℕ) → Votes

@@ -1,7 +1,7 @@
 -- One election step. `v k` is the entry that office k's ballot supports, none where the office has no ballot. `ws` are the offices'
 -- weights, office 0's first, and `before e f` is the order in which a tie goes to e. Assumes nothing.
 use Rattle.std.specs.Prelude.{List, [], ◌∷◌, Bool, true, false, ◌&&◌, ◌||◌, cond, ℕ, suc, ◌+◌, eqb, ltb}
-use Rattle.std.proofs.Math.Option.{Option, none, some}
+use Rattle.std.specs.Prelude.{Option, None, Some}
 
 abbrev pub Votes : Type 0
 Votes = ℕ → Option ℕ
@@ -11,12 +11,12 @@ abbrev pub later : Votes → Votes
 later v k = v (suc k)
 
 abbrev pub is_for : ℕ → Option ℕ → Bool
-is_for e none = false
-is_for e (some x) = eqb x e
+is_for e None = false
+is_for e (Some x) = eqb x e
 
 abbrev pub is_none : Option ℕ → Bool
-is_none none = true
-is_none (some x) = false
+is_none None = true
+is_none (Some x) = false
 
 -- "T(e) is the weight of the ballots supporting e"
 unfoldable pub tally : List ℕ → Votes → ℕ → ℕ
@@ -29,8 +29,8 @@ unheard [] v = 0
 unheard (w ∷ ws) v = cond (is_none (v 0)) w 0 + unheard ws (later v)
 
 abbrev pub and-also : Option ℕ → List ℕ → List ℕ
-and-also none fs = fs
-and-also (some x) fs = x ∷ fs
+and-also None fs = fs
+and-also (Some x) fs = x ∷ fs
 
 -- the supported entries, by office
 unfoldable pub supported : List ℕ → Votes → List ℕ
@@ -56,8 +56,8 @@ wins ws before v e = ltb (unheard ws v) (tally ws v e) && beats_all ws before v 
 
 -- the first entry that passes a test, and the first that wins, if any
 abbrev pub first_that : (ℕ → Bool) → List ℕ → Option ℕ
-first_that t [] = none
-first_that t (f ∷ fs) = cond (t f) (some f) (first_that t fs)
+first_that t [] = None
+first_that t (f ∷ fs) = cond (t f) (Some f) (first_that t fs)
 
 abbrev pub first_winner : List ℕ → (ℕ → ℕ → Bool) → Votes → List ℕ → Option ℕ
 first_winner ws before v fs = first_that (wins ws before v) fs

@@ -2,12 +2,12 @@
 -- The sentence as a claim about every vote table, for any tie order; since (iii) that is `quieter_by`. That `winner` computes it is proved (laws
 -- `winner-some`, `winner-none`). Assumes nothing.
 use Rattle.std.specs.Prelude.{◌≡◌, List, Bool, true, ◌⊎◌, ℕ, ◌+◌, ◌<◌, length}
-use Rattle.std.proofs.Math.Option.{some}
+use Rattle.std.specs.Prelude.{Some}
 use Rattle.protocol.specs.Vote.{Votes, tally, unheard}
 
 -- some office's ballot supports f
 abbrev pub Supported : List ℕ → Votes → ℕ → Type 0
-Supported ws v f = (k : ℕ) × (k < length ws) × (v k ≡ some f)
+Supported ws v f = (k : ℕ) × (k < length ws) × (v k ≡ Some f)
 
 -- "T(e) > T(f) + U, or T(e) = T(f) + U and" e comes before f
 abbrev pub Beats : List ℕ → (ℕ → ℕ → Bool) → Votes → ℕ → ℕ → Type 0

@@ -7,7 +7,7 @@
 -- Assumes nothing.
 use mathlib.Core.Path.{◌≡◌, refl, sym, ap, ◌∙◌}
 use mathlib.Core.List.{List, [], ◌∷◌, ◌++◌, foldl-append}
-use mathlib.Core.Option.{Option, none, some}
+use Rattle.std.specs.Prelude.{Option, None, Some}
 use Prim.Native.Nat.{ℕ, zero, suc, ◌<◌}
 use native.Mathlib.Omega.{arith}
 use lib.Dec.{eqb}
@@ -21,12 +21,12 @@ use Rattle.protocol.specs.Frames.{edit_after, last_edit}
 use Rattle.protocol.specs.Codes.{cell, of_cell, no_codes, coded, codes_after}
 use Rattle.protocol_laws.proofs.Frames.{edit-append}
 
-pub cell_apart : (code : ℕ) → cell (some code) ≡ cell none → ⊥
+pub cell_apart : (code : ℕ) → cell (Some code) ≡ cell None → ⊥
 cell_apart code e = omega arith
 
 pub cell-back : (o : Option ℕ) → of_cell (cell o) ≡ o
-cell-back none = refl
-cell-back (some code) = refl
+cell-back None = refl
+cell-back (Some code) = refl
 
 pub cell-of : (n : ℕ) → cell (of_cell n) ≡ n
 cell-of zero = refl
@@ -39,11 +39,11 @@ codes-append codes p l = foldl-append coded codes p l
 pub codes-length : (codes log : List ℕ) → length (codes_after codes log) ≡ length codes
 unfolding codes_after
 codes-length codes [] = refl
-codes-length codes (v ∷ log) = codes-length (coded codes v) log ∙ length-set codes (line_of v) (cell (some (code_of v)))
+codes-length codes (v ∷ log) = codes-length (coded codes v) log ∙ length-set codes (line_of v) (cell (Some (code_of v)))
 
-coded-at : (codes : List ℕ) (v line : ℕ) → line < length codes → of_cell (get_or (coded codes v) line 0) ≡ pick (eqb (line_of v) line) (some (code_of v)) (of_cell (get_or codes line 0))
+coded-at : (codes : List ℕ) (v line : ℕ) → line < length codes → of_cell (get_or (coded codes v) line 0) ≡ pick (eqb (line_of v) line) (Some (code_of v)) (of_cell (get_or codes line 0))
 coded-at codes v line h =
-    pick-cases (λ o. of_cell (get_or (coded codes v) line 0) ≡ o) (eqb (line_of v) line) (some (code_of v)) (of_cell (get_or codes line 0))
+    pick-cases (λ o. of_cell (get_or (coded codes v) line 0) ≡ o) (eqb (line_of v) line) (Some (code_of v)) (of_cell (get_or codes line 0))
     (λ q. rw (eqb-true (line_of v) line q) (ap of_cell (get_or-set_same codes line (suc (code_of v)) 0 h)))
     (λ q. ap of_cell (get_or-set_other codes (line_of v) line (suc (code_of v)) 0 (λ s. eqb-false (line_of v) line q (sym s))))
 
@@ -60,4 +60,4 @@ pub kept-edit : (p l : List ℕ) (line : ℕ) → line < 64 → edit_after line 
 kept-edit p l line h =
     ap (λ (o : Option ℕ). edit_after line o l)
     (edits-at no_codes p line (rw (length-replicate {A = ℕ} 64 0) h) ∙ ap (λ (c : ℕ). edit_after line (of_cell c) p) (get_d_replicate {A = ℕ} 64 0 line))
-    ∙ sym (edit-append line none p l)
+    ∙ sym (edit-append line None p l)

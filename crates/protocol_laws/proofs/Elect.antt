@@ -6,7 +6,8 @@
 -- Assumes nothing.
 use mathlib.Core.Path.{◌≡◌, refl, sym, ap, ◌∙◌}
 use mathlib.Core.List.{List, [], ◌∷◌, ◌++◌, map, append-nil, append_assoc}
-use mathlib.Core.Option.{Option, none, some, none-ne-some}
+use Rattle.std.specs.Prelude.{Option, None, Some}
+use Rattle.std.proofs.lemmas.Option.{none-some}
 use mathlib.Core.Bool.{Bool, true, false, cond}
 use Prim.Native.Nat.{ℕ, zero, suc, ◌≤◌, ◌<◌}
 use native.Mathlib.Nat.{le_refl}
@@ -43,9 +44,9 @@ entries-short e [] = omega arith
 entries-short e (t ∷ ts) = omega (arith, lose-short e t, entries-short e ts)
 
 -- a vote is a tail that gets shorter
-entries-shorter : (e x : ℕ) (ts : List (List ℕ)) (k : ℕ) → first (get_or ts k []) ≡ some x → tail_entries (map (lose e) ts) < tail_entries ts
-entries-shorter e x [] k h = absurd (none-ne-some x h)
-entries-shorter e x ([] ∷ ts) zero h = absurd (none-ne-some x h)
+entries-shorter : (e x : ℕ) (ts : List (List ℕ)) (k : ℕ) → first (get_or ts k []) ≡ Some x → tail_entries (map (lose e) ts) < tail_entries ts
+entries-shorter e x [] k h = absurd (none-some x h)
+entries-shorter e x ([] ∷ ts) zero h = absurd (none-some x h)
 entries-shorter e x ((y ∷ t) ∷ ts) zero h = omega (arith, lose-shorter e y t, entries-short e ts)
 entries-shorter e x (t ∷ ts) (suc k) h = omega (arith, lose-short e t, entries-shorter e x ts k h)
 
@@ -80,7 +81,7 @@ elect-most rule o =
     omega (arith, ap length g.log, length-append o.log g.settled, g.most)
 
 -- no entry wins: nothing is settled
-pub elect-none : (rule : Rule) (o : Office) → rule o.log (votes o) ≡ none → with_elect rule o ≡ o
+pub elect-none : (rule : Rule) (o : Office) → rule o.log (votes o) ≡ None → with_elect rule o ≡ o
 unfolding with_elect electing
 elect-none rule o h = go (tail_entries o.tails)
   where
@@ -90,29 +91,29 @@ elect-none rule o h = go (tail_entries o.tails)
 
 -- ── a rule whose winner has a vote ──
 module _ (rule : Rule) (law : NamesVoted rule) where
-  settle-shorter : (o : Office) (e : ℕ) → rule o.log (votes o) ≡ some e → tail_entries (settle e o).tails < tail_entries o.tails
+  settle-shorter : (o : Office) (e : ℕ) → rule o.log (votes o) ≡ Some e → tail_entries (settle e o).tails < tail_entries o.tails
   unfolding settle
   settle-shorter o e q = let k = law o.log (votes o) e q in entries-shorter e e o.tails k.0 k.1
 
-  stops : (fuel : ℕ) (o : Office) → tail_entries o.tails ≤ fuel → rule (electing rule fuel o).log (votes (electing rule fuel o)) ≡ none
+  stops : (fuel : ℕ) (o : Office) → tail_entries o.tails ≤ fuel → rule (electing rule fuel o).log (votes (electing rule fuel o)) ≡ None
   unfolding electing
   stops zero o h = go (rule o.log (votes o)) refl
     where
-      go : (r : Option ℕ) → rule o.log (votes o) ≡ r → rule o.log (votes o) ≡ none
-      go none q = q
-      go (some e) q = absurd (omega (arith, settle-shorter o e q))
+      go : (r : Option ℕ) → rule o.log (votes o) ≡ r → rule o.log (votes o) ≡ None
+      go None q = q
+      go (Some e) q = absurd (omega (arith, settle-shorter o e q))
   stops (suc fuel) o h = go (λ e b. stops fuel (settle e o) b) (rule o.log (votes o)) refl
     where
       Stops : Office → Type 0
-      Stops r = rule r.log (votes r) ≡ none
+      Stops r = rule r.log (votes r) ≡ None
 
       go : ((e : ℕ) → tail_entries (settle e o).tails ≤ fuel → Stops (electing rule fuel (settle e o)))
           → (r : Option ℕ) → rule o.log (votes o) ≡ r → Stops (next r o (λ e. electing rule fuel (settle e o)))
-      go ih none q = q
-      go ih (some e) q = ih e (omega (arith, settle-shorter o e q))
+      go ih None q = q
+      go ih (Some e) q = ih e (omega (arith, settle-shorter o e q))
 
   -- "until no entry wins"
-  pub elect-stops : (o : Office) → rule (with_elect rule o).log (votes (with_elect rule o)) ≡ none
+  pub elect-stops : (o : Office) → rule (with_elect rule o).log (votes (with_elect rule o)) ≡ None
   unfolding with_elect
   elect-stops o = stops (tail_entries o.tails) o (le_refl (tail_entries o.tails))
 
@@ -123,19 +124,19 @@ module _ (rule : Rule) (law : NamesVoted rule) where
   same zero (suc g) o a b = go (rule o.log (votes o)) refl
     where
       go : (r : Option ℕ) → rule o.log (votes o) ≡ r → o ≡ next r o (λ e. electing rule g (settle e o))
-      go none q = refl
-      go (some e) q = absurd (omega (arith, settle-shorter o e q))
+      go None q = refl
+      go (Some e) q = absurd (omega (arith, settle-shorter o e q))
   same (suc f) zero o a b = go (rule o.log (votes o)) refl
     where
       go : (r : Option ℕ) → rule o.log (votes o) ≡ r → next r o (λ e. electing rule f (settle e o)) ≡ o
-      go none q = refl
-      go (some e) q = absurd (omega (arith, settle-shorter o e q))
+      go None q = refl
+      go (Some e) q = absurd (omega (arith, settle-shorter o e q))
   same (suc f) (suc g) o a b = go (λ e x y. same f g (settle e o) x y) (rule o.log (votes o)) refl
     where
       go : ((e : ℕ) → tail_entries (settle e o).tails ≤ f → tail_entries (settle e o).tails ≤ g → electing rule f (settle e o) ≡ electing rule g (settle e o))
           → (r : Option ℕ) → rule o.log (votes o) ≡ r → next r o (λ e. electing rule f (settle e o)) ≡ next r o (λ e. electing rule g (settle e o))
-      go ih none q = refl
-      go ih (some e) q = let s = settle-shorter o e q in ih e (omega arith) (omega arith)
+      go ih None q = refl
+      go ih (Some e) q = let s = settle-shorter o e q in ih e (omega arith) (omega arith)
 
   -- any allowance that the tails' entries do not exceed
   pub electing-enough : (fuel : ℕ) (o : Office) → tail_entries o.tails ≤ fuel → electing rule fuel o ≡ with_elect rule o
@@ -143,7 +144,7 @@ module _ (rule : Rule) (law : NamesVoted rule) where
   electing-enough fuel o h = same fuel (tail_entries o.tails) o h (le_refl (tail_entries o.tails))
 
   -- e wins: elect settles it and goes on from there
-  pub elect-some : (o : Office) (e : ℕ) → rule o.log (votes o) ≡ some e → with_elect rule o ≡ with_elect rule (settle e o)
+  pub elect-some : (o : Office) (e : ℕ) → rule o.log (votes o) ≡ Some e → with_elect rule o ≡ with_elect rule (settle e o)
   unfolding electing
   elect-some o e q =
       sym (electing-enough (suc (tail_entries o.tails)) o (omega arith))

@@ -7,7 +7,8 @@
 use mathlib.Core.Path.{◌≡◌, refl, sym, ap, subst, ◌∙◌}
 use mathlib.Core.Bool.{Bool, true}
 use mathlib.Core.List.{List, [], ◌∷◌, ◌++◌}
-use mathlib.Core.Option.{some, none-ne-some}
+use Rattle.std.specs.Prelude.{Some}
+use Rattle.std.proofs.lemmas.Option.{none-some}
 use mathlib.Core.Logic.{◌⊎◌, inl, inr}
 use Prim.Native.Nat.{ℕ, zero, suc, ◌+◌, ◌-◌, ◌≤◌, ◌<◌, max}
 use native.Mathlib.Omega.{arith}
@@ -158,11 +159,11 @@ take_short b k m o x h j =
     offer (inr e) = subst (λ (t : List ℕ). length (m.state.log ++ t) ≤ b) (sym e.2) (x m.sender)
 
 -- a vote is a path that goes past the log
-vote-short : (b : ℕ) (o : Office) (k e : ℕ) → Short b o → votes o k ≡ some e → length (o.log ++ (e ∷ [])) ≤ b
+vote-short : (b : ℕ) (o : Office) (k e : ℕ) → Short b o → votes o k ≡ Some e → length (o.log ++ (e ∷ [])) ≤ b
 vote-short b o k e h q = omega (arith, length-append o.log (e ∷ []), path-length o k, h k, go (tail o k) q)
   where
-    go : (t : List ℕ) → first t ≡ some e → 1 ≤ length t
-    go [] q = absurd (none-ne-some e q)
+    go : (t : List ℕ) → first t ≡ Some e → 1 ≤ length t
+    go [] q = absurd (none-some e q)
     go (x ∷ t) q = omega arith
 
 electing-short : (b : ℕ) (rule : Rule) → NamesVoted rule → (fuel : ℕ) (o : Office) → Short b o → Short b (electing rule fuel o)

@@ -7,7 +7,8 @@
 use mathlib.Core.Path.{◌≡◌, refl, sym, ap, subst, ◌∙◌}
 use mathlib.Core.Bool.{Bool, true, false, ◌||◌, cond, true≢false}
 use mathlib.Core.List.{List, [], ◌∷◌, ◌++◌, append-nil}
-use mathlib.Core.Option.{some, none-ne-some, some-injective}
+use Rattle.std.specs.Prelude.{Some}
+use Rattle.std.proofs.lemmas.Option.{none-some, same_Some}
 use mathlib.Core.Logic.{◌⊎◌, inl, inr}
 use Prim.Native.Nat.{ℕ, zero, suc, ◌+◌, ◌-◌, ◌<◌, ◌≤◌}
 use native.Mathlib.Omega.{arith}
@@ -139,19 +140,19 @@ unfolding is_empty
 lose-empty e [] h = refl
 lose-empty e (x ∷ t) h = absurd (true≢false (sym h))
 
-first-cons : (t : List ℕ) (e : ℕ) → first t ≡ some e → (r : List ℕ) × (t ≡ e ∷ r)
-first-cons [] e h = absurd (none-ne-some e h)
-first-cons (x ∷ t) e h = (t, ap (λ (y : ℕ). y ∷ t) (some-injective x e h))
+first-cons : (t : List ℕ) (e : ℕ) → first t ≡ Some e → (r : List ℕ) × (t ≡ e ∷ r)
+first-cons [] e h = absurd (none-some e h)
+first-cons (x ∷ t) e h = (t, ap (λ (y : ℕ). y ∷ t) (same_Some x e h))
 
 -- an entry that stands first on a ballot
-pub first_entry : (n : ℕ) (o : Office) → Fine n o → (k e : ℕ) → votes o k ≡ some e → (is_entry n e ≡ true) × (length o.log < 1024)
+pub first_entry : (n : ℕ) (o : Office) → Fine n o → (k e : ℕ) → votes o k ≡ Some e → (is_entry n e ≡ true) × (length o.log < 1024)
 unfolding all_b
 first_entry n o f k e h =
     let r = first-cons (tail o k) e h in
     let t : FineTail n (length o.log) (e ∷ r.0) = subst (λ (z : List ℕ). FineTail n (length o.log) z) r.1 (tail_at n o f k) in
     (both-0 (is_entry n e) (all_b (is_entry n) r.0) t.entries, omega (arith, t.room))
 
-pub settle-fine : (n e : ℕ) (o : Office) → Fine n o → (k : ℕ) → votes o k ≡ some e → Fine n (settle e o)
+pub settle-fine : (n e : ℕ) (o : Office) → Fine n o → (k : ℕ) → votes o k ≡ Some e → Fine n (settle e o)
 unfolding settle
 settle-fine n e o f k h =
     let settled : ℕ = length o.log in

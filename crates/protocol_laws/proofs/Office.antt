@@ -1,7 +1,7 @@
 -- What each call does to the paths of one office. Assumes nothing.
 use mathlib.Core.Path.{◌≡◌, refl, sym, ap, ◌∙◌}
 use mathlib.Core.List.{List, [], ◌∷◌, ◌++◌, map, append-nil, append_assoc}
-use mathlib.Core.Option.{Option, none, some}
+use Rattle.std.specs.Prelude.{Option, None, Some}
 use mathlib.Core.Logic.{◌⊎◌, inl, inr}
 use Prim.Native.Nat.{ℕ, zero, suc, ◌<◌}
 use native.Mathlib.Omega.{arith}
@@ -155,9 +155,9 @@ unfolding settle
 settle-moves e o j =
     under-moves o.log (o.log ++ (e ∷ [])) (path o j) (path (settle e o) j) (⊑-append o.log (e ∷ [])) (settle-path e o j)
 
-pub next-cases : (P : Office → Type 0) (r : Option ℕ) (o : Office) (go : ℕ → Office) → P o → ((e : ℕ) → r ≡ some e → P (go e)) → P (next r o go)
-next-cases P none o go a b = a
-next-cases P (some e) o go a b = b e refl
+pub next-cases : (P : Office → Type 0) (r : Option ℕ) (o : Office) (go : ℕ → Office) → P o → ((e : ℕ) → r ≡ Some e → P (go e)) → P (next r o go)
+next-cases P None o go a b = a
+next-cases P (Some e) o go a b = b e refl
 
 electing-moves : (rule : Rule) (fuel : ℕ) (o : Office) (j : ℕ) → OfficeMoves j o (electing rule fuel o)
 unfolding electing

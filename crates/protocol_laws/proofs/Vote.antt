@@ -4,7 +4,8 @@
 -- Assumes nothing.
 use mathlib.Core.Path.{◌≡◌, refl, sym, ap, subst, ◌∙◌}
 use mathlib.Core.List.{List, [], ◌∷◌}
-use mathlib.Core.Option.{Option, none, some, some-injective, none-ne-some}
+use Rattle.std.specs.Prelude.{Option, None, Some}
+use Rattle.std.proofs.lemmas.Option.{same_Some, none-some}
 use mathlib.Core.Bool.{Bool, true, false, ◌&&◌, ◌||◌, cond, true≢false}
 use mathlib.Core.Logic.{◌⊎◌, inl, inr, ◌↔◌}
 use Prim.Native.Nat.{ℕ, zero, suc, ◌+◌, ◌≤◌, ◌<◌}
@@ -20,26 +21,26 @@ use Rattle.lists.proofs.Tests.{and-true, and-of, or-true, or_right}
 
 -- more votes are heard, and none is changed
 abbrev pub Grows : Votes → Votes → Type 0
-Grows v v' = (k x : ℕ) → v k ≡ some x → v' k ≡ some x
+Grows v v' = (k x : ℕ) → v k ≡ Some x → v' k ≡ Some x
 
 -- one office's part of the sums, before and after
-part_up : (w e : ℕ) (a b : Option ℕ) → ((x : ℕ) → a ≡ some x → b ≡ some x) → cond (is_for e a) w 0 ≤ cond (is_for e b) w 0
-part_up w e none b h = omega arith
-part_up w e (some x) b h = rw (h x refl) (omega arith)
+part_up : (w e : ℕ) (a b : Option ℕ) → ((x : ℕ) → a ≡ Some x → b ≡ Some x) → cond (is_for e a) w 0 ≤ cond (is_for e b) w 0
+part_up w e None b h = omega arith
+part_up w e (Some x) b h = rw (h x refl) (omega arith)
 
-part-down : (w e : ℕ) (a b : Option ℕ) → ((x : ℕ) → a ≡ some x → b ≡ some x) → cond (is_for e b) w 0 + cond (is_none b) w 0 ≤ cond (is_for e a) w 0 + cond (is_none a) w 0
-part-down w e none none h = omega arith
-part-down w e none (some y) h = go (eqb y e)
+part-down : (w e : ℕ) (a b : Option ℕ) → ((x : ℕ) → a ≡ Some x → b ≡ Some x) → cond (is_for e b) w 0 + cond (is_none b) w 0 ≤ cond (is_for e a) w 0 + cond (is_none a) w 0
+part-down w e None None h = omega arith
+part-down w e None (Some y) h = go (eqb y e)
   where
     go : (t : Bool) → cond t w 0 + 0 ≤ 0 + w
     go true = omega arith
     go false = omega arith
-part-down w e (some x) b h = rw (h x refl) (omega arith)
+part-down w e (Some x) b h = rw (h x refl) (omega arith)
 
-part_none : (w : ℕ) (a b : Option ℕ) → ((x : ℕ) → a ≡ some x → b ≡ some x) → cond (is_none b) w 0 ≤ cond (is_none a) w 0
-part_none w none none h = omega arith
-part_none w none (some y) h = omega arith
-part_none w (some x) b h = rw (h x refl) (omega arith)
+part_none : (w : ℕ) (a b : Option ℕ) → ((x : ℕ) → a ≡ Some x → b ≡ Some x) → cond (is_none b) w 0 ≤ cond (is_none a) w 0
+part_none w None None h = omega arith
+part_none w None (Some y) h = omega arith
+part_none w (Some x) b h = rw (h x refl) (omega arith)
 
 tally-up : (ws : List ℕ) (v v' : Votes) (e : ℕ) → Grows v v' → tally ws v e ≤ tally ws v' e
 unfolding tally
@@ -66,21 +67,21 @@ tally-voted [] v e h = absurd (not-suc-le-zero h)
 tally-voted (w ∷ ws) v e h = go (λ a. tally-voted ws (later v) e a) (v 0) refl h
   where
     Goal : Type 0
-    Goal = (k : ℕ) × (k < suc (length ws)) × (v k ≡ some e)
+    Goal = (k : ℕ) × (k < suc (length ws)) × (v k ≡ Some e)
 
     IH : Type 0
-    IH = 0 < tally ws (later v) e → (k : ℕ) × (k < length ws) × (v (suc k) ≡ some e)
+    IH = 0 < tally ws (later v) e → (k : ℕ) × (k < length ws) × (v (suc k) ≡ Some e)
 
     rest : IH → 0 < 0 + tally ws (later v) e → Goal
     rest ih a = let r = ih (omega arith) in (suc r.0, omega (arith, r.1), r.2)
 
-    here : IH → (x : ℕ) → v 0 ≡ some x → (t : Bool) → eqb x e ≡ t → 0 < cond t w 0 + tally ws (later v) e → Goal
-    here ih x q true d a = (0, omega arith, q ∙ ap some (eqb-true x e d))
+    here : IH → (x : ℕ) → v 0 ≡ Some x → (t : Bool) → eqb x e ≡ t → 0 < cond t w 0 + tally ws (later v) e → Goal
+    here ih x q true d a = (0, omega arith, q ∙ ap Some (eqb-true x e d))
     here ih x q false d a = rest ih a
 
     go : IH → (a : Option ℕ) → v 0 ≡ a → 0 < cond (is_for e a) w 0 + tally ws (later v) e → Goal
-    go ih none q a = rest ih a
-    go ih (some x) q a = here ih x q (eqb x e) refl a
+    go ih None q a = rest ih a
+    go ih (Some x) q a = here ih x q (eqb x e) refl a
 
 module _ (ws : List ℕ) (before : ℕ → ℕ → Bool) where
   -- ── the sentence ──
@@ -137,20 +138,20 @@ module _ (ws : List ℕ) (before : ℕ → ℕ → Bool) where
       ∙ or_right (ltb (tally ws v f + unheard ws v) (tally ws v e))
 
   -- every supported entry, of the offices us with the votes u
-  all-beaten : (us : List ℕ) (v u : Votes) (e k f : ℕ) → k < length us → u k ≡ some f → beats_all ws before v e (supported us u) ≡ true → (eqb f e || beats ws before v e f) ≡ true
+  all-beaten : (us : List ℕ) (v u : Votes) (e k f : ℕ) → k < length us → u k ≡ Some f → beats_all ws before v e (supported us u) ≡ true → (eqb f e || beats ws before v e f) ≡ true
   unfolding supported
   all-beaten [] v u e k f l q h = absurd (not-suc-le-zero l)
   all-beaten (w ∷ us) v u e zero f l q h = go (u 0) q h
     where
-      go : (a : Option ℕ) → a ≡ some f → beats_all ws before v e (and-also a (supported us (later u))) ≡ true → (eqb f e || beats ws before v e f) ≡ true
-      go none q h = absurd (none-ne-some f q)
-      go (some x) q h =
-          subst (λ (z : ℕ). (eqb z e || beats ws before v e z) ≡ true) (some-injective x f q) (and-true _ _ h).0
+      go : (a : Option ℕ) → a ≡ Some f → beats_all ws before v e (and-also a (supported us (later u))) ≡ true → (eqb f e || beats ws before v e f) ≡ true
+      go None q h = absurd (none-some f q)
+      go (Some x) q h =
+          subst (λ (z : ℕ). (eqb z e || beats ws before v e z) ≡ true) (same_Some x f q) (and-true _ _ h).0
   all-beaten (w ∷ us) v u e (suc k) f l q h = all-beaten us v (later u) e k f (le_of_suc-le-suc l) q (go (u 0) h)
     where
       go : (a : Option ℕ) → beats_all ws before v e (and-also a (supported us (later u))) ≡ true → beats_all ws before v e (supported us (later u)) ≡ true
-      go none h = h
-      go (some x) h = (and-true (eqb x e || beats ws before v e x) (beats_all ws before v e (supported us (later u))) h).1
+      go None h = h
+      go (Some x) h = (and-true (eqb x e || beats ws before v e x) (beats_all ws before v e (supported us (later u))) h).1
 
   beaten-all : (us : List ℕ) (v u : Votes) (e : ℕ) → ((f : ℕ) → Supported us u f → (eqb f e || beats ws before v e f) ≡ true) → beats_all ws before v e (supported us u) ≡ true
   unfolding supported
@@ -158,8 +159,8 @@ module _ (ws : List ℕ) (before : ℕ → ℕ → Bool) where
   beaten-all (w ∷ us) v u e h = go (u 0) refl (beaten-all us v (later u) e (λ f s. h f (suc s.0, omega (arith, s.1), s.2)))
     where
       go : (a : Option ℕ) → u 0 ≡ a → beats_all ws before v e (supported us (later u)) ≡ true → beats_all ws before v e (and-also a (supported us (later u))) ≡ true
-      go none q r = r
-      go (some x) q r = and-of _ _ (h x (0, omega arith, q)) r
+      go None q r = r
+      go (Some x) q r = and-of _ _ (h x (0, omega arith, q)) r
 
   pub wins-true : (v : Votes) (e : ℕ) → wins ws before v e ≡ true → Wins ws before v e
   unfolding wins
@@ -181,62 +182,62 @@ module _ (ws : List ℕ) (before : ℕ → ℕ → Bool) where
       each f s (no d) = ap (λ (b : Bool). eqb f e || b) (beats-of v e f (p.others f d s)) ∙ or_right (eqb f e)
 
   -- ── the first supported entry that wins ──
-  first-wins : (fs : List ℕ) (v : Votes) (e : ℕ) → first_winner ws before v fs ≡ some e → wins ws before v e ≡ true
-  first-wins [] v e h = absurd (none-ne-some e h)
+  first-wins : (fs : List ℕ) (v : Votes) (e : ℕ) → first_winner ws before v fs ≡ Some e → wins ws before v e ≡ true
+  first-wins [] v e h = absurd (none-some e h)
   first-wins (f ∷ fs) v e h = go (wins ws before v f) refl h (first-wins fs v e)
     where
-      go : (t : Bool) → wins ws before v f ≡ t → cond t (some f) (first_winner ws before v fs) ≡ some e → (first_winner ws before v fs ≡ some e → wins ws before v e ≡ true) → wins ws before v e ≡ true
-      go true q a ih = ap (wins ws before v) (sym (some-injective f e a)) ∙ q
+      go : (t : Bool) → wins ws before v f ≡ t → cond t (Some f) (first_winner ws before v fs) ≡ Some e → (first_winner ws before v fs ≡ Some e → wins ws before v e ≡ true) → wins ws before v e ≡ true
+      go true q a ih = ap (wins ws before v) (sym (same_Some f e a)) ∙ q
       go false q a ih = ih a
 
   -- where no winner is found, no entry of the offices us wins
-  none-wins : (us : List ℕ) (v u : Votes) (e : ℕ) → Supported us u e → first_winner ws before v (supported us u) ≡ none → wins ws before v e ≡ false
+  none-wins : (us : List ℕ) (v u : Votes) (e : ℕ) → Supported us u e → first_winner ws before v (supported us u) ≡ None → wins ws before v e ≡ false
   unfolding supported
   none-wins [] v u e s h = absurd (not-suc-le-zero s.1)
   none-wins (w ∷ us) v u e s h = go (none-wins us v (later u) e) (u 0) refl s.0 s.1 s.2 h
     where
-      skip : (x : ℕ) (t : Bool) → wins ws before v x ≡ t → cond t (some x) (first_winner ws before v (supported us (later u))) ≡ none
-          → (wins ws before v x ≡ false) × (first_winner ws before v (supported us (later u)) ≡ none)
-      skip x true q h = absurd (none-ne-some x (sym h))
+      skip : (x : ℕ) (t : Bool) → wins ws before v x ≡ t → cond t (Some x) (first_winner ws before v (supported us (later u))) ≡ None
+          → (wins ws before v x ≡ false) × (first_winner ws before v (supported us (later u)) ≡ None)
+      skip x true q h = absurd (none-some x (sym h))
       skip x false q h = (q, h)
 
-      go : (Supported us (later u) e → first_winner ws before v (supported us (later u)) ≡ none → wins ws before v e ≡ false)
-          → (a : Option ℕ) → u 0 ≡ a → (k : ℕ) → k < suc (length us) → u k ≡ some e → first_winner ws before v (and-also a (supported us (later u))) ≡ none → wins ws before v e ≡ false
-      go ih none q zero l r h = absurd (none-ne-some e (sym q ∙ r))
-      go ih none q (suc k) l r h = ih (k, le_of_suc-le-suc l, r) h
-      go ih (some x) q zero l r h = ap (wins ws before v) (sym (some-injective x e (sym q ∙ r))) ∙ (skip x (wins ws before v x) refl h).0
-      go ih (some x) q (suc k) l r h = ih (k, le_of_suc-le-suc l, r) (skip x (wins ws before v x) refl h).1
+      go : (Supported us (later u) e → first_winner ws before v (supported us (later u)) ≡ None → wins ws before v e ≡ false)
+          → (a : Option ℕ) → u 0 ≡ a → (k : ℕ) → k < suc (length us) → u k ≡ Some e → first_winner ws before v (and-also a (supported us (later u))) ≡ None → wins ws before v e ≡ false
+      go ih None q zero l r h = absurd (none-some e (sym q ∙ r))
+      go ih None q (suc k) l r h = ih (k, le_of_suc-le-suc l, r) h
+      go ih (Some x) q zero l r h = ap (wins ws before v) (sym (same_Some x e (sym q ∙ r))) ∙ (skip x (wins ws before v x) refl h).0
+      go ih (Some x) q (suc k) l r h = ih (k, le_of_suc-le-suc l, r) (skip x (wins ws before v x) refl h).1
 
-  pub winner-wins : (v : Votes) (e : ℕ) → winner ws before v ≡ some e → Wins ws before v e
+  pub winner-wins : (v : Votes) (e : ℕ) → winner ws before v ≡ Some e → Wins ws before v e
   unfolding winner
   winner-wins v e h = wins-true v e (first-wins (supported ws v) v e h)
 
-  pub winner-voted : (v : Votes) (e : ℕ) → winner ws before v ≡ some e → Supported ws v e
+  pub winner-voted : (v : Votes) (e : ℕ) → winner ws before v ≡ Some e → Supported ws v e
   winner-voted v e h = wins-voted v e (winner-wins v e h)
 
-  no-winner : (v : Votes) → winner ws before v ≡ none → (e : ℕ) → Wins ws before v e → ⊥
+  no-winner : (v : Votes) → winner ws before v ≡ None → (e : ℕ) → Wins ws before v e → ⊥
   unfolding winner
   no-winner v h e p = true≢false (sym (wins-of v e p) ∙ none-wins ws v v e (wins-voted v e p) h)
 
   -- "until no entry wins"
-  pub winner-none : (v : Votes) → (winner ws before v ≡ none) ↔ ((e : ℕ) → Wins ws before v e → ⊥)
+  pub winner-none : (v : Votes) → (winner ws before v ≡ None) ↔ ((e : ℕ) → Wins ws before v e → ⊥)
   winner-none v = (no-winner v, λ h. go h (winner ws before v) refl)
     where
-      go : ((e : ℕ) → Wins ws before v e → ⊥) → (r : Option ℕ) → winner ws before v ≡ r → winner ws before v ≡ none
-      go h none q = q
-      go h (some e) q = absurd (h e (winner-wins v e q))
+      go : ((e : ℕ) → Wins ws before v e → ⊥) → (r : Option ℕ) → winner ws before v ≡ r → winner ws before v ≡ None
+      go h None q = q
+      go h (Some e) q = absurd (h e (winner-wins v e q))
 
   -- `winner` says e exactly where e wins
-  pub winner-some : Asymmetric before → (v : Votes) (e : ℕ) → (winner ws before v ≡ some e) ↔ Wins ws before v e
+  pub winner-some : Asymmetric before → (v : Votes) (e : ℕ) → (winner ws before v ≡ Some e) ↔ Wins ws before v e
   winner-some asym v e = (winner-wins v e, λ p. go p (winner ws before v) refl)
     where
-      go : Wins ws before v e → (r : Option ℕ) → winner ws before v ≡ r → winner ws before v ≡ some e
-      go p none q = absurd (no-winner v q e p)
-      go p (some f) q = q ∙ ap some (wins-unique asym v f e (winner-wins v f q) p)
+      go : Wins ws before v e → (r : Option ℕ) → winner ws before v ≡ r → winner ws before v ≡ Some e
+      go p None q = absurd (no-winner v q e p)
+      go p (Some f) q = q ∙ ap Some (wins-unique asym v f e (winner-wins v f q) p)
 
 -- a rule whose winner has a vote
 abbrev pub NamesVoted : Rule → Type 0
-NamesVoted rule = (l : List ℕ) (v : Votes) (e : ℕ) → rule l v ≡ some e → (k : ℕ) × (v k ≡ some e)
+NamesVoted rule = (l : List ℕ) (v : Votes) (e : ℕ) → rule l v ≡ Some e → (k : ℕ) × (v k ≡ Some e)
 
 pub by_log-voted : (weights : List ℕ → List ℕ) (before : List ℕ → ℕ → ℕ → Bool) → NamesVoted (by_log weights before)
 by_log-voted weights before l v e h = let s = winner-voted (weights l) (before l) v e h in (s.0, s.2)

@@ -6,7 +6,7 @@
 -- Assumes nothing.
 use mathlib.Core.Path.{◌≡◌, refl, ap, ap₂, ◌∙◌}
 use mathlib.Core.List.{List, [], ◌∷◌, ◌++◌, map, append_assoc}
-use mathlib.Core.Option.{Option, none, some}
+use Rattle.std.specs.Prelude.{Option, None, Some}
 use mathlib.Core.Bool.{Bool, true, false, ◌||◌, ◌&&◌, cond}
 use Prim.Native.Nat.{ℕ, zero, suc}
 use native.Mathlib.Omega.{arith}
@@ -102,8 +102,8 @@ electing-whole p rule (suc fuel) o = go (rule (p ++ o.log) (votes o)) (λ e. ap 
   where
     go : (r : Option ℕ) → ((e : ℕ) → electing rule fuel (settle e (whole p o)) ≡ whole p (electing (behind p rule) fuel (settle e o)))
         → next r (whole p o) (λ e. electing rule fuel (settle e (whole p o))) ≡ whole p (next r o (λ e. electing (behind p rule) fuel (settle e o)))
-    go none h = refl
-    go (some e) h = h e
+    go None h = refl
+    go (Some e) h = h e
 
 pub elect-whole : (p : List ℕ) (rule : Rule) (o : Office) → with_elect rule (whole p o) ≡ whole p (with_elect (behind p rule) o)
 unfolding with_elect

@@ -11,14 +11,15 @@ use native.Mathlib.Numerals.{add-one}
 use native.Mathlib.Omega.{arith}
 use lib.ListN.{drop, get_or, length, length-map, replicate, set}
 use lib.Seq.{drop-drop, get_or-set_other, set-get_or, sets}
+use Rattle.std.specs.Prelude.{None, Some}
+use Rattle.std.proofs.lemmas.Option.{none-some, same_Some}
 use Rattle.ballots.specs.Ballots.{ballot_of, no_ballot}
 use Rattle.ballots.specs.declared.Ballot.{Ballot}
 use Rattle.protocol.specs.Entry.{is_entry}
 use Rattle.lists.specs.Tests.{all_b, both, pick}
-use Rattle.records.specs.Steps.{bad_log, end_at, log_at}
-use Rattle.ballot_records.specs.BallotSteps.{bad_ballot, ballot_at}
+use Rattle.records.specs.Steps.{end_at, log_at}
+use Rattle.ballot_records.specs.BallotSteps.{ballot_at}
 use Rattle.ballot_records.specs.declared.BallotStep.{BallotStep}
-use Rattle.records.specs.declared.EndStep.{EndStep}
 use Rattle.records.specs.declared.LogStep.{LogStep}
 use Rattle.spelling.specs.Content.{eight_tails}
 use Rattle.numbers.specs.Numbers.{run_at, run_ok}
@@ -30,19 +31,15 @@ use Rattle.numbers.proofs.Steps.{test-end, test-fails, test-step}
 use Rattle.reading.specs.Read.{ballots_of, log_within}
 
 module _ (s : List ℕ) (at n o : ℕ) where
-  step_ok : (ballot_at s at o).ok ≡ ballot_ok (drop at s) o
-  unfolding ballot_at pick bad_ballot
-  step_ok = by-test _ (ballot_ok (drop at s) o) (λ e. rw e) (λ e. rw e)
+  step-none : None ≡ ballot_at s at o → ballot_ok (drop at s) o ≡ false
+  unfolding ballot_at pick
+  step-none q = by-test _ (ballot_ok (drop at s) o) (λ p. absurd (none-some _ (rw p at q))) (λ p. p)
+
+  step-some : (r : BallotStep) → Some r ≡ ballot_at s at o → (ballot_ok (drop at s) o ≡ true) × (r ≡ record { next = at + size_at (drop at s) o; ballot = ballot_of (tail_at (drop at s) o) })
+  unfolding ballot_at pick
+  step-some r q = by-test _ (ballot_ok (drop at s) o) (λ p. (p, same_Some _ _ (rw p at q))) (λ p. absurd (none-some r (sym (rw p at q))))
 
   module _ (e : ballot_ok (drop at s) o ≡ true) where
-    step-next : (ballot_at s at o).next ≡ at + size_at (drop at s) o
-    unfolding ballot_at pick
-    step-next = rw e
-
-    step-ballot : (ballot_at s at o).ballot ≡ ballot_of (tail_at (drop at s) o)
-    unfolding ballot_at pick
-    step-ballot = rw e
-
     turn-ok : o < n → ballots_ok (drop at s) o (n - o) ≡ ballots_ok (drop (at + size_at (drop at s) o) s) (o + 1) (n - (o + 1))
     unfolding ballots_ok after_ballot both
     turn-ok h = let q : n - o ≡ suc (n - (o + 1)) = omega arith in rw (q, e, add-one o, drop-drop)
@@ -77,9 +74,13 @@ stored-all n ts e h =
     map-alike (suc k) = ap (λ (bs : List Ballot). no_ballot ∷ bs) (map-alike k)
 
 -- what the end's step says
-end-step-ok : (at : ℕ) (s : List ℕ) → (end_at s at).ok ≡ end_ok (drop at s)
+end-none : (at : ℕ) (s : List ℕ) → None ≡ end_at s at → end_ok (drop at s) ≡ false
 unfolding end_at pick
-end-step-ok at s = by-test _ (end_ok (drop at s)) (λ e. rw e) (λ e. rw e)
+end-none at s e = by-test _ (end_ok (drop at s)) (λ p. absurd (none-some _ (rw p at e))) (λ p. p)
+
+end-some : (at : ℕ) (s : List ℕ) (x : ℕ) → Some x ≡ end_at s at → end_ok (drop at s) ≡ true
+unfolding end_at pick
+end-some at s x e = by-test _ (end_ok (drop at s)) (λ p. p) (λ p. absurd (none-some x (sym (rw p at e))))
 
 -- ---- the loop over the log records: what is left to test from position at on
 
@@ -106,34 +107,31 @@ unfolding log_within
 log-begins n k s = rw sub-zero (one_by_one n k s)
 
 module _ (n k at i : ℕ) (s : List ℕ) where
-  -- what a log record's step says
-  module _ (r : LogStep) (h : i < k) (e : r ≡ log_at s at) where
-    -- it answers whether a record stands there
-    stands : record_here (drop at s) ≡ r.ok
-    unfolding log_at pick bad_log
-    stands = rw e (by-test _ (record_here (drop at s)) (λ p. rw p) (λ p. rw p))
+  -- no record stands there: the loop is left
+  pub log-fails : i < k → None ≡ log_at s at → false ≡ left_at n k at i s
+  unfolding log_at pick
+  log-fails h e = sym (test-fails 6 (passes n) k i (drop at s) h (both-false-0 (record_here (drop at s)) _ absent))
+    where
+      absent : record_here (drop at s) ≡ false
+      absent = by-test _ (record_here (drop at s)) (λ p. absurd (none-some _ (rw p at e))) (λ p. p)
 
-    -- none: the loop is left
-    pub log-fails : r.ok ≡ false → false ≡ left_at n k at i s
-    log-fails p = sym (test-fails 6 (passes n) k i (drop at s) h (both-false-0 (record_here (drop at s)) _ (stands ∙ p)))
+  -- else its value decides
+  module _ (r : LogStep) (h : i < k) (e : Some r ≡ log_at s at) where
+    step : (record_here (drop at s) ≡ true) × (r ≡ record { value = record_at (drop at s); next = at + 6 })
+    unfolding log_at pick
+    step = by-test _ (record_here (drop at s)) (λ p. (p, same_Some _ _ (rw p at e))) (λ p. absurd (none-some r (sym (rw p at e))))
 
-    module _ (p : r.ok ≡ true) where
-      -- else its value decides
-      value-tested : is_entry n r.value ≡ passes n (drop at s)
-      unfolding log_at pick both
-      value-tested = rw (e, stands ∙ p)
+    value-tested : is_entry n r.value ≡ passes n (drop at s)
+    unfolding both
+    value-tested = rw (step.0, step.1)
 
-      -- no entry: the loop is left
-      pub log-refused : is_entry n r.value ≡ false → false ≡ left_at n k at i s
-      log-refused q = sym (test-fails 6 (passes n) k i (drop at s) h (sym value-tested ∙ q))
+    -- no entry: the loop is left
+    pub log-refused : is_entry n r.value ≡ false → false ≡ left_at n k at i s
+    log-refused q = sym (test-fails 6 (passes n) k i (drop at s) h (sym value-tested ∙ q))
 
-      -- and else it goes on after the record
-      step_after : r.next ≡ at + 6
-      unfolding log_at pick
-      step_after = rw (e, stands ∙ p)
-
-      pub log-turn : is_entry n r.value ≡ true → left_at n k r.next (i + 1) s ≡ left_at n k at i s
-      log-turn q = rw step_after (sym (test-step 6 (passes n) k i at s h (sym value-tested ∙ q)))
+    -- and else it goes on after the record
+    pub log-turn : is_entry n r.value ≡ true → left_at n k r.next (i + 1) s ≡ left_at n k at i s
+    log-turn q = rw (step.1) (sym (test-step 6 (passes n) k i at s h (sym value-tested ∙ q)))
 
   -- no record is left
   pub log-ends : k ≤ i → true ≡ left_at n k at i s
@@ -154,39 +152,40 @@ none-empty [] e = refl
 none-empty (x ∷ t) e = absurd (not-suc-le-zero (le_of_eq e))
 
 module _ {s : List ℕ} {from n : ℕ} {l : List Ballot} {at o : ℕ} (inv : Left s from n l at o) where
-  module _ {r : BallotStep} (h : o < n) (e : r ≡ ballot_at s at o) where
-    here : (t : Bool) → r.ok ≡ t → ballot_ok (drop at s) o ≡ t
-    here t q = sym (step_ok s at n o) ∙ ap (λ (x : BallotStep). x.ok) (sym e) ∙ q
+  module _ {r : BallotStep} (h : o < n) (e : Some r ≡ ballot_at s at o) where
+    step_is : r ≡ record { next = at + size_at (drop at s) o; ballot = ballot_of (tail_at (drop at s) o) }
+    step_is = (step-some s at n o r e).1
 
-    module _ (t : r.ok ≡ true) where
-      -- the ballot is stored
-      pub again : Left s from n (set l o r.ballot) r.next (o + 1)
-      again =
-          let q : ballot_ok (drop at s) o ≡ true = here true t in
-          rw (e, step-next s at n o q, step-ballot s at n o q)
-          (record {
-            few = omega arith;
-            tests = sym (turn-ok s at n o q h) ∙ inv.tests;
-            stores = turn-tails s at n o l h ∙ inv.stores;
-            blank = λ i g. get_or-set_other l o i _ no_ballot (λ (d : i ≡ o). omega arith) ∙ inv.blank i (omega arith);
-          })
+    -- the ballot is stored
+    pub again : Left s from n (set l o r.ballot) r.next (o + 1)
+    again =
+        rw step_is
+        (record {
+          few = omega arith;
+          tests = sym (turn-ok s at n o (step-some s at n o r e).0 h) ∙ inv.tests;
+          stores = turn-tails s at n o l h ∙ inv.stores;
+          blank = λ i g. get_or-set_other l o i _ no_ballot (λ (d : i ≡ o). omega arith) ∙ inv.blank i (omega arith);
+        })
 
-      -- a ballot that is none stands there already
-      pub skipped : r.ballot.len ≡ 0 → Left s from n l r.next (o + 1)
-      skipped z = rw kept at again
-        where
-          kept : set l o r.ballot ≡ l
-          kept =
-              let b : r.ballot ≡ ballot_of (tail_at (drop at s) o) = ap (λ (x : BallotStep). x.ballot) e ∙ step-ballot s at n o (here true t) in
-              ap (set l o) (b ∙ none-empty (tail_at (drop at s) o) (ap (λ (x : Ballot). x.len) (sym b) ∙ z) ∙ sym (inv.blank o (omega arith))) ∙ set-get_or l o no_ballot
+    -- a ballot that is none stands there already
+    pub skipped : r.ballot.len ≡ 0 → Left s from n l r.next (o + 1)
+    skipped z = rw kept at again
+      where
+        kept : set l o r.ballot ≡ l
+        kept =
+            let b : r.ballot ≡ ballot_of (tail_at (drop at s) o) = ap (λ (x : BallotStep). x.ballot) step_is in
+            ap (set l o) (b ∙ none-empty (tail_at (drop at s) o) (ap (λ (x : Ballot). x.len) (sym b) ∙ z) ∙ sym (inv.blank o (omega arith))) ∙ set-get_or l o no_ballot
 
-    pub fails : r.ok ≡ false → ballots_ok (drop from s) 0 n ≡ false
-    fails t = sym inv.tests ∙ turn-fails s at n o h (here false t)
+  pub fails : o < n → None ≡ ballot_at s at o → ballots_ok (drop from s) 0 n ≡ false
+  fails h e = sym inv.tests ∙ turn-fails s at n o h (step-none s at n o e)
 
   -- after the last office the end decides
   module _ (h : n ≤ o) where
-    pub decides : {r : EndStep} → r ≡ end_at s at → ballots_ok (drop from s) 0 n ≡ r.ok
-    decides e = sym inv.tests ∙ end_test s at n o h ∙ sym (end-step-ok at s) ∙ ap (λ (x : EndStep). x.ok) (sym e)
+    pub not-ended : None ≡ end_at s at → ballots_ok (drop from s) 0 n ≡ false
+    not-ended e = sym inv.tests ∙ end_test s at n o h ∙ end-none at s e
+
+    pub ended : {x : ℕ} → Some x ≡ end_at s at → ballots_ok (drop from s) 0 n ≡ true
+    ended e = sym inv.tests ∙ end_test s at n o h ∙ end-some at s _ e
 
     pub all-stored : n ≤ 8 → l ≡ ballots_of n (tails_at (drop from s) 0 n)
     all-stored most = sym (end-tails s at n o l h) ∙ inv.stores ∙ stored-all n (tails_at (drop from s) 0 n) (tails_at-length (drop from s) 0 n) most

@@ -5,8 +5,8 @@
 use Prim.Native.Nat.{ℕ, zero, suc, ◌+◌, ◌*◌, ◌-◌}
 use mathlib.Core.Bool.{Bool, false, true}
 use mathlib.Core.List.{List, map}
-use mathlib.Core.Option.{none, some}
-use mathlib.Core.Path.{◌∙◌, ◌≡◌, ap, refl}
+use Rattle.std.specs.Prelude.{None, Some}
+use mathlib.Core.Path.{◌∙◌, ◌≡◌, ap, refl, sym}
 use native.Mathlib.Omega.{arith}
 use lib.Dec.{eqb, leb}
 use lib.ListN.{drop, length, length-drop, take}
@@ -27,16 +27,15 @@ use Rattle.spelling.specs.Reading.{ballots_ok, content_at, count_at, head_ok, la
 use Rattle.spelling.proofs.Ballots.{tails_at-length}
 use Rattle.numbers.proofs.Numbers.{be16-below}
 use Rattle.readings.specs.declared.Reading.{Reading}
-use Rattle.readings.specs.Read.{bad_reading}
 use Rattle.message_heads.specs.Heads.{head_said, head_within, head_reading}
 use Rattle.message_heads.proofs.Heads.{head-failed}
 use Rattle.reading.specs.Read.{ballots_of, log_within, reading_of}
 
 -- other ballots beside the same head
 pub said-beside : (s : List ℕ) (m : Reading) (bs : List Ballot) → m ≡ head_said s m.ballots
-    → record { ok = m.ok; sender = m.sender; n = m.n; weights = m.weights; dropped = m.dropped; held = m.held; head = m.head; ballots = bs } ≡ head_said s bs
+    → record { sender = m.sender; n = m.n; weights = m.weights; dropped = m.dropped; held = m.held; head = m.head; ballots = bs } ≡ head_said s bs
 said-beside s m bs e =
-    ap (λ (r : Reading). record { ok = r.ok; sender = r.sender; n = r.n; weights = r.weights; dropped = r.dropped; held = r.held; head = r.head; ballots = bs }) e
+    ap (λ (r : Reading). record { sender = r.sender; n = r.n; weights = r.weights; dropped = r.dropped; held = r.held; head = r.head; ballots = bs }) e
 
 -- ---- the tests in the code's order
 
@@ -113,9 +112,9 @@ module _ (s : List ℕ) (b : Bytes s) where
       ordered : (h r b o k e t l : Bool) → both (both h (both r b)) (both o (both (both (both k e) t) l)) ≡ both (both h (both o k)) (both (both r e) (both (both b t) l))
       ordered h r b o k e t l = simp (both-comm, both-assoc, both-swap)
 
-pub no-head : (s : List ℕ) → Bytes s → (head_reading s).ok ≡ false → head_reading s ≡ reading_of (reading s)
+pub no-head : (s : List ℕ) → Bytes s → None ≡ head_reading s → None ≡ reading_of (reading s)
 unfolding reading reading_of
-no-head s b e = let f = head-failed s e in f.1 ∙ rw (pick-false _ (some (content_at s)) none (in_order s b ∙ both-false-0 _ _ f.0))
+no-head s b e = rw (pick-false _ (Some (content_at s)) None (in_order s b ∙ both-false-0 _ _ (head-failed s (sym e))))
 
 -- ---- the whole
 
@@ -138,28 +137,43 @@ module _ (s : List ℕ) (n k : ℕ) (rest : List ℕ) (P : Parts s n k rest) whe
   unfolding both
   decided = rw (P.count, P.held, P.rest-is) (in_order s P.bytes ∙ rw P.within)
 
-  refused : both (layout_ok s) (valid_content (content_at s)) ≡ false → bad_reading ≡ reading_of (reading s)
+  refused : both (layout_ok s) (valid_content (content_at s)) ≡ false → None ≡ reading_of (reading s)
   unfolding reading reading_of
-  refused e = rw (pick-false _ (some (content_at s)) none e)
+  refused e = rw (pick-false _ (Some (content_at s)) None e)
 
   -- a log record fails
-  pub no-log : log_within rest n k ≡ false → bad_reading ≡ reading_of (reading s)
+  pub no-log : log_within rest n k ≡ false → None ≡ reading_of (reading s)
   no-log e = refused (decided ∙ both-false-0 _ _ e)
 
   -- a ballot or the end fails
-  pub no-ballots : ballots_ok (after rest k) 0 n ≡ false → bad_reading ≡ reading_of (reading s)
+  pub no-ballots : ballots_ok (after rest k) 0 n ≡ false → None ≡ reading_of (reading s)
   no-ballots e = refused (decided ∙ both-false-1 _ _ (both-false-0 _ _ (both-false-0 _ _ e)))
 
-  -- the ballots' tails are outside the limits, or the end fails
-  pub no-tails : both (ballots_ok (after rest k) 0 n) (tails_fine n k (eight_at rest n k)) ≡ false → bad_reading ≡ reading_of (reading s)
-  no-tails e = refused (decided ∙ both-false-1 _ _ (both-false-0 _ _ e))
+  -- what the code has when all the ballots are stored beside the head
+  module _ (m : Reading) (said : m ≡ head_said s m.ballots) (stored : m.ballots ≡ ballots_of n (tails_at (after rest k) 0 n)) where
+    abbrev pub Said : Type 0
+    Said = (m.n ≡ n) × (m.held ≡ k) × (m.dropped ≡ dropped_at s)
 
-  -- the settled length is, alone or with a tail
-  pub no_lengths : lengths_fine (dropped_at s + k) (eight_at rest n k) ≡ false → bad_reading ≡ reading_of (reading s)
-  no_lengths e = refused (decided ∙ both-false-1 _ _ (both-false-1 _ _ e))
+    pub fields : Said
+    fields = (ap (λ (r : Reading). r.n) said ∙ sym P.count, ap (λ (r : Reading). r.held) said ∙ sym P.held, ap (λ (r : Reading). r.dropped) said)
 
-  pub read_all : (bs : List Ballot) → log_within rest n k ≡ true → both (ballots_ok (after rest k) 0 n) (tails_fine n k (eight_at rest n k)) ≡ true
-      → lengths_fine (dropped_at s + k) (eight_at rest n k) ≡ true → bs ≡ ballots_of n (tails_at (after rest k) 0 n) → head_said s bs ≡ reading_of (reading s)
-  unfolding reading reading_of content_at
-  read_all bs el eb ef es =
-      rw (pick_true _ (some (content_at s)) none (decided ∙ both_true _ _ el (both_true _ _ eb ef)), run_at-length 6 record_at (held_at s) (rest_at s), es, P.rest-is, P.held, P.count)
+    tested : ballots_fine m.n m.held m.ballots ≡ tails_fine n k (eight_at rest n k)
+    tested = rw (fields.0, fields.1) (stored-fine n k _ m.ballots stored)
+
+    bounded : lengths_fine (m.dropped + m.held) (map tail_of m.ballots) ≡ lengths_fine (dropped_at s + k) (eight_at rest n k)
+    bounded = rw (fields.1, fields.2) (ap (lengths_fine (dropped_at s + k)) (stored-tails n _ m.ballots stored))
+
+    -- the ballots' tails are outside the limits
+    pub no-tails : ballots_fine m.n m.held m.ballots ≡ false → None ≡ reading_of (reading s)
+    no-tails e = refused (decided ∙ both-false-1 _ _ (both-false-0 _ _ (both-false-1 (ballots_ok (after rest k) 0 n) _ (sym tested ∙ e))))
+
+    -- the settled length is, alone or with a tail
+    pub no_lengths : lengths_fine (m.dropped + m.held) (map tail_of m.ballots) ≡ false → None ≡ reading_of (reading s)
+    no_lengths e = refused (decided ∙ both-false-1 _ _ (both-false-1 _ _ (sym bounded ∙ e)))
+
+    pub read_all : log_within rest n k ≡ true → ballots_ok (after rest k) 0 n ≡ true → ballots_fine m.n m.held m.ballots ≡ true
+        → lengths_fine (m.dropped + m.held) (map tail_of m.ballots) ≡ true → Some m ≡ reading_of (reading s)
+    unfolding reading reading_of content_at
+    read_all el eb et eh =
+        rw (pick_true _ (Some (content_at s)) None (decided ∙ both_true _ _ el (both_true _ _ (both_true _ _ eb (sym tested ∙ et)) (sym bounded ∙ eh))), run_at-length 6 record_at (held_at s) (rest_at s))
+        (ap Some (said ∙ rw (stored, P.rest-is, P.held, P.count)))

@@ -1,6 +1,6 @@
 -- What reading a message answers, as the struct holds it; and the test of its log. Assumes nothing.
-use Rattle.std.specs.Prelude.{ℕ, Bool, true, List, map, length}
-use Rattle.std.proofs.Math.Option.{Option, none, some}
+use Rattle.std.specs.Prelude.{ℕ, Bool, List, map, length}
+use Rattle.std.specs.Prelude.{Option, None, Some}
 use Rattle.ballots.specs.declared.Ballot.{Ballot}
 use Rattle.ballots.specs.Ballots.{ballot_of}
 use Rattle.lists.specs.Tests.{both, all_b}
@@ -10,7 +10,6 @@ use Rattle.spelling.specs.Content.{Content, eight_tails}
 use Rattle.spelling.specs.Spelling.{head_size}
 use Rattle.spelling.specs.Reading.{record_here, record_at}
 use Rattle.readings.specs.declared.Reading.{Reading}
-use Rattle.readings.specs.Read.{bad_reading}
 use Rattle.message_heads.specs.Heads.{eight_weights}
 
 -- k log records stand there, whose values are entries for n offices
@@ -21,12 +20,10 @@ log_within s n k = both (run_ok 6 record_here k s) (all_b (is_entry n) (run_at 6
 unfoldable pub ballots_of : ℕ → List (List ℕ) → List Ballot
 ballots_of n ts = map ballot_of (eight_tails n ts)
 
--- what a message says; the undropped entries stay in it, six bytes each after the head. Bytes that are no message: nothing
-unfoldable pub reading_of : Option Content → Reading
-reading_of none = bad_reading
-reading_of (some c) =
+-- what the reading of a message says that says c; the undropped entries stay in it, six bytes each after the head
+abbrev pub read_as : Content → Reading
+read_as c =
     record {
-      ok = true;
       sender = c.sender;
       n = c.n;
       weights = eight_weights c.n c.weights;
@@ -35,3 +32,8 @@ reading_of (some c) =
       head = head_size c.n;
       ballots = ballots_of c.n c.tails;
     }
+
+-- what a message says. Bytes that are no message: nothing
+unfoldable pub reading_of : Option Content → Option Reading
+reading_of None = None
+reading_of (Some c) = Some (read_as c)

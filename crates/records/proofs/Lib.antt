@@ -1,2 +1,2 @@
 -- Laws of reading one record.
-pub mod Marks
+pub mod Entries

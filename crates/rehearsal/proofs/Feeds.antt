@@ -17,7 +17,8 @@ use Rattle.rehearsal_lines.specs.Held.{line_held, cut, held_of, nothing}
 use Rattle.rehearsal_lines.specs.Feeding.{Said, Fed, finish_by}
 use Rattle.rehearsal_lines.proofs.Holding.{line-held, held-again}
 use Rattle.rehearsal_lines.proofs.Feeding.{FeedRest, FedTo, feed-next, feed-short, finish-none}
-use Rattle.rehearsal_commands.specs.declared.Line.{Line}
+use Rattle.std.specs.Prelude.{Option}
+use Rattle.rehearsal_commands.specs.declared.Command.{Command}
 use Rattle.rehearsal_commands.specs.Command.{line_of}
 use Rattle.rehearsal_answers.specs.Answer.{printed_of, printed_in}
 use Rattle.rehearsal_answers.proofs.Printing.{printed-room}
@@ -29,7 +30,7 @@ use Rattle.rehearsal.specs.Feeding.{world_of, feeds, finishes, FedAs}
 use Rattle.rehearsal.proofs.Says.{say-short, says-as}
 
 -- the line that ends at `end`, and what it says
-pub record LineRead (w₀ : World) (h₀ s out₀ : List ℕ) (w : World) (h out : List ℕ) (at printed end : ℕ) (h' : List ℕ) (line : Line) : Type 0 where
+pub record LineRead (w₀ : World) (h₀ s out₀ : List ℕ) (w : World) (h out : List ℕ) (at printed end : ℕ) (h' : List ℕ) (line : Option Command) : Type 0 where
   pub inv : FeedRest say_line w₀ h₀ s out₀ w h out at printed
   pub there : end ≡ at + part_length 10 (drop at s)
   pub inside : end < length s
@@ -37,7 +38,7 @@ pub record LineRead (w₀ : World) (h₀ s out₀ : List ℕ) (w : World) (h out
   pub read : line ≡ line_of (cut (h ++ take (end - at) (drop at s)))
 
 -- and its answer x
-module _ {w₀ : World} {h₀ s out₀ : List ℕ} {w : World} {h out : List ℕ} {at printed end : ℕ} {h' : List ℕ} {line : Line}
+module _ {w₀ : World} {h₀ s out₀ : List ℕ} {w : World} {h out : List ℕ} {at printed end : ℕ} {h' : List ℕ} {line : Option Command}
     (A : LineRead w₀ h₀ s out₀ w h out at printed end h' line) (x : Answered) (e : x ≡ answer_line w line) where
   says : say_line w (cut (h ++ take (end - at) (drop at s))) ≡ record { world = x.world; printed = printed_of x.answer }
   says = says-as w _ line A.read x e

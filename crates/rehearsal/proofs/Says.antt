@@ -9,7 +9,7 @@ use mathlib.Core.List.{List}
 use Prim.Native.Nat.{ℕ, ◌≤◌}
 use lib.ListN.{length}
 use Rattle.rehearsal_commands.specs.declared.Command.{Command}
-use Rattle.rehearsal_commands.specs.declared.Line.{Line}
+use Rattle.std.specs.Prelude.{Option}
 use Rattle.rehearsal_commands.specs.Command.{line_of}
 use Rattle.rehearsal_answers.specs.declared.Answer.{Answer}
 use Rattle.rehearsal_answers.specs.Answer.{printed_of}
@@ -29,8 +29,8 @@ use Rattle.rehearsal.specs.Lines.{Answered, world_at, answered_by, turned, recor
 pub say-short : (w : World) (bytes : List ℕ) → length (say_line w bytes).printed ≤ 65
 unfolding say_line answer_line
 say-short w bytes =
-    let a = addressee_of w.offices.count (line_of bytes).parsed in
-    printed-short (answer_to w (line_of bytes).weights a).answer
+    let a = addressee_of w.offices.count (line_of bytes) in
+    printed-short (answer_to w a).answer
 
 -- the offices, the logs and the slots after an office's turn
 pub turn-stored : (w : World) (k : ℕ) (c : Command) (t : Turn) (logs slots : List ℕ) →
@@ -42,25 +42,25 @@ unfolding office_turn
 turn-stored w k c t logs slots et el es = rw (et, el, es)
 
 -- a line and its answer
-pub says-as : (w : World) (bytes : List ℕ) (line : Line) → line ≡ line_of bytes → (x : Answered) → x ≡ answer_line w line
+pub says-as : (w : World) (bytes : List ℕ) (line : Option Command) → line ≡ line_of bytes → (x : Answered) → x ≡ answer_line w line
     → say_line w bytes ≡ record { world = x.world; printed = printed_of x.answer }
 unfolding say_line
 says-as w bytes line el x e = rw (e, el)
 
 -- the answer by the line's addressee
-pub answer-by : (w : World) (line : Line) (a : Addressee) → a ≡ addressee_of w.offices.count line.parsed → answer_to w line.weights a ≡ answer_line w line
+pub answer-by : (w : World) (line : Option Command) (a : Addressee) → a ≡ addressee_of w.offices.count line → answer_to w a ≡ answer_line w line
 unfolding answer_line
 answer-by w line a e = rw e
 
-module _ (w : World) (ws : List ℕ) (a : Addressee) where
-  pub say-found : (n : ℕ) (f : Reply) → a ≡ All n → f ≡ found_offices w.offices n ws w.logs → answered_by f w.logs w.slots ≡ answer_to w ws a
+module _ (w : World) (a : Addressee) where
+  pub say-found : (n : ℕ) (ws : List ℕ) (f : Reply) → a ≡ All n ws → f ≡ found_offices w.offices n ws w.logs → answered_by f w.logs w.slots ≡ answer_to w a
   unfolding answer_to
-  say-found n f e ef = rw (ef, e)
+  say-found n ws f e ef = rw (ef, e)
 
-  pub say-turn : (k : ℕ) (c : Command) (x : Answered) → a ≡ One k c → x ≡ office_turn w k c → x ≡ answer_to w ws a
+  pub say-turn : (k : ℕ) (c : Command) (x : Answered) → a ≡ One k c → x ≡ office_turn w k c → x ≡ answer_to w a
   unfolding answer_to
   say-turn k c x e ex = rw (ex, e)
 
-  pub say-nobody : (x : Answer) → a ≡ Nobody → x ≡ question → record { world = w; answer = x } ≡ answer_to w ws a
+  pub say-nobody : (x : Answer) → a ≡ Nobody → x ≡ question → record { world = w; answer = x } ≡ answer_to w a
   unfolding answer_to
   say-nobody x e ex = rw (ex, e)

@@ -1,8 +1,7 @@
 -- What a line does to the world, and what it prints. Assumes nothing.
-use Rattle.std.specs.Prelude.{ℕ, List, get_or, set}
+use Rattle.std.specs.Prelude.{ℕ, Option, List, get_or, set}
 use Rattle.rehearsal_lines.specs.Feeding.{Said, Fed, feed_by, finish_by}
 use Rattle.rehearsal_commands.specs.declared.Command.{Command}
-use Rattle.rehearsal_commands.specs.declared.Line.{Line}
 use Rattle.rehearsal_commands.specs.Command.{line_of}
 use Rattle.rehearsal_answers.specs.declared.Answer.{Answer}
 use Rattle.rehearsal_answers.specs.Answer.{printed_of}
@@ -53,13 +52,13 @@ office_turn w k c =
     (turn_slots (record_at w.offices k) (log_of w.logs k) w.slots c)
 
 -- by the line's addressee: a founding, an office's turn, or a question mark
-unfoldable pub answer_to : World → List ℕ → Addressee → Answered
-answer_to w ws (All n) = answered_by (found_offices w.offices n ws w.logs) w.logs w.slots
-answer_to w ws (One k c) = office_turn w k c
-answer_to w ws Nobody = record { world = w; answer = question }
+unfoldable pub answer_to : World → Addressee → Answered
+answer_to w (All n ws) = answered_by (found_offices w.offices n ws w.logs) w.logs w.slots
+answer_to w (One k c) = office_turn w k c
+answer_to w Nobody = record { world = w; answer = question }
 
-unfoldable pub answer_line : World → Line → Answered
-answer_line w line = answer_to w line.weights (addressee_of w.offices.count line.parsed)
+unfoldable pub answer_line : World → Option Command → Answered
+answer_line w line = answer_to w (addressee_of w.offices.count line)
 
 -- the bytes of a line, its newline not counted
 unfoldable pub say_line : World → List ℕ → Said World

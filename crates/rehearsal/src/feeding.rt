@@ -9,10 +9,9 @@ ghost use Rattle.rehearsal.specs.Feeding.{at_first, feeds, finishes, FedAs};
 
 use crate::Rehearsal;
 use frame::Record;
-use lists::within;
 use rehearsal_addressees::{Addressee, addressee_of};
 use rehearsal_answers::print;
-use rehearsal_commands::{Command, Line, line_of};
+use rehearsal_commands::{Command, line_of};
 use rehearsal_lines::Held;
 use rehearsal_offices::{found_offices, no_offices};
 use rehearsal_replies::question;
@@ -26,7 +25,7 @@ pub struct Fed {
     pub printed: usize,
 }
 
-// What a caller lends: the logs, the slots and the output.
+// What a caller lends: the logs, the slots and the output. Side by side: a struct of three lent arrays would be taken apart at each call.
 type Logs = [u32; Rehearsal::LOGS];
 
 type Slots = [u8; Rehearsal::SLOTS];
@@ -34,12 +33,11 @@ type Slots = [u8; Rehearsal::SLOTS];
 type Output = [u8; Rehearsal::OUTPUT];
 
 // What the held line says.
-fn line_held(held: Held) -> Line
+fn line_held(held: Held) -> Option<Command>
     ensures { result ≡ line_of (line_held held) }
 {
-    let bytes = held.bytes;
-    let size = within(held.length, Held::SIZE);
-    line_of(&bytes[..size])
+    let size = held.length.min(Held::SIZE);
+    line_of(&held.bytes[..size])
 }
 
 // The turn of an office that is there, on its own log.
@@ -73,6 +71,7 @@ fn feed_all(r: Rehearsal, logs: &mut Logs, slots: &mut Slots, chunk: &[u8], out:
     let mut held = r.held;
     let mut at: usize = 0;
     let mut printed: usize = 0;
+    // no `for`: each turn ends one line, and what is left of the chunk begins where that line ended
     loop {
         let end = part_end(chunk, at, b'\n');
         held = held.with(&chunk[at..end]);
@@ -80,12 +79,11 @@ fn feed_all(r: Rehearsal, logs: &mut Logs, slots: &mut Slots, chunk: &[u8], out:
             let rehearsal = Rehearsal { offices, held };
             return Fed { rehearsal, printed };
         }
-        let Line { parsed, weights } = line_held(held);
+        let line = line_held(held);
         held = Held::none();
         at = end + 1;
-        let addressee = addressee_of(offices.count, parsed);
-        match addressee {
-            Addressee::All(n) => {
+        match addressee_of(offices.count, line) {
+            Addressee::All(n, weights) => {
                 let reply = found_offices(offices, n, weights, logs);
                 offices = reply.offices;
                 printed = print(out, printed, reply.answer);
@@ -93,10 +91,10 @@ fn feed_all(r: Rehearsal, logs: &mut Logs, slots: &mut Slots, chunk: &[u8], out:
             Addressee::One(k, command) => {
                 let record = offices.records[k];
                 let turn = office_turn(record, offices.lengths, k, command, logs, slots);
-                let next = turn.record;
-                let left = turn.lengths;
-                offices.records[k] = next;
-                offices.lengths = left;
+                offices.records[k] = turn.record;
+                // a field that is an array is stored from a variable: the check doesn't cover it straight from another field
+                let lengths = turn.lengths;
+                offices.lengths = lengths;
                 printed = print(out, printed, turn.answer);
             }
             Addressee::Nobody => printed = print(out, printed, question()),
@@ -109,9 +107,10 @@ impl Rehearsal {
     pub fn new() -> Rehearsal
         ensures { result ≡ at_first }
     {
-        let offices = no_offices();
-        let held = Held::none();
-        Rehearsal { offices, held }
+        Rehearsal {
+            offices: no_offices(),
+            held: Held::none(),
+        }
     }
 
     // Feeds the first `used` bytes of the chunk: answers each line that ends there, and holds what is left of the last one.
@@ -127,9 +126,8 @@ impl Rehearsal {
         ensures { FedAs (feeds self logs.old slots.old (take used chunk.now)) out.old result
             logs.new slots.new out.new }
     {
-        let bytes: &[u8] = chunk;
-        let size = within(used, Rehearsal::CHUNK);
-        feed_all(self, logs, slots, &bytes[..size], out)
+        let size = used.min(Rehearsal::CHUNK);
+        feed_all(self, logs, slots, &chunk[..size], out)
     }
 
     // The end of the input: a line that is held lacks its newline, and is answered.
@@ -137,17 +135,15 @@ impl Rehearsal {
         ensures { FedAs (finishes self logs.old slots.old) out.old result
             logs.new slots.new out.new }
     {
-        let last = self.held;
-        if last.is_none() {
-            let offices = self.offices;
-            let held = Held::none();
-            let rehearsal = Rehearsal { offices, held };
+        if self.held.is_none() {
             return Fed {
-                rehearsal,
+                rehearsal: Rehearsal {
+                    held: Held::none(),
+                    ..self
+                },
                 printed: 0,
             };
         }
-        let newline = [b'\n'];
-        feed_all(self, logs, slots, &newline, out)
+        feed_all(self, logs, slots, &[b'\n'], out)
     }
 }

@@ -8,8 +8,7 @@ use Rattle.lists.specs.Tests.{pick}
 use Rattle.lists.proofs.Tests.{pick-cases}
 use Rattle.rehearsal_commands.specs.declared.Command.{Command}
 use Rattle.rehearsal_commands.specs.declared.Command.TheVariants.{Found, Issue, Send, Take, Elect, View}
-use Rattle.rehearsal_commands.specs.declared.Parsed.{Parsed}
-use Rattle.rehearsal_commands.specs.declared.Parsed.TheVariants.{Says, Other}
+use Rattle.std.specs.Prelude.{Option, Some, None}
 use Rattle.rehearsal_addressees.specs.declared.Addressee.{Addressee}
 use Rattle.rehearsal_addressees.specs.declared.Addressee.TheVariants.{One, Nobody}
 use Rattle.rehearsal_addressees.specs.Addressees.{at_office, command_addressee, addressee_of}
@@ -25,14 +24,14 @@ at_there count k' c' k c =
 
 command-there : (count : ℕ) (c' : Command) (k : ℕ) (c : Command) → command_addressee count c' ≡ One k c → k < 8
 unfolding command_addressee
-command-there count (Found n) k c e = let z : ◌≡◌ {A = ℕ} 0 1 = cc in absurd (omega arith)
+command-there count (Found n ws) k c e = let z : ◌≡◌ {A = ℕ} 0 1 = cc in absurd (omega arith)
 command-there count (Issue k' line code) k c e = at_there count k' (Issue k' line code) k c e
 command-there count (Send k' m) k c e = at_there count k' (Send k' m) k c e
 command-there count (Take k' m) k c e = at_there count k' (Take k' m) k c e
 command-there count (Elect k') k c e = at_there count k' (Elect k') k c e
 command-there count (View k' line) k c e = at_there count k' (View k' line) k c e
 
-pub addressee-there : (count : ℕ) (p : Parsed) (k : ℕ) (c : Command) → addressee_of count p ≡ One k c → k < 8
+pub addressee-there : (count : ℕ) (p : Option Command) (k : ℕ) (c : Command) → addressee_of count p ≡ One k c → k < 8
 unfolding addressee_of
-addressee-there count (Says c') k c e = command-there count c' k c e
-addressee-there count Other k c e = let z : ◌≡◌ {A = ℕ} 0 1 = cc in absurd (omega arith)
+addressee-there count (Some c') k c e = command-there count c' k c e
+addressee-there count None k c e = let z : ◌≡◌ {A = ℕ} 0 1 = cc in absurd (omega arith)

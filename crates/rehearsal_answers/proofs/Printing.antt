@@ -17,6 +17,7 @@ use Rattle.rehearsal_answers.specs.declared.Answer.{Answer}
 use Rattle.rehearsal_answers.specs.declared.Item.{Item}
 use Rattle.rehearsal_answers.specs.declared.Item.TheVariants.{Number, Dash, Nothing}
 use Rattle.rehearsal_answers.specs.Answer.{spaced_item, printed_of, printed_in}
+use Rattle.printing.specs.Printing.{Puts}
 use Rattle.printing.proofs.Digits.{decimal-short}
 
 pub item-short : (i : Item) → length (spaced_item i) ≤ 21
@@ -41,7 +42,7 @@ pub print-whole : (a : Answer) (at behind next last : ℕ) (out o₁ o₂ o₃ :
     → behind ≡ at + 1 + length (spaced_item a.first) → o₁ ≡ sets (set out at a.letter) (at + 1) (spaced_item a.first)
     → next ≡ behind + length (spaced_item a.second) → o₂ ≡ sets o₁ behind (spaced_item a.second)
     → last ≡ next + length (spaced_item a.third) → o₃ ≡ sets o₂ next (spaced_item a.third)
-    → (last + 1 ≡ at + length (printed_of a)) × (set o₃ last 10 ≡ sets out at (printed_of a))
+    → Puts out at (printed_of a) (last + 1) (set o₃ last 10)
 unfolding printed_of
 print-whole a at behind next last out o₁ o₂ o₃ e₁ s₁ e₂ s₂ e₃ s₃ =
     let all : Left out at (printed_of a) out at (printed_of a) = left-all out at (printed_of a) in
@@ -49,4 +50,5 @@ print-whole a at behind next last out o₁ o₂ o₃ e₁ s₁ e₂ s₂ e₃ s�
     let one = left-next lettered (spaced_item a.first) {l' = o₁} {p' = behind} refl e₁ s₁ in
     let two = left-next one (spaced_item a.second) {l' = o₂} {p' = next} refl e₂ s₂ in
     let three = left-next two (spaced_item a.third) {l' = o₃} {p' = last} refl e₃ s₃ in
-    left-none (left-next three (10 ∷ []) {rest' = []} {l' = set o₃ last 10} {p' = last + 1} refl refl refl) refl
+    let whole = left-none (left-next three (10 ∷ []) {rest' = []} {l' = set o₃ last 10} {p' = last + 1} refl refl refl) refl in
+    record { end = whole.0; output = whole.1 }

@@ -4,29 +4,31 @@
 -- Assumes nothing.
 use mathlib.Core.Path.{◌≡◌, refl, sym, ap, ◌∙◌}
 use mathlib.Core.Bool.{Bool, true, false}
-use mathlib.Core.List.{List}
-use Prim.Native.Nat.{ℕ, ◌+◌, ◌-◌, ◌<◌, ◌≤◌}
+use mathlib.Core.List.{List, ◌∷◌}
+use native.Mathlib.Nat.{zero-add}
+use Prim.Native.Nat.{ℕ, ◌+◌, ◌-◌, ◌<◌, zero-le}
 use native.Mathlib.Omega.{arith}
 use lib.Dec.{ltb}
-use lib.ListN.{length, take, drop}
+use lib.ListN.{length, take}
 use lib.Seq.{take_all, length-take-le}
 use borrow.Author.Tests.{lt-ltb, ltb-true, ltb-false}
 use Rattle.lists.specs.Tests.{pick}
 use Rattle.text_parts.specs.Parts.{part_length}
-use Rattle.decimal.specs.Number.{by_number}
+use Rattle.std.specs.Prelude.{None, option_and_then}
 use Rattle.decimal.specs.Numbers.{fields, fields_from, field_number, numbers_from}
 use Rattle.decimal.proofs.Walks.{fields-here, fields-all}
-use Rattle.rehearsal_commands.specs.Command.{line_from, line_by, line_of, with_more, no_line}
+use Rattle.rehearsal_commands.specs.Command.{line_from, line_by, line_of, with_more}
 
-pub line_step : (letter : ℕ) (s : List ℕ) (end : ℕ) → 2 ≤ length s → end ≡ 2 + part_length 32 (drop 2 s)
-    → line_from letter (drop 2 s) ≡ by_number (field_number (take (end - 2) (drop 2 s))) (λ (first : ℕ). with_more letter first (numbers_from s (end + 1))) no_line
+pub line_step : (letter : ℕ) (s : List ℕ) (end : ℕ) → end ≡ part_length 32 s
+    → line_from letter s ≡ option_and_then (λ (first : ℕ). with_more letter first (numbers_from s (end + 1))) (field_number (take end s))
 unfolding line_by
-line_step letter s end h e =
-    let k : end - 2 ≡ part_length 32 (drop 2 s) = omega arith in
-    let f : fields (drop 2 s) ≡ fields_from s 2 = sym (fields-all s 2 h) in
-    rw (f, fields-here s 2 h, k, e)
+line_step letter s end e =
+    let f : fields s ≡ fields_from s 0 = sym (fields-all s 0 zero-le) in
+    let h : fields_from s 0 ≡ take (part_length 32 s) s ∷ fields_from s (part_length 32 s + 1) =
+    fields-here s 0 zero-le ∙ ap (λ (k : ℕ). take (part_length 32 s) s ∷ fields_from s (k + 1)) (zero-add (part_length 32 s)) in
+    rw (f, h, e)
 
-too_long : (line : List ℕ) → 128 < length line → line_of line ≡ no_line
+too_long : (line : List ℕ) → 128 < length line → line_of line ≡ None
 unfolding line_of pick
 too_long line h = rw (lt-ltb 128 (length line) h)
 

@@ -1,20 +1,21 @@
 -- The line that is held.
 --     line-held, held-again, held_more      the line of the struct that holds it; the struct of that line, and of more behind it
---     HeldRest, held-begins, held_next, held-full, held-ends      the loop that puts more bytes behind a held line
+--     HeldRest, held-begins, held-full, held-ends, held-put      more bytes put behind a held line
 --     take_within      a count above a list's length
 --     none-held      whether no byte is held
 -- Assumes nothing.
 use mathlib.Core.Path.{◌≡◌, refl, sym, ap, ap₂, ◌∙◌}
 use mathlib.Core.List.{List, [], ◌∷◌, ◌++◌, append_assoc, append-nil}
 use Prim.Native.Nat.{ℕ, zero, suc, ◌+◌, ◌-◌, ◌<◌, ◌≤◌, min}
-use native.Mathlib.Numerals.{add-one}
 use native.Mathlib.Omega.{arith}
 use mathlib.Core.Bool.{Bool, true, false}
 use native.Mathlib.Nat.{min-eq_left, min-eq_right, le_of_lt}
 use lib.Dec.{eqb, leb}
 use borrow.Author.Tests.{eq-eqb, ne_eqb, leb-true, leb-false}
-use lib.ListN.{length, get_or, take, drop, set, replicate, length-set, drop_of_length-le, length-take, take-append-drop}
-use lib.Seq.{drop-cons, drop-drop, drop-set-lt, drop-append_seam, take_all, take-append-le, take-append_seam, take-suc-set, length-take-le}
+use borrow.Rule.Slice.PartMut.{put_mid}
+use lib.ListN.{length, take, drop, replicate, length-append, length-drop, drop_of_length-le, length-take, take-append-drop}
+use lib.Seq.{drop-drop, drop-append_seam, take_all, take-append-le, take-append_seam, length-take-le}
+use Rattle.std.proofs.lemmas.List.{drop-replicate}
 use Rattle.rehearsal_lines.specs.declared.Held.{Held}
 use Rattle.rehearsal_lines.specs.Held.{line_held, cut, held_of}
 
@@ -77,20 +78,6 @@ held-begins h more size long e es =
     }
 
 module _ {line more bytes : List ℕ} {size i : ℕ} (inv : HeldRest line more bytes size i) where
-  pub held_next : size < 129 → i < length more → HeldRest line more (set bytes size (get_or more i 0)) (size + 1) (i + 1)
-  held_next h l =
-      let v = get_or more i 0 in
-      let a : take (size + 1) (set bytes size v) ≡ take size bytes ++ (v ∷ []) = rw add-one (take-suc-set bytes size v (omega (arith, inv.long))) in
-      let d : drop i more ≡ v ∷ drop (i + 1) more = rw (add-one, drop-cons more i 0) in
-      let k : 129 - size ≡ suc (129 - (size + 1)) = omega arith in
-      let z : drop size bytes ≡ 0 ∷ replicate (129 - (size + 1)) 0 = inv.zeros ∙ ap (λ (n : ℕ). replicate n 0) k in
-      record {
-        long = simp length-set inv.long;
-        within = omega arith;
-        whole = rw (a, append_assoc, ← d) inv.whole;
-        zeros = drop-set-lt (size + 1) bytes size v (omega arith) ∙ sym (drop-drop 1 size bytes) ∙ ap (drop 1) z;
-      }
-
   held-is : take size bytes ≡ cut (line ++ more) → ◌≡◌ {A = Held} (record { length = size; bytes = bytes }) (held_of (line ++ more))
   held-is t =
       let n : size ≡ length (cut (line ++ more)) = sym (length-take-le size bytes (omega (arith, inv.long, inv.within))) ∙ ap length t in
@@ -108,6 +95,41 @@ module _ {line more bytes : List ℕ} {size i : ℕ} (inv : HeldRest line more b
   pub held-ends : length more ≤ i → ◌≡◌ {A = Held} (record { length = size; bytes = bytes }) (held_of (line ++ more))
   held-ends h =
       held-is (sym (rw (drop_of_length-le more h, append-nil) (take_all 129 (take size bytes) (rw length-take (omega (arith, inv.within))))) ∙ inv.whole)
+
+-- as many of the bytes as there is room for, stored behind the line at once
+held-stored : {line more bytes : List ℕ} {size : ℕ} (n : ℕ) → HeldRest line more bytes size 0 → n ≡ min (length more) (129 - size)
+    → HeldRest line more (take size bytes ++ (take n more ++ drop (size + n) bytes)) (size + n) n
+held-stored {line} {more} {bytes} {size} n inv e =
+    let few : n ≤ length more = omega (arith, e) in
+    let room : n ≤ 129 - size = omega (arith, e) in
+    let a : length (take size bytes) ≡ size = length-take-le size bytes (omega (arith, inv.long, inv.within)) in
+    let b : length (take n more) ≡ n = length-take-le n more few in
+    let front : List ℕ = take size bytes ++ take n more in
+    let f : length front ≡ size + n = length-append (take size bytes) (take n more) ∙ ap₂ (λ (x y : ℕ). x + y) a b in
+    let all : take size bytes ++ (take n more ++ drop (size + n) bytes) ≡ front ++ drop (size + n) bytes = sym (append_assoc (take size bytes) (take n more) (drop (size + n) bytes)) in
+    let rest : drop (size + n) bytes ≡ replicate (129 - (size + n)) 0 =
+    sym (drop-drop n size bytes) ∙ ap (drop n) inv.zeros ∙ drop-replicate n (129 - size) 0 ∙ ap (λ (k : ℕ). replicate k 0) (omega arith) in
+    record {
+      long = ap length all ∙ length-append front (drop (size + n) bytes) ∙ omega (arith, f, length-drop (size + n) bytes, inv.long, inv.within, room);
+      within = omega (arith, inv.within, room);
+      whole =
+          ap (λ (x : List ℕ). cut (x ++ drop n more)) (ap (take (size + n)) all ∙ ap (λ (k : ℕ). take k (front ++ drop (size + n) bytes)) (sym f) ∙ take-append_seam front (drop (size + n) bytes))
+          ∙ ap cut (append_assoc (take size bytes) (take n more) (drop n more) ∙ ap (λ (x : List ℕ). take size bytes ++ x) (take-append-drop n more)) ∙ inv.whole;
+      zeros = ap (drop (size + n)) all ∙ ap (λ (k : ℕ). drop k (front ++ drop (size + n) bytes)) (sym f) ∙ drop-append_seam front (drop (size + n) bytes) ∙ rest;
+    }
+
+held-behind : {line more bytes : List ℕ} {size : ℕ} (n : ℕ) → HeldRest line more bytes size 0 → n ≡ min (length more) (129 - size)
+    → ◌≡◌ {A = Held} (record { length = size + n; bytes = take size bytes ++ (take n more ++ drop (size + n) bytes) }) (held_of (line ++ more))
+held-behind {line} {more} {bytes} {size} n inv e = by-test (leb (length more) (129 - size)) refl
+  where
+    by-test : (t : Bool) → leb (length more) (129 - size) ≡ t → ◌≡◌ {A = Held} (record { length = size + n; bytes = take size bytes ++ (take n more ++ drop (size + n) bytes) }) (held_of (line ++ more))
+    by-test true q = held-ends (held-stored n inv e) (omega (arith, e, leb-true (length more) (129 - size) q))
+    by-test false q = held-full (held-stored n inv e) (omega (arith, e, inv.within, leb-false (length more) (129 - size) q))
+
+-- as the code has it: w bytes at once, in the place of as many
+pub held-put : {line more bytes : List ℕ} {size : ℕ} (n w : ℕ) (ys : List ℕ) → HeldRest line more bytes size 0 → n ≡ min (length more) (129 - size) → w ≡ n → ys ≡ take w more
+    → ◌≡◌ {A = Held} (record { length = size + n; bytes = put_mid size w bytes ys }) (held_of (line ++ more))
+held-put {line} {more} {bytes} {size} n w ys inv e v y = rw (y, v, drop-drop) (held-behind n inv e)
 
 -- none is held exactly where the length is 0
 pub none-held : (n : ℕ) (bytes : List ℕ) → length bytes ≡ 129 → eqb n 0 ≡ eqb (length (take n bytes)) 0

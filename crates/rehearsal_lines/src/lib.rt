@@ -4,9 +4,8 @@
 ghost use Rattle.std.specs.Prelude.{◌≡◌, ◌++◌, eqb, length};
 ghost use Rattle.rehearsal_lines.specs.Held.{line_held, held_of, nothing};
 
-use lists::within;
-
-// A line as far as it was read, or its first 129 bytes: one of 129 bytes is too long, as any longer one is.
+// A line as far as it was read, or its first 129 bytes: one of 129 bytes is too long, as any longer one is. An `ArrayVec` in its place would be no
+// plainer: the rehearsal that holds the line is `Copy`, which an `ArrayVec` is not.
 #[derive(Clone, Copy)]
 pub struct Held {
     pub length: usize,
@@ -40,14 +39,9 @@ impl Held {
         ensures { result ≡ held_of (line_held self ++ more.now) }
     {
         let mut bytes = self.bytes;
-        let mut length = within(self.length, Held::SIZE);
-        for i in 0..more.len() {
-            if length == Held::SIZE {
-                return Held { length, bytes };
-            }
-            bytes[length] = more[i];
-            length += 1;
-        }
+        let start = self.length.min(Held::SIZE);
+        let length = start + more.len().min(Held::SIZE - start);
+        bytes[start..length].copy_from_slice(&more[..length - start]);
         Held { length, bytes }
     }
 
@@ -55,9 +49,8 @@ impl Held {
     pub fn with(self, more: &[u8]) -> Held
         ensures { result ≡ held_of (line_held self ++ more.now) }
     {
-        let bytes = self.bytes;
-        let size = within(self.length, Held::SIZE);
-        let line = Held::none().with_behind(&bytes[..size]);
+        let size = self.length.min(Held::SIZE);
+        let line = Held::none().with_behind(&self.bytes[..size]);
         line.with_behind(more)
     }
 }

@@ -25,19 +25,17 @@ fn fresh_at(n: usize, weights: [u16; 8], logs: &[u32], k: usize) -> Record
 {
     let from = k * Record::LOG;
     let to = from + Record::LOG;
-    let found = Record::found(n, k, weights, &logs[from..to]);
-    found.record
+    Record::found(n, k, weights, &logs[from..to]).record
 }
 
-// What Found gives at each of the eight.
+// What Found gives at each of the eight. No `array::from_fn`: tried, and the proof that the array is the list of these records did not close.
 fn fresh_all(n: usize, weights: [u16; 8], logs: &[u32], records: [Record; 8]) -> [Record; 8]
     requires { length logs.now ≡ 8192 }
     ensures { result ≡ fresh_from n weights logs.now 8 0 }
 {
     let mut fresh = records;
-    for k in 0..8 {
-        let one = fresh_at(n, weights, logs, k);
-        fresh[k] = one;
+    for (k, record) in fresh.iter_mut().enumerate() {
+        *record = fresh_at(n, weights, logs, k);
     }
     fresh
 }
@@ -46,12 +44,10 @@ fn fresh_all(n: usize, weights: [u16; 8], logs: &[u32], records: [Record; 8]) ->
 pub fn no_offices() -> Offices
     ensures { result ≡ no_offices }
 {
-    let short = [0u32; 1];
-    let refused = Record::found(0, 0, [0; 8], &short);
-    let zero = refused.record;
+    let refused = Record::found(0, 0, [0; 8], &[0; 1]);
     Offices {
         count: 0,
-        records: [zero; 8],
+        records: [refused.record; 8],
         lengths: [0; 4],
     }
 }
@@ -60,18 +56,16 @@ pub fn no_offices() -> Offices
 pub fn found_offices(offices: Offices, n: usize, weights: [u16; 8], logs: &[u32; ALL_LOGS]) -> Reply
     ensures { result ≡ found_offices offices n weights logs.now }
 {
-    let all: &[u32] = logs;
-    let first = Record::found(n, 0, weights, &all[..Record::LOG]);
+    let first = Record::found(n, 0, weights, &logs[..Record::LOG]);
     let answer = says_one(b'f', first.number);
+    // a number and no `Result`: the answer is one that crosses to C, and there 0 is done
     if first.number != 0 {
         return Reply { offices, answer };
     }
-    let records = offices.records;
-    let fresh = fresh_all(n, weights, all, records);
     Reply {
         offices: Offices {
             count: n,
-            records: fresh,
+            records: fresh_all(n, weights, logs, offices.records),
             lengths: [0; 4],
         },
         answer,

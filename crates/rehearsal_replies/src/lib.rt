@@ -5,14 +5,6 @@ ghost use Rattle.std.specs.Prelude.{◌≡◌};
 ghost use Rattle.rehearsal_replies.specs.Answers.{says_one, says_two, item_of, says_frames, question};
 
 use rehearsal_answers::{Answer, Item};
-use shown_edits::Edit;
-
-// A number as an answer holds it.
-fn wide(x: u32) -> usize
-    ensures { result ≡ x }
-{
-    x as usize
-}
 
 // A letter and the number given.
 pub fn says_one(letter: u8, number: u32) -> Answer
@@ -20,7 +12,7 @@ pub fn says_one(letter: u8, number: u32) -> Answer
 {
     Answer {
         letter,
-        first: Item::Number(wide(number)),
+        first: Item::Number(number as usize),
         second: Item::Nothing,
         third: Item::Nothing,
     }
@@ -32,27 +24,27 @@ pub fn says_two(letter: u8, number: u32, x: usize) -> Answer
 {
     Answer {
         letter,
-        first: Item::Number(wide(number)),
+        first: Item::Number(number as usize),
         second: Item::Number(x),
         third: Item::Nothing,
     }
 }
 
 // What a frame shows: a code, or a dash for no edit yet.
-fn item_of(edit: Edit) -> Item
+fn item_of(edit: Option<u32>) -> Item
     ensures { result ≡ item_of edit }
 {
     match edit {
-        Edit::Code(code) => Item::Number(wide(code)),
-        Edit::NotYet => Item::Dash,
+        Some(code) => Item::Number(code as usize),
+        None => Item::Dash,
     }
 }
 
 // A letter, the number given and what both frames show.
-pub fn says_frames(letter: u8, number: u32, settled: Edit, tentative: Edit) -> Answer
+pub fn says_frames(letter: u8, number: u32, settled: Option<u32>, tentative: Option<u32>) -> Answer
     ensures { result ≡ says_frames letter number settled tentative }
 {
-    let first = Item::Number(wide(number));
+    let first = Item::Number(number as usize);
     let second = item_of(settled);
     let third = item_of(tentative);
     Answer {

@@ -13,16 +13,13 @@ pub const SLOT: usize = 7046;
 pub const ALL_SLOTS: usize = SLOTS * SLOT;
 
 // The slots' lengths after a send: a refused one changes none, and neither does one into a slot that isn't there.
+// The number is that of an answer that crosses to C, and there 0 is done.
 pub fn sent_lengths(lengths: [usize; 4], m: usize, number: u32, size: usize) -> [usize; 4]
     ensures { result ≡ sent_lengths lengths m number size }
 {
-    if number != 0 {
-        return lengths;
-    }
-    if m >= SLOTS {
-        return lengths;
-    }
     let mut next = lengths;
-    next[m] = size;
+    if number == 0 && m < SLOTS {
+        next[m] = size;
+    }
     next
 }

@@ -13,7 +13,7 @@ use Rattle.frame.specs.declared.Record.{Record}
 use Rattle.issuing.specs.declared.Issued.{Issued}
 use Rattle.sending.specs.declared.Sent.{Sent}
 use Rattle.frame.specs.declared.electing.Elected.{Elected}
-use Rattle.both_frames.specs.declared.Framed.{Framed}
+use Rattle.both_frames.specs.Framed.{Framed}
 use Rattle.issuing.specs.Issuing.{issue_of}
 use Rattle.sending.specs.Sending.{send_of, send_bytes}
 use Rattle.taking.specs.declared.Taken.{Taken}

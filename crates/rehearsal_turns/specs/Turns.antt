@@ -63,7 +63,7 @@ view_turn r lengths words line =
 
 -- the office's turn by the command, for "a slot that isn't there" a question mark
 unfoldable pub turn_at : Record → List ℕ → List ℕ → List ℕ → Command → Turn
-turn_at r lengths words slots (Found n) = stay r lengths
+turn_at r lengths words slots (Found n ws) = stay r lengths
 turn_at r lengths words slots (Issue k line code) = issue_turn r lengths words line code
 turn_at r lengths words slots (Send k m) = pick (ltb m 4) (send_turn r lengths words slots m) (stay r lengths)
 turn_at r lengths words slots (Take k m) = pick (ltb m 4) (take_turn r lengths words slots m) (stay r lengths)
@@ -72,7 +72,7 @@ turn_at r lengths words slots (View k line) = view_turn r lengths words line
 
 -- the office's log after it
 unfoldable pub turn_words : Record → List ℕ → List ℕ → List ℕ → Command → List ℕ
-turn_words r lengths words slots (Found n) = words
+turn_words r lengths words slots (Found n ws) = words
 turn_words r lengths words slots (Issue k line code) = words
 turn_words r lengths words slots (Send k m) = words
 turn_words r lengths words slots (Take k m) = pick (ltb m 4) (take_turn_words r lengths words slots m) words
@@ -81,7 +81,7 @@ turn_words r lengths words slots (View k line) = words
 
 -- the slots after it
 unfoldable pub turn_slots : Record → List ℕ → List ℕ → Command → List ℕ
-turn_slots r words slots (Found n) = slots
+turn_slots r words slots (Found n ws) = slots
 turn_slots r words slots (Issue k line code) = slots
 turn_slots r words slots (Send k m) = pick (ltb m 4) (send_slots r words slots m) slots
 turn_slots r words slots (Take k m) = slots

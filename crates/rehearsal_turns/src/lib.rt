@@ -6,13 +6,13 @@ ghost use Rattle.frame.specs.Electing.{elect_words};
 ghost use Rattle.rehearsal_turns.specs.Turns.{stay, issue_turn, send_turn, send_slots, take_turn, take_turn_words, elect_turn, view_turn, turn_at, turn_words, turn_slots};
 
 use frame::Record;
-use lists::within;
 use rehearsal_answers::Answer;
 use rehearsal_commands::Command;
 use rehearsal_replies::{question, says_frames, says_one, says_two};
 use rehearsal_slots::{ALL_SLOTS, SLOT, SLOTS, sent_lengths};
 
-// The record and the lengths of the slots' messages after the turn, and the answer.
+// The record and the lengths of the slots' messages after the turn, and the answer. The turns below take the record and the lengths by value and hand
+// them back here, and the log and the slots are lent: a struct of all four is no plainer.
 #[derive(Clone, Copy)]
 pub struct Turn {
     pub record: Record,
@@ -24,11 +24,10 @@ pub struct Turn {
 fn stay(record: Record, lengths: [usize; 4]) -> Turn
     ensures { result ≡ stay «record» lengths }
 {
-    let answer = question();
     Turn {
         record,
         lengths,
-        answer,
+        answer: question(),
     }
 }
 
@@ -37,12 +36,10 @@ fn issue_turn(record: Record, lengths: [usize; 4], log: &[u32], line: u32, code:
     ensures { result ≡ issue_turn «record» lengths log.now line code }
 {
     let issued = issuing::issue(record, log, line, code);
-    let next = issued.record;
-    let answer = says_one(b'i', issued.number);
     Turn {
-        record: next,
+        record: issued.record,
         lengths,
-        answer,
+        answer: says_one(b'i', issued.number),
     }
 }
 
@@ -55,12 +52,10 @@ fn send_turn(record: Record, lengths: [usize; 4], log: &[u32], slots: &mut [u8],
     let from = m * SLOT;
     let to = from + SLOT;
     let sent = sending::send(record, log, &mut slots[from..to]);
-    let next = sent_lengths(lengths, m, sent.number, sent.length);
-    let answer = says_two(b's', sent.number, sent.length);
     Turn {
         record,
-        lengths: next,
-        answer,
+        lengths: sent_lengths(lengths, m, sent.number, sent.length),
+        answer: says_two(b's', sent.number, sent.length),
     }
 }
 
@@ -71,15 +66,13 @@ fn take_turn(record: Record, lengths: [usize; 4], log: &mut [u32], slots: &[u8],
     ensures words { log.new ≡ take_turn_words «record» lengths log.old slots.now m }
 {
     let from = m * SLOT;
-    let size = within(lengths[m], SLOT);
+    let size = lengths[m].min(SLOT);
     let to = from + size;
     let taken = taking::take(record, log, &slots[from..to]);
-    let next = taken.record;
-    let answer = says_one(b't', taken.number);
     Turn {
-        record: next,
+        record: taken.record,
         lengths,
-        answer,
+        answer: says_one(b't', taken.number),
     }
 }
 
@@ -88,12 +81,10 @@ fn elect_turn(record: Record, lengths: [usize; 4], log: &mut [u32]) -> Turn
     ensures { (result ≡ elect_turn «record» lengths log.old) × (log.new ≡ elect_words «record» log.old) }
 {
     let elected = record.elect(log);
-    let next = elected.record;
-    let answer = says_two(b'e', elected.number, elected.count);
     Turn {
-        record: next,
+        record: elected.record,
         lengths,
-        answer,
+        answer: says_two(b'e', elected.number, elected.count),
     }
 }
 
@@ -103,9 +94,16 @@ fn view_turn(record: Record, lengths: [usize; 4], log: &[u32], line: u32) -> Tur
 {
     let settled = both_frames::settled_frame(record, log, line);
     let tentative = both_frames::tentative_frame(record, log, line);
-    let now = settled.edit;
-    let soon = tentative.edit;
-    let answer = says_frames(b'v', settled.number, now, soon);
+    let number = match settled {
+        Ok(_) => 0,
+        Err(refusal) => refusal.number(),
+    };
+    let answer = says_frames(
+        b'v',
+        number,
+        settled.unwrap_or(None),
+        tentative.unwrap_or(None),
+    );
     Turn {
         record,
         lengths,
@@ -126,19 +124,21 @@ pub fn turn_at(
     ensures slots_after { slots.new ≡ turn_slots «record» log.old slots.old command }
 {
     match command {
-        Command::Found(_) => stay(record, lengths),
+        Command::Found(..) => stay(record, lengths),
         Command::Issue(_, line, code) => issue_turn(record, lengths, log, line, code),
         Command::Send(_, m) => {
-            if m >= SLOTS {
-                return stay(record, lengths);
+            if m < SLOTS {
+                send_turn(record, lengths, log, slots, m)
+            } else {
+                stay(record, lengths)
             }
-            send_turn(record, lengths, log, slots, m)
         }
         Command::Take(_, m) => {
-            if m >= SLOTS {
-                return stay(record, lengths);
+            if m < SLOTS {
+                take_turn(record, lengths, log, slots, m)
+            } else {
+                stay(record, lengths)
             }
-            take_turn(record, lengths, log, slots, m)
         }
         Command::Elect(_) => elect_turn(record, lengths, log),
         Command::View(_, line) => view_turn(record, lengths, log, line),

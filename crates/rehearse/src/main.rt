@@ -2,26 +2,19 @@
 // read before it reads on, so that it serves a terminal and a pipe alike.
 #![tactic(auto)]
 
-use lists::within;
 use rehearsal::Rehearsal;
 use std::io;
 use std::io::Read;
 
-// The rehearsal after a piece of input, and whether to read on.
-#[derive(Clone, Copy)]
-struct Next {
-    rehearsal: Rehearsal,
-    more: bool,
-}
-
-// Writes the output's first bytes. No more are printed than it has (`feeds-short`, `finishes-short`), so `within` takes none away.
+// Writes the output's first bytes. No more are printed than it has (`feeds-short`, `finishes-short`), so `min` takes none away.
+// `ballot_tables` has the same for an output of its own size: for these lines a library that both share is no plainer.
 fn show(rt: &impl Print, out: &[u8; Rehearsal::OUTPUT], count: usize) -> io::Result<()> {
-    let all: &[u8] = out;
-    let size = within(count, Rehearsal::OUTPUT);
-    rt.write_all(&all[..size])
+    let size = count.min(Rehearsal::OUTPUT);
+    rt.write_all(&out[..size])
 }
 
-// Reads once and answers what came; at the input's end, or where a read fails, what is held.
+// Reads once and answers what came, and hands back the rehearsal to read on with; at the input's end, or where a read fails, it answers what is
+// held, and hands back none.
 fn serve(
     rt: &impl Print,
     reader: &mut impl Read,
@@ -30,25 +23,19 @@ fn serve(
     slots: &mut [u8; Rehearsal::SLOTS],
     chunk: &mut [u8; Rehearsal::CHUNK],
     out: &mut [u8; Rehearsal::OUTPUT],
-) -> io::Result<Next> {
+) -> io::Result<Option<Rehearsal>> {
     let got = reader.read(chunk);
     if let Ok(used) = got
         && used > 0
     {
         let fed = rehearsal.feed(logs, slots, chunk, used, out);
         show(rt, out, fed.printed)?;
-        return Ok(Next {
-            rehearsal: fed.rehearsal,
-            more: true,
-        });
+        return Ok(Some(fed.rehearsal));
     }
     let last = rehearsal.finish(logs, slots, out);
     show(rt, out, last.printed)?;
     got?;
-    Ok(Next {
-        rehearsal: last.rehearsal,
-        more: false,
-    })
+    Ok(None)
 }
 
 // Answers a rehearsal from standard input, to its end. A proved loop has to end, and nothing says that an input does: the loop has more turns
@@ -61,7 +48,7 @@ fn main(rt: HostRuntime) -> io::Result<()> {
     let mut out = [0u8; Rehearsal::OUTPUT];
     let mut rehearsal = Rehearsal::new();
     for _ in 0..u64::MAX {
-        let next = serve(
+        let Some(next) = serve(
             &rt,
             &mut reader,
             rehearsal,
@@ -69,11 +56,11 @@ fn main(rt: HostRuntime) -> io::Result<()> {
             &mut slots,
             &mut chunk,
             &mut out,
-        )?;
-        rehearsal = next.rehearsal;
-        if !next.more {
+        )?
+        else {
             break;
-        }
+        };
+        rehearsal = next;
     }
     Ok(())
 }

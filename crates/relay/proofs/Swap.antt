@@ -4,10 +4,11 @@
 use mathlib.Core.Path.{◌≡◌, refl, sym, ap, ap₂, subst, ◌∙◌}
 use mathlib.Core.List.{List, [], ◌∷◌, ◌++◌, map}
 use mathlib.Core.Logic.{◌⊎◌}
-use mathlib.Core.Option.{Option, some}
+use Rattle.std.specs.Prelude.{Option, Some}
 use Prim.Native.Nat.{ℕ, zero, suc, ◌+◌, ◌<◌}
 use native.Mathlib.Omega.{arith}
-use lib.ListN.{length, get_or, set, get_elem?}
+use lib.ListN.{length, get_or, set}
+use Rattle.std.specs.Prelude.{slice_get}
 use Rattle.lists.proofs.Tests.{map-set}
 use Rattle.protocol.specs.Office.{tail}
 use Rattle.protocol.specs.Folding.{refuse_folded_take}
@@ -133,7 +134,7 @@ after_one w [] c = refl
 after_one w (f ∷ cs) c = after_one (step w f) cs c
 
 -- an element that was set
-set_at : {A : Type 0} (l : List A) (i : ℕ) (x : A) → i < length l → get_elem? (set l i x) i ≡ some x
+set_at : {A : Type 0} (l : List A) (i : ℕ) (x : A) → i < length l → slice_get (set l i x) i ≡ Some x
 set_at [] i x h = absurd (omega arith)
 set_at (y ∷ l) zero x h = refl
 set_at (y ∷ l) (suc i) x h = set_at l i x (omega arith)
@@ -148,7 +149,7 @@ module _ (n : ℕ) (ws : List ℕ) (start : World) (f : Founded n ws start) (cs 
   t : S.Sound ws n (shape w)
   t = (both-after n ws start f cs).there
 
-  module _ (k i j : ℕ) (d : Replica) (a b : Posted) (here : replica_at w k ≡ some d) (p : message_at w i ≡ some a) (q : message_at w j ≡ some b) where
+  module _ (k i j : ℕ) (d : Replica) (a b : Posted) (here : replica_at w k ≡ Some d) (p : message_at w i ≡ Some a) (q : message_at w j ≡ Some b) where
     m : SoundReplica n ws k d
     m = s.each k d here
 
@@ -173,12 +174,12 @@ module _ (n : ℕ) (ws : List ℕ) (start : World) (f : Founded n ws start) (cs 
     behind h =
         let v : World = put w k (taken d a.bytes) in
         let other = (take_found k (sent_of b).message (folded_by d.held d.words) (sym (take-number n ws k d m b.bytes y) ∙ h)).other in
-        let at : replica_at v k ≡ some (taken d a.bytes) = set_at w.replicas k (taken d a.bytes) (there w.replicas k d here) in
+        let at : replica_at v k ≡ Some (taken d a.bytes) = set_at w.replicas k (taken d a.bytes) (there w.replicas k d here) in
         let numbers : number v (take k j) ≡ (take_of (taken d a.bytes).held (taken d a.bytes).words b.bytes).number =
         ap₂ (λ (x : Option Replica) (y : Option Posted). on_some x 0 (λ r. on_some y 0 (λ s. (take_of r.held r.words s.bytes).number))) at q in
         subst (λ (z : ℕ). (z ≡ 0) ⊎ (z ≡ 17)) numbers
         (subst (λ (u : World). (number u (take k j) ≡ 0) ⊎ (number u (take k j) ≡ 17)) moved
-        ((always n ws start f (cs ++ (take k i ∷ []))).takes-other k j b (subst (λ (u : World). message_at u j ≡ some b) (sym moved) q) (λ z. other (means-sender b.bytes ∙ z))))
+        ((always n ws start f (cs ++ (take k i ∷ []))).takes-other k j b (subst (λ (u : World). message_at u j ≡ Some b) (sym moved) q) (λ z. other (means-sender b.bytes ∙ z))))
 
     swapped : Swapped k d a.bytes b.bytes
     swapped = record {

@@ -8,7 +8,7 @@
 -- entries included, and the tails of the ballots. Take and elect are those that the contracts of `taking` and `frame` cite; `taken` and `elected` are
 -- what they leave (agreement/specs/World). Assumes nothing.
 use Rattle.std.specs.Prelude.{◌≡◌, List, ◌⊎◌, ℕ, set}
-use Rattle.std.proofs.Math.Option.{some}
+use Rattle.std.specs.Prelude.{Some}
 use Rattle.protocol.specs.Beginning.{◌⊑◌, ◌⊏◌}
 use Rattle.protocol.specs.Office.{tail, path}
 use Rattle.ballots.specs.Ballots.{no_ballot}
@@ -63,4 +63,4 @@ pub record Swapped (k : ℕ) (d : Replica) (a b : List ℕ) : Type 0 where
 
 -- "For offices and messages of the world of document 01": any of its offices, and any two messages sent by then
 abbrev pub EitherOrder : World → Type 0
-EitherOrder w = (k i j : ℕ) (d : Replica) (a b : Posted) → replica_at w k ≡ some d → message_at w i ≡ some a → message_at w j ≡ some b → Swapped k d a.bytes b.bytes
+EitherOrder w = (k i j : ℕ) (d : Replica) (a b : Posted) → replica_at w k ≡ Some d → message_at w i ≡ Some a → message_at w j ≡ Some b → Swapped k d a.bytes b.bytes

@@ -1,73 +1,55 @@
 -- The walks over the rows and the votes.
---     in-next, in-stop, in-done          whether an entry has a row
+--     any-in                             whether an entry has a row
 --     vote-none, vote-again, vote-new    what one vote does to the rows
 --     SoFar, rows_none, rows_few, rows_next, rows-done      the rows of the first i votes, and what is left of the others
 --     mark-at, marks-length              the marks, one for each office
+--     mark-is                            the mark that the code makes
 --     marks-next, marks-done             which offices are silent, written into eight cells
 -- Assumes nothing.
 use mathlib.Core.Path.{◌≡◌, refl, sym, ap, ap₂, subst, ◌∙◌}
 use mathlib.Core.List.{List, [], ◌∷◌, ◌++◌, map, append_assoc, append-nil}
-use mathlib.Core.Option.{Option, none, some}
-use mathlib.Core.Bool.{Bool, true, false, cond, ◌||◌}
+use Rattle.std.specs.Prelude.{Option, None, Some}
+use mathlib.Core.Bool.{Bool, true, false, true≢false, cond, not, ◌||◌}
 use Prim.Native.Nat.{ℕ, zero, suc, ◌+◌, ◌-◌, ◌<◌, ◌≤◌}
 use native.Mathlib.Nat.{not-suc-le-zero, le_of_suc-le-suc}
 use native.Mathlib.Omega.{arith}
 use lib.Dec.{eqb}
 use lib.ListN.{length, get_or, take, drop, set, replicate, length-map, length-append, length-replicate, drop_of_length-le}
-use lib.Seq.{length-take-le, get_or-take, take_all, set_at, take_at}
-use borrow.Author.Tests.{eqb-true, eqb-false, eq-eqb, ne_eqb}
+use lib.Seq.{take_all, set_at, take_at}
+use borrow.Author.Tests.{eqb-true}
 use Rattle.lists.proofs.Tests.{if-cases, pick_true, pick-false}
-use Rattle.lists.proofs.Walk.{rest-step}
+use Rattle.std.specs.List.{list_any}
+use Rattle.std.specs.Option.{is_some}
+use mir.Val.{bool_byte}
 use Rattle.lists.proofs.Fill.{filled, front-step}
 use Rattle.protocol.specs.Vote.{Votes, later, is_none, tally, and-also, supported}
-use Rattle.tallies.specs.Tallies.{no_vote, vote_in, votes_in, weight_for}
-use Rattle.tallies.proofs.Walks.{votes_from, at-vote, none-word, weight-entry, supported-step}
+use Rattle.tallies.specs.Tallies.{votes_in, weight_for}
+use Rattle.tallies.proofs.Walks.{supported-step}
 use Rattle.lists.specs.Padded.{in_eight}
 use Rattle.bounds.proofs.Walks.{zeros-left}
 use Rattle.rows.specs.Rows.{without, distinct, row_entries, rows_for, rows_of, marks, is_in, with_row, with_vote}
 use Rattle.rows.specs.declared.Rows.{Rows}
 
--- ── whether e is one of the first k entries ──
-module _ (e k : ℕ) (xs : List ℕ) (eight : length xs ≡ 8) (few : k ≤ 8) (whole : Bool) (i : ℕ) (inv : whole ≡ is_in e (drop i (take k xs))) where
-  in_step : i < k → whole ≡ (eqb (get_or xs i 0) e || is_in e (drop (i + 1) (take k xs)))
-  unfolding is_in
-  in_step h =
-      inv ∙ ap (is_in e) (rest-step 0 (take k xs) i (omega (arith, length-take-le k xs (omega arith)))) ∙
-      ap (λ (x : ℕ). eqb x e || is_in e (drop (i + 1) (take k xs))) (get_or-take k xs i 0 h)
-
-  pub in-next : i < k → (get_or xs i 0 ≡ e → ⊥) → whole ≡ is_in e (drop (i + 1) (take k xs))
-  in-next h n = in_step h ∙ rw (ne_eqb (get_or xs i 0) e n)
-
-  pub in-stop : i < k → get_or xs i 0 ≡ e → true ≡ whole
-  in-stop h q = sym (in_step h ∙ rw (eq-eqb (get_or xs i 0) e q))
-
-  pub in-done : k ≤ i → false ≡ whole
-  unfolding is_in
-  in-done h =
-      let l : length (take k xs) ≤ i = omega (arith, length-take-le k xs (omega arith)) in
-      sym (inv ∙ ap (is_in e) (drop_of_length-le (take k xs) l))
-
 -- ── one vote ──
-module _ (r : Rows) (x t : ℕ) where
-  pub vote-none : x ≡ no_vote → r ≡ with_vote t (vote_in x) r
+pub any-in : (e : ℕ) (xs : List ℕ) → list_any (λ (x : ℕ). eqb x e) xs ≡ is_in e xs
+unfolding is_in
+any-in e [] = refl
+any-in e (x ∷ xs) = ap (λ (b : Bool). eqb x e || b) (any-in e xs)
+
+module _ (r : Rows) (weigh : Option ℕ → ℕ) (x : Option ℕ) where
+  pub vote-none : x ≡ None → r ≡ with_vote (weigh x) x r
   unfolding with_vote
-  vote-none h = rw (eq-eqb x no_vote h)
+  vote-none h = rw h refl
 
-  is-vote : (x ≡ no_vote → ⊥) → vote_in x ≡ some x
-  is-vote h = rw (ne_eqb x no_vote h)
-
-  module _ (h : x ≡ no_vote → ⊥) (b : Bool) (q : b ≡ is_in x (take r.count r.entries)) where
-    pub vote-again : b ≡ true → r ≡ with_vote t (vote_in x) r
+  module _ (e : ℕ) (h : x ≡ Some e) (b : Bool) (q : b ≡ is_in e (take r.count r.entries)) where
+    pub vote-again : b ≡ true → r ≡ with_vote (weigh x) x r
     unfolding with_vote
-    vote-again p =
-        sym (ap (λ (y : Option ℕ). with_vote t y r) (is-vote h) ∙ pick_true (is_in x (take r.count r.entries)) r _ (sym q ∙ p))
+    vote-again p = rw h (sym (pick_true (is_in e (take r.count r.entries)) r _ (sym q ∙ p)))
 
-    pub vote-new : b ≡ false → (w : ℕ) → w ≡ t
-        → with_row w x r ≡ with_vote t (vote_in x) r
+    pub vote-new : b ≡ false → (w : ℕ) → w ≡ weigh (Some e) → with_row w e r ≡ with_vote (weigh x) x r
     unfolding with_vote
-    vote-new p w e =
-        ap (λ (y : ℕ). with_row y x r) e ∙
-        sym (ap (λ (y : Option ℕ). with_vote t y r) (is-vote h) ∙ pick-false (is_in x (take r.count r.entries)) r _ (sym q ∙ p))
+    vote-new p w s =
+        rw h (ap (λ (y : ℕ). with_row y e r) s ∙ sym (pick-false (is_in e (take r.count r.entries)) r _ (sym q ∙ p)))
 
 -- ── the entries that stand not among some others ──
 pub lacking : List ℕ → List ℕ → List ℕ
@@ -129,35 +111,32 @@ map-behind f [] x = refl
 map-behind f (d ∷ ds) x = ap (λ (l : List ℕ). f d ∷ l) (map-behind f ds x)
 
 -- ── the rows of the first i votes ──
-pub record SoFar (ws xs : List ℕ) (r : Rows) (i : ℕ) : Type 0 where
+pub record SoFar (ws : List ℕ) (xs : List (Option ℕ)) (r : Rows) (i : ℕ) : Type 0 where
   pub ds : List ℕ
   pub few : length ds ≤ i
   pub laid : r ≡ rows_for ws (votes_in xs) ds
-  pub all : row_entries ws (votes_in xs) ≡ ds ++ lacking ds (distinct (supported (drop i ws) (votes_from i xs)))
+  pub all : row_entries ws (votes_in xs) ≡ ds ++ lacking ds (distinct (supported (drop i ws) (votes_in (drop i xs))))
 
 lacking-none : (l : List ℕ) → lacking [] l ≡ l
 unfolding lacking is_in
 lacking-none [] = refl
 lacking-none (y ∷ l) = ap (λ (r : List ℕ). y ∷ r) (lacking-none l)
 
-module _ (ws xs : List ℕ) where
+module _ (ws : List ℕ) (xs : List (Option ℕ)) where
   pub rows_none : SoFar ws xs (record { count = 0; entries = replicate 8 0; tallies = replicate 8 0 }) 0
   unfolding row_entries
   rows_none = record { ds = []; few = omega arith; laid = refl; all = sym (lacking-none (distinct (supported ws (votes_in xs)))) }
 
   module _ (r : Rows) (i : ℕ) (S : SoFar ws xs r i) where
     abbrev rest : List ℕ
-    rest = supported (drop (i + 1) ws) (votes_from (i + 1) xs)
+    rest = supported (drop (i + 1) ws) (votes_in (drop (i + 1) xs))
 
     -- what there is, by a vote and what is behind it
     abbrev Left : Option ℕ → Type 0
     Left x = row_entries ws (votes_in xs) ≡ S.ds ++ lacking S.ds (distinct (and-also x rest))
 
-    left : i < length xs → i < length ws → Left (vote_in (get_or xs i 0))
-    left hx hw =
-        let read : supported (drop i ws) (votes_from i xs) ≡ and-also (vote_in (get_or xs i 0)) rest =
-        supported-step xs ws i hx hw ∙ ap (λ (y : ℕ). and-also (vote_in y) rest) (sym (at-vote xs i hx)) in
-        S.all ∙ ap (λ (l : List ℕ). S.ds ++ lacking S.ds (distinct l)) read
+    left : i < length xs → i < length ws → Left (get_or xs i None)
+    left hx hw = S.all ∙ ap (λ (l : List ℕ). S.ds ++ lacking S.ds (distinct l)) (supported-step xs ws i hx hw)
 
     pub rows_few : r.count ≤ i
     rows_few = let f = S.few in omega (arith, ap (λ (x : Rows). x.count) S.laid)
@@ -166,7 +145,7 @@ module _ (ws xs : List ℕ) where
     rows-have : take r.count r.entries ≡ S.ds
     rows-have = ap (λ (x : Rows). take x.count x.entries) S.laid ∙ take_at S.ds (replicate (8 - length S.ds) 0) (length S.ds) refl
 
-    again : (x : ℕ) → is_in x S.ds ≡ true → Left (some x) → (next : Rows) → next ≡ r → SoFar ws xs next (i + 1)
+    again : (x : ℕ) → is_in x S.ds ≡ true → Left (Some x) → (next : Rows) → next ≡ r → SoFar ws xs next (i + 1)
     unfolding lacking distinct
     again x h all next q = record {
       ds = S.ds;
@@ -175,7 +154,7 @@ module _ (ws xs : List ℕ) where
       all = all ∙ ap (λ (l : List ℕ). S.ds ++ l) (simp h (lacking-has S.ds x (distinct rest) h));
     }
 
-    new : (x : ℕ) → is_in x S.ds ≡ false → Left (some x) → i < 8 → (next : Rows) → next ≡ with_row (tally ws (votes_in xs) x) x r → SoFar ws xs next (i + 1)
+    new : (x : ℕ) → is_in x S.ds ≡ false → Left (Some x) → i < 8 → (next : Rows) → next ≡ with_row (tally ws (votes_in xs) x) x r → SoFar ws xs next (i + 1)
     unfolding lacking distinct
     new x h all few next q = record {
       ds = S.ds ++ (x ∷ []);
@@ -202,26 +181,24 @@ module _ (ws xs : List ℕ) where
         }
 
     pub rows_next : length xs ≡ 8 → length ws ≡ 8 → i < 8 → (next : Rows)
-        → next ≡ with_vote (weight_for ws (votes_in xs) (get_or xs i 0)) (vote_in (get_or xs i 0)) r → SoFar ws xs next (i + 1)
+        → next ≡ with_vote (weight_for ws (votes_in xs) (get_or xs i None)) (get_or xs i None) r → SoFar ws xs next (i + 1)
     unfolding with_vote
-    rows_next hx hw few next q = go (get_or xs i 0) (eqb (get_or xs i 0) no_vote) refl (left (omega arith) (omega arith)) q
+    rows_next hx hw few next q = go (get_or xs i None) (left (omega arith) (omega arith)) q
       where
-        entry : (x : ℕ) (b : Bool) → is_in x S.ds ≡ b → (x ≡ no_vote → ⊥) → Left (some x)
-            → next ≡ with_vote (weight_for ws (votes_in xs) x) (some x) r → SoFar ws xs next (i + 1)
-        entry x true d n all q = again x d all next (q ∙ pick_true _ _ _ (ap (is_in x) rows-have ∙ d))
-        entry x false d n all q = new x d all few next (q ∙ pick-false _ _ _ (ap (is_in x) rows-have ∙ d) ∙
-            ap (λ (y : ℕ). with_row y x r) (weight-entry ws (votes_in xs) x n))
+        entry : (x : ℕ) (b : Bool) → is_in x S.ds ≡ b → Left (Some x)
+            → next ≡ with_vote (tally ws (votes_in xs) x) (Some x) r → SoFar ws xs next (i + 1)
+        entry x true d all q = again x d all next (q ∙ pick_true _ _ _ (ap (is_in x) rows-have ∙ d))
+        entry x false d all q = new x d all few next (q ∙ pick-false _ _ _ (ap (is_in x) rows-have ∙ d))
 
-        go : (x : ℕ) (b : Bool) → eqb x no_vote ≡ b → Left (cond b none (some x))
-            → next ≡ with_vote (weight_for ws (votes_in xs) x) (cond b none (some x)) r → SoFar ws xs next (i + 1)
-        go x true d all q = record { ds = S.ds; few = let f = S.few in omega arith; laid = q ∙ S.laid; all = all }
-        go x false d all q = entry x (is_in x S.ds) refl (eqb-false x no_vote d) all q
+        go : (x : Option ℕ) → Left x → next ≡ with_vote (weight_for ws (votes_in xs) x) x r → SoFar ws xs next (i + 1)
+        go None all q = record { ds = S.ds; few = let f = S.few in omega arith; laid = q ∙ S.laid; all = all }
+        go (Some x) all q = entry x (is_in x S.ds) refl all q
 
     pub rows-done : length ws ≤ i → r ≡ rows_of ws (votes_in xs)
     unfolding rows_of lacking distinct supported
     rows-done h =
         S.laid ∙ ap (rows_for ws (votes_in xs))
-        (sym (S.all ∙ ap (λ (l : List ℕ). S.ds ++ lacking S.ds (distinct (supported l (votes_from i xs)))) (drop_of_length-le ws h) ∙ append-nil S.ds))
+        (sym (S.all ∙ ap (λ (l : List ℕ). S.ds ++ lacking S.ds (distinct (supported l (votes_in (drop i xs))))) (drop_of_length-le ws h) ∙ append-nil S.ds))
 
 -- ── which offices are silent ──
 pub marks-length : (n : ℕ) (v : Votes) → length (marks n v) ≡ n
@@ -235,16 +212,19 @@ mark-at zero v k h = absurd (not-suc-le-zero h)
 mark-at (suc n) v zero h = refl
 mark-at (suc n) v (suc k) h = mark-at n (later v) k (le_of_suc-le-suc h)
 
-module _ (n : ℕ) (few : n ≤ 8) (xs : List ℕ) (eight : length xs ≡ 8) (cs : List ℕ) (i : ℕ)
+pub mark-is : (x : Option ℕ) (b : Bool) → is_some x ≡ not b → bool_byte b ≡ cond (is_none x) 1 0
+mark-is None true h = refl
+mark-is None false h = absurd (true≢false (sym h))
+mark-is (Some e) true h = absurd (true≢false h)
+mark-is (Some e) false h = refl
+
+module _ (n : ℕ) (xs : List (Option ℕ)) (cs : List ℕ) (i : ℕ)
     (inv : cs ≡ filled (marks n (votes_in xs)) (replicate 8 0) i) where
-  pub marks-next : i < n → (t : Bool) → t ≡ eqb (get_or xs i 0) no_vote → (x : ℕ) → x ≡ cond t 1 0
+  pub marks-next : n ≤ 8 → i < n → (x : ℕ) → x ≡ cond (is_none (get_or xs i None)) 1 0
       → set cs i x ≡ filled (marks n (votes_in xs)) (replicate 8 0) (i + 1)
-  marks-next h t q x p =
-      ap₂ (λ (l : List ℕ) (y : ℕ). set l i y) inv (p ∙ ap (λ (b : Bool). cond b 1 0) silent ∙ sym (mark-at n (votes_in xs) i h)) ∙
+  marks-next few h x p =
+      ap₂ (λ (l : List ℕ) (y : ℕ). set l i y) inv (p ∙ sym (mark-at n (votes_in xs) i h)) ∙
       front-step 0 (marks n (votes_in xs)) (replicate 8 0) i (omega (arith, marks-length n (votes_in xs))) (omega (arith, length-replicate {A = ℕ} 8 0))
-    where
-      silent : t ≡ is_none (votes_in xs i)
-      silent = q ∙ ap (λ (y : ℕ). eqb y no_vote) (at-vote xs i (omega arith)) ∙ sym (none-word (get_or xs i no_vote))
 
   pub marks-done : i ≡ n → cs ≡ in_eight (marks n (votes_in xs))
   marks-done h =

@@ -1,6 +1,6 @@
 -- How the next place stands, by eight votes: "for each supported entry its T, and U, and which offices are unheard". Assumes nothing.
 use Rattle.std.specs.Prelude.{List, [], ◌∷◌, map, Bool, false, ◌||◌, cond, ℕ, zero, suc, ◌+◌, eqb, length, take, set}
-use Rattle.std.proofs.Math.Option.{Option, none, some}
+use Rattle.std.specs.Prelude.{Option, None, Some}
 use Rattle.lists.specs.Tests.{pick}
 use Rattle.protocol.specs.Vote.{Votes, later, is_none, tally, supported}
 use Rattle.lists.specs.Padded.{in_eight}
@@ -45,5 +45,5 @@ with_row t e r = record { count = r.count + 1; entries = set r.entries r.count e
 
 -- with one for what is voted for, if that is an entry that has none
 unfoldable pub with_vote : ℕ → Option ℕ → Rows → Rows
-with_vote t none r = r
-with_vote t (some e) r = pick (is_in e (take r.count r.entries)) r (with_row t e r)
+with_vote t None r = r
+with_vote t (Some e) r = pick (is_in e (take r.count r.entries)) r (with_row t e r)

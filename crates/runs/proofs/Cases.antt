@@ -2,7 +2,7 @@
 -- (xiv) The same where codes of lines 5, 7 and 9 are kept of entries before it. Assumes nothing.
 use mathlib.Core.Path.{◌≡◌, refl}
 use mathlib.Core.List.{List, [], ◌∷◌}
-use mathlib.Core.Option.{none, some}
+use Rattle.std.specs.Prelude.{None, Some}
 use Prim.Native.Nat.{ℕ}
 use lib.ListN.{set, take}
 use Rattle.lists.specs.Tests.{both, pick, all_b}
@@ -48,8 +48,8 @@ behind-kept = ((refl, refl), (refl, refl), (refl, refl))
 
 -- the walk, word by word
 pub walked :
-    (walk_back (5 ∷ 6 ∷ 5 ∷ []) first ≡ record { frame = some 140 ∷ some 0 ∷ some 140 ∷ []; words = 3 }) ×
-    (walk_back (5 ∷ 7 ∷ []) first ≡ record { frame = some 140 ∷ none ∷ []; words = 4 }) ×
+    (walk_back (5 ∷ 6 ∷ 5 ∷ []) first ≡ record { frame = Some 140 ∷ Some 0 ∷ Some 140 ∷ []; words = 3 }) ×
+    (walk_back (5 ∷ 7 ∷ []) first ≡ record { frame = Some 140 ∷ None ∷ []; words = 4 }) ×
     (walk_back [] first ≡ record { frame = []; words = 0 })
 unfolding walk pick both all_b
 walked = (refl, refl, refl)

@@ -1,6 +1,6 @@
 -- "The log is walked once, backward from p": word by word, until each line named has its edit. Assumes nothing.
 use Rattle.std.specs.Prelude.{List, [], ◌∷◌, map, Bool, not, ℕ, zero, suc, ◌+◌, length, get_or}
-use Rattle.std.proofs.Math.Option.{Option, none}
+use Rattle.std.specs.Prelude.{Option, None}
 use Rattle.lists.specs.Tests.{pick, all_b}
 use Rattle.protocol.specs.Vote.{is_none}
 use Rattle.protocol.specs.Frames.{or_else, edit_by}
@@ -34,4 +34,4 @@ walk (suc i) lines entries os = pick (answered os) (record { frame = os; words =
 
 -- back from the end of the entries; (xiv) "its walk stops at" the dropped part, which is before the first of them
 abbrev pub walk_back : List ℕ → List ℕ → FrameRead
-walk_back lines entries = walk (length entries) lines entries (map (λ (line : ℕ). none) lines)
+walk_back lines entries = walk (length entries) lines entries (map (λ (line : ℕ). None) lines)

@@ -7,6 +7,10 @@ use Rattle.frame.specs.Soundness.{sound_b}
 use Rattle.frame.specs.declared.Record.{Record}
 use Rattle.sending.specs.declared.Sent.{Sent}
 
+-- nothing is sent, and the call has this number
+abbrev pub no_message : ℕ → Sent
+no_message number = record { number = number; length = 0 }
+
 -- 1: "record unsound, or log below 1024 words"; 6: "output shorter than the message"
 unfoldable pub send_number : Record → List ℕ → List ℕ → ℕ
 send_number r words out = pick (sound_b r words) (pick (ltb (length out) (length (message_of r words))) 6 0) 1

@@ -1,9 +1,7 @@
-// The last edit of each of the 64 lines, as it is stored: after the entries of a log, and compared.
+// The last edit of each of the 64 lines, as it is stored: after the entries of a log.
 #![tactic(auto)]
 
-ghost use Rattle.std.specs.Prelude.{◌≡◌, ◌++◌, replicate, take};
-ghost use Rattle.std.proofs.Math.Option.{some};
-ghost use Rattle.lists.specs.Tests.{same};
+ghost use Rattle.std.specs.Prelude.{◌≡◌, ◌++◌, Some, replicate, take};
 ghost use Rattle.protocol.specs.Entry.{code_of};
 ghost use Rattle.protocol.specs.Codes.{cell, codes_after};
 
@@ -11,7 +9,7 @@ use words::line_of;
 
 // What is stored for the entry's line: its code + 1, since 0 is no edit yet.
 pub fn cell_of(word: u32) -> u32
-    ensures { result ≡ cell (some (code_of word)) }
+    ensures { result ≡ cell (Some (code_of word)) }
 {
     word % 65536 + 1
 }
@@ -21,9 +19,7 @@ fn widened(codes: [u32; 64]) -> [u32; 256]
     ensures { result ≡ codes ++ replicate 192 0 }
 {
     let mut wide: [u32; 256] = [0; 256];
-    for i in 0..64 {
-        wide[i] = codes[i];
-    }
+    wide[..64].copy_from_slice(&codes);
     wide
 }
 
@@ -31,9 +27,7 @@ fn narrowed(wide: [u32; 256]) -> [u32; 64]
     ensures { result ≡ take 64 wide }
 {
     let mut codes: [u32; 64] = [0; 64];
-    for i in 0..64 {
-        codes[i] = wide[i];
-    }
+    codes.copy_from_slice(&wide[..64]);
     codes
 }
 
@@ -41,24 +35,12 @@ fn narrowed(wide: [u32; 256]) -> [u32; 64]
 pub fn codes_after(codes: [u32; 64], words: &[u32]) -> [u32; 64]
     ensures { result ≡ codes_after codes words.now }
 {
-    if words.len() == 0 {
+    if words.is_empty() {
         return codes;
     }
     let mut wide = widened(codes);
-    for i in 0..words.len() {
-        let word = words[i];
-        wide[line_of(word)] = cell_of(word);
+    for word in words {
+        wide[line_of(*word)] = cell_of(*word);
     }
     narrowed(wide)
-}
-
-// Whether the codes of the 64 lines are the same. Every line is looked at, so that the walk runs on vectors.
-pub fn same_codes(codes: [u32; 64], others: [u32; 64]) -> bool
-    ensures { result ≡ same codes others }
-{
-    let mut good = true;
-    for i in 0..64 {
-        good = good & (codes[i] == others[i]);
-    }
-    good
 }

@@ -1,13 +1,13 @@
 -- The walk from the last of k places back to the first: the places passed are the same in both lists.
 --     walk_first, walk-next, walk-met, walk-done      its start, one place more, a difference, its end
 --     record-at                                       the value of a message's log record at its own position
---     below_alike, compared_at                        lists that agree below a place compare alike there; so does a log with its settled part
+--     below_alike, compared-whole, compared_at        lists that agree below a place compare alike there; so does a log with itself, and with its
+--                                                     settled part
 -- Assumes nothing.
 use mathlib.Core.Path.{◌≡◌, refl, sym, ap, ap₂, ◌∙◌}
 use mathlib.Core.List.{List}
 use mathlib.Core.Bool.{true, false}
 use Prim.Native.Nat.{ℕ, zero, suc, ◌+◌, ◌-◌, ◌*◌, ◌<◌, ◌≤◌, min}
-use native.Mathlib.Nat.{sub-zero}
 use native.Mathlib.Omega.{arith}
 use lib.ListN.{length, get_or, take, drop}
 use lib.Seq.{get_or-take, length-take-le}
@@ -21,40 +21,32 @@ use Rattle.shared_places.specs.FromEnd.{same_at, differ_below, places_below, com
 use Rattle.shared_places.specs.declared.Compared.{Compared}
 
 -- ── the walk ──
--- the last i of k places are the same
+-- of k places those from j on are the same
 abbrev pub Walked : ℕ → List ℕ → List ℕ → ℕ → Type 0
-Walked k a b i = (differ_below k a b ≡ differ_below (k - i) a b) × (places_below k a b ≡ i + places_below (k - i) a b)
+Walked k a b j = (differ_below k a b ≡ differ_below j a b) × (places_below k a b ≡ k - j + places_below j a b)
 
-pub walk_first : (k : ℕ) (a b : List ℕ) → Walked k a b 0
-walk_first k a b = rw sub-zero (refl, omega arith)
+pub walk_first : (k : ℕ) (a b : List ℕ) → Walked k a b k
+walk_first k a b = (refl, omega arith)
 
-module _ (k : ℕ) (a b : List ℕ) (i : ℕ) (inv : Walked k a b i) where
-  module _ (h : i < k) where
-    here : k - i ≡ suc (k - 1 - i)
-    here = omega arith
-
-    pub walk-next : get_or a (k - 1 - i) 0 ≡ get_or b (k - 1 - i) 0 → Walked k a b (i + 1)
+module _ (k : ℕ) (a b : List ℕ) where
+  module _ (j : ℕ) (h : j < k) (inv : Walked k a b (suc j)) where
+    pub walk-next : get_or a j 0 ≡ get_or b j 0 → Walked k a b j
     unfolding differ_below places_below pick
     walk-next e =
-        let s = eq-eqb (get_or a (k - 1 - i) 0) (get_or b (k - 1 - i) 0) e in
-        let left : k - (i + 1) ≡ k - 1 - i = omega arith in
-        rw left (inv.0 ∙ rw (here, s), inv.1 ∙ rw (here, s) (omega arith))
+        let s = eq-eqb (get_or a j 0) (get_or b j 0) e in
+        (inv.0 ∙ rw s, inv.1 ∙ rw s (omega arith))
 
-    pub walk-met : (get_or a (k - 1 - i) 0 ≡ get_or b (k - 1 - i) 0 → ⊥) → ◌≡◌ {A = Compared} (record { differ = true; places = i + 1 }) (compared_below k a b)
+    pub walk-met : (get_or a j 0 ≡ get_or b j 0 → ⊥) → ◌≡◌ {A = Compared} (record { differ = true; places = k - j }) (compared_below k a b)
     unfolding differ_below places_below pick
     walk-met e =
-        let s = ne_eqb (get_or a (k - 1 - i) 0) (get_or b (k - 1 - i) 0) e in
-        let met : differ_below k a b ≡ true = inv.0 ∙ rw (here, s) in
-        let count : places_below k a b ≡ i + 1 = inv.1 ∙ rw (here, s) in
-        λ j. record { differ = sym met j; places = sym count j }
+        let s = ne_eqb (get_or a j 0) (get_or b j 0) e in
+        let met : differ_below k a b ≡ true = inv.0 ∙ rw s in
+        let count : places_below k a b ≡ k - j = inv.1 ∙ rw s (omega arith) in
+        λ t. record { differ = sym met t; places = sym count t }
 
-  pub walk-done : k ≤ i → i ≤ k → ◌≡◌ {A = Compared} (record { differ = false; places = k }) (compared_below k a b)
+  pub walk-done : Walked k a b 0 → ◌≡◌ {A = Compared} (record { differ = false; places = k }) (compared_below k a b)
   unfolding differ_below places_below
-  walk-done h l =
-      let none : k - i ≡ 0 = omega arith in
-      let met : differ_below k a b ≡ false = inv.0 ∙ rw none in
-      let count : places_below k a b ≡ k = inv.1 ∙ rw none (omega arith) in
-      λ j. record { differ = sym met j; places = sym count j }
+  walk-done inv = let count : places_below k a b ≡ k = inv.1 ∙ omega arith in λ t. record { differ = sym inv.0 t; places = sym count t }
 
 -- ── the places ──
 pub record-at : (k j : ℕ) (rest : List ℕ) → j < k → get_or (run_at 6 record_at k rest) j 0 ≡ record_at (drop (6 * j) rest)
@@ -72,7 +64,14 @@ below_alike (suc i) a b c d p q =
     let s : same_at i a b ≡ same_at i c d = ap₂ (λ (x y : ℕ). eqb x y) (p i (omega arith)) (q i (omega arith)) in
     λ t. record { differ = pick (s t) (more t).differ true; places = suc (pick (s t) (more t).places 0) }
 
--- the shorter log has i places, and those of the settled log are the log's words
+-- the shorter log has i places
+pub compared-whole : (log rest : List ℕ) (k i : ℕ) → i ≡ min (length log) k → compared_below i log (run_at 6 record_at i rest) ≡ compared_of log (run_at 6 record_at k rest)
+compared-whole log rest k i e =
+    let theirs : length (run_at 6 record_at k rest) ≡ k = run_at-length 6 record_at k rest in
+    below_alike i log (run_at 6 record_at i rest) log (run_at 6 record_at k rest) (λ j l. refl) (λ j l. record-at i j rest l ∙ sym (record-at k j rest (omega arith)))
+    ∙ ap (λ (n : ℕ). compared_below n log (run_at 6 record_at k rest)) (e ∙ ap (min (length log)) (sym theirs))
+
+-- the same of the settled part of a log: its places are the log's words
 pub compared_at : (log rest : List ℕ) (settled k i : ℕ) → settled ≤ length log → i ≡ min settled k
     → compared_below i log (run_at 6 record_at i rest) ≡ compared_of (take settled log) (run_at 6 record_at k rest)
 compared_at log rest settled k i h e =

@@ -1,6 +1,7 @@
 -- How the sheet is made: refused with 1 or 12, or done.
 --     sound-of, unsound-of                     `all_lines` is done exactly on a sound record
 --     sheet-unsound, sheet-no-households       refused
+--     no-sums, some-sums                       there are sums exactly where the bytes are households
 --     lines_fit, lines-sheet                   the lines' totals fit, and pooled by their codes they are the sheet
 --     sheet-made                               done
 -- Assumes nothing.
@@ -11,10 +12,11 @@ use Prim.Native.Nat.{ℕ}
 use native.Mathlib.Omega.{arith}
 use lib.ListN.{length}
 use Rattle.lists.specs.Tests.{pick}
-use Rattle.lists.proofs.Tests.{pick-cases}
+use Rattle.std.specs.Prelude.{Some, None}
+use Rattle.std.proofs.lemmas.Option.{none-some, same_Some}
 use Rattle.numbers.specs.Numbers.{Bytes}
 use Rattle.households.specs.Households.{are_households, households_in, weights_read}
-use Rattle.households.specs.Pools.{pools_of}
+use Rattle.households.specs.Pools.{met_after, totals_after, none_met, no_totals, pools_of}
 use Rattle.households.specs.declared.Pools.{Pools}
 use Rattle.households.proofs.Limits.{lines-below, weights-below}
 use Rattle.tabulation.specs.Rows.{pooled, total_of, line_rows}
@@ -72,20 +74,39 @@ module _ (r : Record) (words : List ℕ) where
 
 -- ── the sums by line ──
 module _ (s : List ℕ) where
-  pub pools-ok : (pools_of s).ok ≡ are_households s
-  unfolding pools_of
-  pools-ok = pick-cases (λ (p : Pools). p.ok ≡ are_households s) (are_households s) _ _ (λ e. sym e) (λ e. sym e)
+  abbrev pools : Pools
+  pools = record { met = met_after none_met (households_in s); totals = totals_after no_totals (households_in s) }
 
-  module _ (codes : List ℕ) (long : length codes ≡ 64) (are : are_households s ≡ true) where
+  -- there are sums exactly where the bytes are households
+  pub no-sums : None ≡ pools_of s → are_households s ≡ false
+  unfolding pools_of pick
+  no-sums e = go (are_households s) refl e
+    where
+      go : (b : Bool) → are_households s ≡ b → None ≡ pick b (Some pools) None → b ≡ false
+      go true q n = absurd (none-some _ n)
+      go false q n = refl
+
+  pub record Summed (p : Pools) : Type 0 where
+    pub are : are_households s ≡ true
+    pub sums : p ≡ pools
+
+  pub some-sums : {p : Pools} → Some p ≡ pools_of s → Summed p
+  unfolding pools_of pick
+  some-sums {p} e = go (are_households s) refl e
+    where
+      go : (b : Bool) → are_households s ≡ b → Some p ≡ pick b (Some pools) None → Summed p
+      go true q n = record { are = q; sums = same_Some _ _ n }
+      go false q n = absurd (none-some _ (sym n))
+
+  module _ (codes : List ℕ) (long : length codes ≡ 64) {p : Pools} (summed : Summed p) where
     abbrev lines : List Row
-    lines = line_rows codes (pools_of s).met (pools_of s).totals
+    lines = line_rows codes p.met p.totals
 
-    pub lines-sheet : pooled (line_rows codes (pools_of s).met (pools_of s).totals) ≡ sheet_by codes (households_in s)
-    unfolding pools_of pick
-    lines-sheet = rw are (by-line codes (households_in s) long (lines-below s are))
+    pub lines-sheet : pooled (line_rows codes p.met p.totals) ≡ sheet_by codes (households_in s)
+    lines-sheet = ap (λ (p : Pools). pooled (line_rows codes p.met p.totals)) summed.sums ∙ by-line codes (households_in s) long (lines-below s summed.are)
 
     lines-total : total_of lines ≡ weights_read (households_in s)
     lines-total = sym (pooled-total lines) ∙ ap total_of lines-sheet ∙ (sheet-is codes (households_in s)).adds-up
 
-    pub lines_fit : Bytes s → Fitting (line_rows codes (pools_of s).met (pools_of s).totals)
-    lines_fit b = omega (arith, lines-total, weights-below s b are)
+    pub lines_fit : Bytes s → Fitting (line_rows codes p.met p.totals)
+    lines_fit b = omega (arith, lines-total, weights-below s b summed.are)

@@ -8,7 +8,7 @@ use Rattle.tabulation.specs.Sheet.{IsSheet}
 use Rattle.shown_edits.specs.Shown.{stored_edit}
 use Rattle.both_frames.specs.Frames.{settled_frame_of}
 use Rattle.frame.specs.declared.Record.{Record}
-use Rattle.both_frames.specs.declared.Framed.{Framed}
+use Rattle.both_frames.specs.Framed.{Framed}
 use Rattle.sheet.specs.Sheet.{settled_codes, sheet_rows, sheet_of}
 
 pub record Claims (r : Record) (words s : List ℕ) : Type 0 where

@@ -3,12 +3,15 @@
 #![tactic(auto)]
 
 ghost use Rattle.std.specs.Prelude.{◌≡◌};
+ghost use Rattle.refusals.specs.Refusals.{number_of};
 ghost use Rattle.sheet.specs.Sheet.{no_sheet, sheet_of};
 
 use frame::Record;
-use tabulation::Row;
+use refusals::Refusal;
+use tabulation::{Row, Rows};
 
 // The first `count` rows have the classes met, rising, and their totals; those past them are zero. `number` is the paper's, 0 when it is done.
+// C has it as it lies here, so it holds the number and is no `Result`.
 #[repr(C)]
 #[derive(Clone, Copy)]
 pub struct Sheet {
@@ -18,14 +21,13 @@ pub struct Sheet {
 }
 
 // An empty sheet.
-fn refused(number: u32) -> Sheet
-    ensures { result ≡ no_sheet number }
+fn refused(why: Refusal) -> Sheet
+    ensures { result ≡ no_sheet (number_of why) }
 {
-    let none = tabulation::no_rows();
-    let rows = none.rows;
+    let Rows { count, rows } = tabulation::no_rows();
     Sheet {
-        number,
-        count: none.count,
+        number: why.number(),
+        count,
         rows,
     }
 }
@@ -35,22 +37,17 @@ pub fn household_sheet(office: Record, log: &[u32], bytes: &[u8]) -> Sheet
     ensures { result ≡ sheet_of office log.now bytes.now }
 {
     let lines = both_frames::all_lines(office, log);
+    // a number and no `Result`: the answer is one that crosses to C, and there 0 is done
     if lines.number != 0 {
-        return refused(1);
+        return refused(Refusal::Unsound);
     }
-    let pools = households::pool(bytes);
-    let ok = pools.ok;
-    if !ok {
-        return refused(12);
-    }
-    let codes = lines.codes;
-    let met = pools.met;
-    let totals = pools.totals;
-    let made = tabulation::tabulate(codes, met, totals);
-    let rows = made.rows;
+    let Some(pools) = households::pool(bytes) else {
+        return refused(Refusal::NoHouseholds);
+    };
+    let Rows { count, rows } = tabulation::tabulate(lines.codes, pools.met, pools.totals);
     Sheet {
         number: 0,
-        count: made.count,
+        count,
         rows,
     }
 }

@@ -21,13 +21,13 @@ fn limit_at(place: usize, n: usize, own: usize, settled: u64) -> u64
     settled
 }
 
-// Whether a record may have noted these lengths. Every place is looked at.
+// Whether a record may have noted these lengths. The walk has no early end, so no `all`.
 fn noted_fine(noted: [u64; 8], n: usize, own: usize, settled: u64) -> bool
     ensures { result ≡ noted_fine n own settled noted }
 {
     let mut good = true;
-    for i in 0..8 {
-        good = good & (noted[i] <= limit_at(i, n, own, settled));
+    for (place, length) in noted.iter().enumerate() {
+        good = good & (*length <= limit_at(place, n, own, settled));
     }
     good
 }
@@ -43,16 +43,11 @@ fn numbers_fine(
 ) -> bool
     ensures { result ≡ both (head_fine n own weights) (both (leb dropped settled) (noted_fine n own settled noted)) }
 {
-    if !limits::head_fine(n, own, weights) {
-        return false;
-    }
-    if dropped > settled {
-        return false;
-    }
-    noted_fine(noted, n, own, settled)
+    limits::head_fine(n, own, weights) && dropped <= settled && noted_fine(noted, n, own, settled)
 }
 
-// Whether a record of these fields is sound with its log.
+// Whether a record of these fields is sound with its log. The record itself is declared in a crate above, with its methods, and its fields lie as
+// C reads them: so they are handed over one by one.
 pub fn sound(
     n: usize,
     own: usize,
@@ -82,9 +77,8 @@ pub fn sound(
     if !entries::all_entries(&log[..held], n) {
         return false;
     }
-    let before = kept.summary;
-    let follows = before.after(&log[..held]);
-    if !summary.same(follows) {
+    let follows = kept.summary.after(&log[..held]);
+    if summary != follows {
         return false;
     }
     if !eight_ballots::fine(ballots, n, held) {

@@ -3,7 +3,7 @@
 use Prim.Native.Nat.{ℕ, ◌+◌, ◌-◌, ◌*◌, ◌≤◌}
 use mathlib.Core.Bool.{Bool, true, false}
 use mathlib.Core.List.{List, ◌∷◌, ◌++◌, append_assoc}
-use mathlib.Core.Option.{none, some}
+use Rattle.std.specs.Prelude.{None, Some}
 use mathlib.Core.Path.{◌≡◌, subst, refl, sym, ap, ◌∙◌}
 use native.Mathlib.Omega.{arith}
 use lib.ListN.{length, drop, length-drop}
@@ -126,7 +126,7 @@ module _ (m : Content) (v : Valid m) where
   msg-here = both_true _ _ head-here (rw (count-said, held-said, rest-said) records-here)
 
 -- reading the spelling of a valid content gives it back
-pub reading-spelling : (m : Content) → valid_content m ≡ true → reading (spelling m) ≡ some m
+pub reading-spelling : (m : Content) → valid_content m ≡ true → reading (spelling m) ≡ Some m
 unfolding reading pick both
 reading-spelling m h = let v = valid-facts m h in rw (msg-here m v, msg-said m v, h)
 
@@ -184,12 +184,12 @@ module _ (s : List ℕ) (b : Bytes s) (ok : layout_ok s ≡ true) where
       )
       (head-back s h)
 
-picked : (t : Bool) (x c : Content) → pick t (some x) none ≡ some c → (t ≡ true) × (x ≡ c)
+picked : (t : Bool) (x c : Content) → pick t (Some x) None ≡ Some c → (t ≡ true) × (x ≡ c)
 unfolding pick
 picked true x c e = (refl, cc)
 picked false x c e = let z : ◌≡◌ {A = ℕ} 0 1 = cc in absurd (omega arith)
 
-module _ (s : List ℕ) (c : Content) (e : reading s ≡ some c) where
+module _ (s : List ℕ) (c : Content) (e : reading s ≡ Some c) where
   both-tests : (both (layout_ok s) (valid_content (content_at s)) ≡ true) × (content_at s ≡ c)
   unfolding reading
   both-tests = picked _ (content_at s) c e
@@ -220,5 +220,5 @@ module _ (s : List ℕ) (c : Content) (e : reading s ≡ some c) where
       subst (λ (d : Content). head_size d.n + 6 * length d.log ≤ length s) reading-is.1 (omega (arith, held-read, length-drop (head_size (count_at s)) s))
 
 -- whatever is read is the spelling of a valid content: no other spelling is accepted
-pub spelling-reading : (s : List ℕ) (c : Content) → Bytes s → reading s ≡ some c → (spelling c ≡ s) × (valid_content c ≡ true)
+pub spelling-reading : (s : List ℕ) (c : Content) → Bytes s → reading s ≡ Some c → (spelling c ≡ s) × (valid_content c ≡ true)
 spelling-reading s c b e = (rw (reading-is s c e).1 at (layout-back s b (reading-is s c e).0), reading-valid s c e)

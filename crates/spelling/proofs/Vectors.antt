@@ -2,7 +2,7 @@
 -- nothing.
 use Prim.Native.Nat.{ℕ}
 use mathlib.Core.List.{List, [], ◌∷◌, ◌++◌}
-use mathlib.Core.Option.{none, some}
+use Rattle.std.specs.Prelude.{None, Some}
 use mathlib.Core.Path.{◌≡◌, refl}
 use Rattle.protocol.specs.Entry.{is_entry, proper}
 use Rattle.protocol.specs.Counts.{counts_after}
@@ -59,7 +59,7 @@ unfolding folded folded_bytes spelling head_bytes run bytes16 bytes32 bytes64 lo
 folded-written = refl
 
 -- both are read back; "a message with more dropped than settled is 7"
-pub read : (reading bytes ≡ some message) × (reading folded_bytes ≡ some folded) × (reading (head 1 (1 ∷ 2 ∷ []) (1 ∷ 3 ∷ []) ++ (69 ∷ 78 ∷ [])) ≡ none)
+pub read : (reading bytes ≡ Some message) × (reading folded_bytes ≡ Some folded) × (reading (head 1 (1 ∷ 2 ∷ []) (1 ∷ 3 ∷ []) ++ (69 ∷ 78 ∷ [])) ≡ None)
 unfolding message bytes folded folded_bytes reading pick both layout_ok content_at head_ok records_ok settled_at dropped_at rest_at be16 be32 be64 run run_at
     run_ok record_here record_at ballots_ok ballot_ok ballot_next tails_at tail_at size_at after_ballot end_ok valid_content is_office is_weight as_packet eight_tails
     folded_fine lengths_fine length_limit office_fine log_fine tails_fine tail_fine fair counts_after is_empty is_entry proper all_b

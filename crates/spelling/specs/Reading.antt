@@ -1,7 +1,7 @@
 -- The strict reading: whether bytes are of the layout (..Ok), and what they say (..At). Each definition speaks of the bytes from a
 -- position on. The layout's tests say nothing of the limits: `valid_content` does. Assumes nothing.
 use Rattle.std.specs.Prelude.{ℕ, zero, suc, ◌+◌, ◌-◌, ◌*◌, Bool, true, List, [], ◌∷◌, leb, eqb, length, get_or, drop}
-use Rattle.std.proofs.Math.Option.{Option, none, some}
+use Rattle.std.specs.Prelude.{Option, None, Some}
 use Rattle.lists.specs.Tests.{both, pick}
 use Rattle.spelling.specs.Content.{Content, valid_content}
 use Rattle.spelling.specs.Spelling.{length_place, dropped_place, head_size}
@@ -96,4 +96,4 @@ content_at s =
 
 -- what a message says, if it is one: of the layout, and within the limits
 unfoldable pub reading : List ℕ → Option Content
-reading s = pick (both (layout_ok s) (valid_content (content_at s))) (some (content_at s)) none
+reading s = pick (both (layout_ok s) (valid_content (content_at s))) (Some (content_at s)) None

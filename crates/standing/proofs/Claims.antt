@@ -3,7 +3,8 @@ use mathlib.Core.Path.{◌≡◌, refl, sym, ap, subst, subst₂, ◌∙◌}
 use mathlib.Core.Bool.{Bool, true, false, cond}
 use mathlib.Core.Logic.{◌↔◌}
 use mathlib.Core.List.{List, [], ◌∷◌, ◌++◌, map, append_assoc}
-use mathlib.Core.Option.{Option, none, some, none-ne-some}
+use Rattle.std.specs.Prelude.{Option, None, Some}
+use Rattle.std.proofs.lemmas.Option.{none-some}
 use Prim.Native.Nat.{ℕ, ◌+◌, ◌-◌, ◌<◌, ◌≤◌}
 use native.Mathlib.Decide.{dec_lt}
 use native.Mathlib.Omega.{arith}
@@ -69,12 +70,12 @@ module _ (r : Record) (words : List ℕ) (S : Sound r words) where
       sym (eqb-true 0 _ (all_get_d (eqb 0) 0 (drop r.n ws) (k - r.n) zero refl))
 
   -- the office that supports an entry is one of the n
-  supporter : (e : ℕ) → Supported ws (vote_of r words) e ↔ ((k : ℕ) × (k < r.n) × (vote_of r words k ≡ some e))
+  supporter : (e : ℕ) → Supported ws (vote_of r words) e ↔ ((k : ℕ) × (k < r.n) × (vote_of r words k ≡ Some e))
   supporter e = (λ s. (s.0, below s.0 s.2 (dec_lt s.0 r.n), s.2), λ s. (s.0, let m = S.head.most in omega (arith, long, s.1), s.2))
     where
-      below : (k : ℕ) → vote_of r words k ≡ some e → Dec (k < r.n) → k < r.n
+      below : (k : ℕ) → vote_of r words k ≡ Some e → Dec (k < r.n) → k < r.n
       below k q (yes h) = h
-      below k q (no h) = absurd (none-ne-some e (sym (votes-silent r words S k (omega arith)) ∙ q))
+      below k q (no h) = absurd (none-some e (sym (votes-silent r words S k (omega arith)) ∙ q))
 
   abbrev answer : Standing
   answer = standing_by r.n ws (vote_of r words)
@@ -91,7 +92,7 @@ module _ (r : Record) (words : List ℕ) (S : Sound r words) where
       let ts = length-map ds (tally ws v) in
       record {
         once = λ e. subst (λ rs. times e (entries_in rs) ≤ 1) (sym answer-rows) (table.rows-once ws v e);
-        supports = λ e. subst (λ rs. (times e (entries_in rs) ≡ 1) ↔ ((k : ℕ) × (k < r.n) × (v k ≡ some e))) (sym answer-rows)
+        supports = λ e. subst (λ rs. (times e (entries_in rs) ≡ 1) ↔ ((k : ℕ) × (k < r.n) × (v k ≡ Some e))) (sym answer-rows)
             (λ h. (supporter e).0 ((table.rows-supported ws v e).0 h), λ s. (table.rows-supported ws v e).1 ((supporter e).1 s));
         weighs = λ e. ap (weight_in e) answer-rows ∙ table.row-weight ws v e;
         missing = refl;
@@ -120,11 +121,11 @@ module _ (r : Record) (words : List ℕ) (S : Sound r words) where
   elected : ElectDone r words
   elected = elect-done r words (elect-zero r words (sound-true r words S))
 
-  settles-none : winner_of r words ≡ none → (elect_of r words).count ≡ 0
+  settles-none : winner_of r words ≡ None → (elect_of r words).count ≡ 0
   settles-none q = omega (arith, elected.counted, ap (λ (o : Office). length o.log) (elect-none rule (held_by r words) q))
 
   -- where an entry wins, elect settles one more than behind it
-  count-some : (o : Office) (e : ℕ) → rule o.log (votes o) ≡ some e → elect_count rule o ≡ 1 + elect_count rule (settle e o)
+  count-some : (o : Office) (e : ℕ) → rule o.log (votes o) ≡ Some e → elect_count rule o ≡ 1 + elect_count rule (settle e o)
   unfolding settle
   count-some o e q =
       let l : ℕ = length (with_elect rule (settle e o)).log in
@@ -132,10 +133,10 @@ module _ (r : Record) (words : List ℕ) (S : Sound r words) where
       let whole : l ≡ length (o.log ++ (e ∷ [])) + length g.0 = ap length g.1 ∙ length-append (o.log ++ (e ∷ [])) g.0 in
       omega (arith, ap (λ (r : Office). length r.log) (elect-some rule voted o e q), whole, length-append o.log (e ∷ []))
 
-  settles-one : (e : ℕ) → winner_of r words ≡ some e → 1 ≤ (elect_of r words).count
+  settles-one : (e : ℕ) → winner_of r words ≡ Some e → 1 ≤ (elect_of r words).count
   settles-one e q = omega (arith, elected.counted, count-some (held_by r words) e q)
 
-  settles-first : (e : ℕ) → winner_of r words ≡ some e → get_or (elect_words r words) (held_length r) 0 ≡ e
+  settles-first : (e : ℕ) → winner_of r words ≡ Some e → get_or (elect_words r words) (held_length r) 0 ≡ e
   unfolding with_folded_elect settle
   settles-first e q =
       let o = held_by r words in

@@ -4,7 +4,8 @@
 -- Assumes nothing.
 use mathlib.Core.Path.{◌≡◌, refl, sym, ap, ◌∙◌}
 use mathlib.Core.List.{List, [], ◌∷◌}
-use mathlib.Core.Option.{Option, none, some, some-injective, none-ne-some}
+use Rattle.std.specs.Prelude.{Option, None, Some}
+use Rattle.std.proofs.lemmas.Option.{same_Some, none-some}
 use mathlib.Core.Bool.{Bool, true, false, cond}
 use Prim.Native.Nat.{ℕ, zero, suc, ◌+◌, ◌<◌}
 use native.Mathlib.Decide.{dec_lt}
@@ -37,12 +38,12 @@ module _ (sum : List ℕ → Votes → ℕ) (t : Option ℕ → Bool) (nil : (v 
       here : cond (t (v' 0)) w 0 ≡ cond (t (v 0)) w 0
       here = ap (λ (a : Option ℕ). cond (t a) w 0) (h 0 (λ q. omega (arith, q)))
 
-module _ (ws : List ℕ) (v v' : Votes) (k e : ℕ) (unvoted : v k ≡ none) (voted : v' k ≡ some e) (others : (j : ℕ) → (j ≡ k → ⊥) → v' j ≡ v j) where
+module _ (ws : List ℕ) (v v' : Votes) (k e : ℕ) (unvoted : v k ≡ None) (voted : v' k ≡ Some e) (others : (j : ℕ) → (j ≡ k → ⊥) → v' j ≡ v j) where
   abbrev w : ℕ
   w = get_or ws k 0
 
   -- T of any entry, by the part that office k's vote has in it
-  tally-part : (f : ℕ) → tally ws v' f ≡ tally ws v f + cond (is_for f (some e)) w 0
+  tally-part : (f : ℕ) → tally ws v' f ≡ tally ws v f + cond (is_for f (Some e)) w 0
   unfolding tally
   tally-part f =
       omega (
@@ -81,10 +82,10 @@ module _ (ws : List ℕ) (v v' : Votes) (k e : ℕ) (unvoted : v k ≡ none) (vo
       after = times f (entries_in (rows_by ws v'))
 
       kept : Supported ws v f → Supported ws v' f
-      kept s = (s.0, s.1, others s.0 (λ q. none-ne-some f (sym unvoted ∙ ap v (sym q) ∙ s.2)) ∙ s.2)
+      kept s = (s.0, s.1, others s.0 (λ q. none-some f (sym unvoted ∙ ap v (sym q) ∙ s.2)) ∙ s.2)
 
       was : Supported ws v' f → Supported ws v f
-      was s = (s.0, s.1, sym (others s.0 (λ q. n (sym (some-injective e f (sym voted ∙ ap v' (sym q) ∙ s.2))))) ∙ s.2)
+      was s = (s.0, s.1, sym (others s.0 (λ q. n (sym (same_Some e f (sym voted ∙ ap v' (sym q) ∙ s.2))))) ∙ s.2)
 
       go : Dec (0 < before) → Dec (0 < after) → after ≡ before
       go (yes a) b =

@@ -9,7 +9,7 @@
 -- Assumes nothing.
 use mathlib.Core.Path.{◌≡◌, refl, sym, ap, ap₂, subst, ◌∙◌}
 use mathlib.Core.List.{List, [], ◌∷◌, ◌++◌, map}
-use mathlib.Core.Option.{Option, none, some}
+use Rattle.std.specs.Prelude.{Option, None, Some}
 use mathlib.Core.Bool.{Bool, true, false, ◌&&◌, ◌||◌, cond}
 use mathlib.Core.Logic.{◌↔◌}
 use Prim.Native.Nat.{ℕ, zero, suc, ◌+◌, ◌-◌, ◌≤◌, ◌<◌, min}
@@ -82,22 +82,22 @@ times-voted (w ∷ ws) v e h = go (v 0) refl h (times-voted ws (later v) e)
     next s = (suc s.0, omega (arith, s.1), s.2)
 
     go : (a : Option ℕ) → v 0 ≡ a → 0 < times e (and-also a (supported ws (later v))) → (0 < times e (supported ws (later v)) → Supported ws (later v) e) → Supported (w ∷ ws) v e
-    go none q h ih = next (ih h)
-    go (some x) q h ih = here (eqb e x) refl h
+    go None q h ih = next (ih h)
+    go (Some x) q h ih = here (eqb e x) refl h
       where
         here : (t : Bool) → eqb e x ≡ t → 0 < cond t 1 0 + times e (supported ws (later v)) → Supported (w ∷ ws) v e
-        here true d h = (0, omega arith, q ∙ ap some (sym (eqb-true e x d)))
+        here true d h = (0, omega arith, q ∙ ap Some (sym (eqb-true e x d)))
         here false d h = next (ih (omega arith))
 
-voted-times : (ws : List ℕ) (v : Votes) (e k : ℕ) → k < length ws → v k ≡ some e → 0 < times e (supported ws v)
+voted-times : (ws : List ℕ) (v : Votes) (e k : ℕ) → k < length ws → v k ≡ Some e → 0 < times e (supported ws v)
 unfolding times supported
 voted-times [] v e k h q = absurd (not-suc-le-zero h)
 voted-times (w ∷ ws) v e zero h q = rw (q, eq-eqb e e refl) (omega arith)
 voted-times (w ∷ ws) v e (suc k) h q = go (v 0) (voted-times ws (later v) e k (le_of_suc-le-suc h) q)
   where
     go : (a : Option ℕ) → 0 < times e (supported ws (later v)) → 0 < times e (and-also a (supported ws (later v)))
-    go none h = h
-    go (some x) h = omega arith
+    go None h = h
+    go (Some x) h = omega arith
 
 -- ── the rows ──
 row-entries : (ws : List ℕ) (v : Votes) (ds : List ℕ) → entries_in (map (row_of ws v) ds) ≡ ds
@@ -169,8 +169,8 @@ supported-few zero (w ∷ ws) v s = rw (s 0 (omega arith)) (supported-few zero w
 supported-few (suc n) (w ∷ ws) v s = go (v 0) (supported-few n ws (later v) (λ k h. s (suc k) (omega arith)))
   where
     go : (a : Option ℕ) → length (supported ws (later v)) ≤ n → length (and-also a (supported ws (later v))) ≤ suc n
-    go none h = omega arith
-    go (some x) h = omega arith
+    go None h = omega arith
+    go (Some x) h = omega arith
 
 pub rows_few : (n : ℕ) (ws : List ℕ) (v : Votes) → Silent n v → length (row_entries ws v) ≤ n
 unfolding row_entries
@@ -195,38 +195,38 @@ unfolding total tally hits
 sum-split w ws v [] = refl
 sum-split w ws v (d ∷ ds) = omega (arith, sum-split w ws v ds)
 
-hits-none : (w : ℕ) (ds : List ℕ) → hits w none ds ≡ 0
+hits-none : (w : ℕ) (ds : List ℕ) → hits w None ds ≡ 0
 unfolding total hits
 hits-none w [] = refl
 hits-none w (d ∷ ds) = omega (arith, hits-none w ds)
 
-hits-lacks : (w x : ℕ) (ds : List ℕ) → times x ds ≡ 0 → hits w (some x) ds ≡ 0
+hits-lacks : (w x : ℕ) (ds : List ℕ) → times x ds ≡ 0 → hits w (Some x) ds ≡ 0
 unfolding total hits times
 hits-lacks w x [] h = refl
 hits-lacks w x (d ∷ ds) h = go (eqb x d) h (hits-lacks w x ds)
   where
-    go : (t : Bool) → cond t 1 0 + times x ds ≡ 0 → (times x ds ≡ 0 → hits w (some x) ds ≡ 0) → cond t w 0 + hits w (some x) ds ≡ 0
+    go : (t : Bool) → cond t 1 0 + times x ds ≡ 0 → (times x ds ≡ 0 → hits w (Some x) ds ≡ 0) → cond t w 0 + hits w (Some x) ds ≡ 0
     go true h ih = absurd (omega arith)
     go false h ih = omega (arith, ih (omega arith))
 
-hits-once : (w x : ℕ) (ds : List ℕ) → times x ds ≡ 1 → hits w (some x) ds ≡ w
+hits-once : (w x : ℕ) (ds : List ℕ) → times x ds ≡ 1 → hits w (Some x) ds ≡ w
 unfolding total hits times
 hits-once w x [] h = absurd (omega arith)
 hits-once w x (d ∷ ds) h = go (eqb x d) h (hits-once w x ds)
   where
-    go : (t : Bool) → cond t 1 0 + times x ds ≡ 1 → (times x ds ≡ 1 → hits w (some x) ds ≡ w) → cond t w 0 + hits w (some x) ds ≡ w
+    go : (t : Bool) → cond t 1 0 + times x ds ≡ 1 → (times x ds ≡ 1 → hits w (Some x) ds ≡ w) → cond t w 0 + hits w (Some x) ds ≡ w
     go true h ih = omega (arith, hits-lacks w x ds (omega arith))
     go false h ih = omega (arith, ih (omega arith))
 
 -- where each vote has one row, each office's weight is in one row, or in U
-sum-whole : (ws : List ℕ) (v : Votes) (ds : List ℕ) → ((k x : ℕ) → k < length ws → v k ≡ some x → times x ds ≡ 1) → total (map (tally ws v) ds) + unheard ws v ≡ total ws
+sum-whole : (ws : List ℕ) (v : Votes) (ds : List ℕ) → ((k x : ℕ) → k < length ws → v k ≡ Some x → times x ds ≡ 1) → total (map (tally ws v) ds) + unheard ws v ≡ total ws
 unfolding unheard total
 sum-whole [] v ds h = omega (arith, sum-none v ds)
 sum-whole (w ∷ ws) v ds h = omega (arith, sum-split w ws v ds, one (v 0) refl, sum-whole ws (later v) ds (λ k x b q. h (suc k) x (omega arith) q))
   where
     one : (a : Option ℕ) → v 0 ≡ a → hits w a ds + cond (is_none a) w 0 ≡ w
-    one none q = omega (arith, hits-none w ds)
-    one (some x) q = omega (arith, hits-once w x ds (h 0 x (omega arith) q))
+    one None q = omega (arith, hits-none w ds)
+    one (Some x) q = omega (arith, hits-once w x ds (h 0 x (omega arith) q))
 
 pub rows-total : (ws : List ℕ) (v : Votes) → total (weights_in (rows_by ws v)) + unheard ws v ≡ total ws
 unfolding row_entries
@@ -297,9 +297,9 @@ module _ (ws : List ℕ) (before : ℕ → ℕ → Bool) (v : Votes) where
   first-without : (x : ℕ) (l : List ℕ) → wins ws before v x ≡ false → first_winner ws before v (without x l) ≡ first_winner ws before v l
   unfolding without
   first-without x [] h = refl
-  first-without x (y ∷ l) h = if-cases (λ r. first_winner ws before v r ≡ cond (wins ws before v y) (some y) (first_winner ws before v l)) (eqb x y) (without x l) (y ∷ without x l)
-      (λ q. subst (λ (z : ℕ). first_winner ws before v (without x l) ≡ cond (wins ws before v z) (some z) (first_winner ws before v l)) (eqb-true x y q) (rw h (first-without x l h)))
-      (λ _. ap (λ (r : Option ℕ). cond (wins ws before v y) (some y) r) (first-without x l h))
+  first-without x (y ∷ l) h = if-cases (λ r. first_winner ws before v r ≡ cond (wins ws before v y) (Some y) (first_winner ws before v l)) (eqb x y) (without x l) (y ∷ without x l)
+      (λ q. subst (λ (z : ℕ). first_winner ws before v (without x l) ≡ cond (wins ws before v z) (Some z) (first_winner ws before v l)) (eqb-true x y q) (rw h (first-without x l h)))
+      (λ _. ap (λ (r : Option ℕ). cond (wins ws before v y) (Some y) r) (first-without x l h))
 
   first-distinct : (l : List ℕ) → first_winner ws before v (distinct l) ≡ first_winner ws before v l
   unfolding distinct
@@ -307,7 +307,7 @@ module _ (ws : List ℕ) (before : ℕ → ℕ → Bool) (v : Votes) where
   first-distinct (x ∷ l) = go (wins ws before v x) refl (first-distinct l)
     where
       go : (t : Bool) → wins ws before v x ≡ t → first_winner ws before v (distinct l) ≡ first_winner ws before v l
-          → cond t (some x) (first_winner ws before v (without x (distinct l))) ≡ cond t (some x) (first_winner ws before v l)
+          → cond t (Some x) (first_winner ws before v (without x (distinct l))) ≡ cond t (Some x) (first_winner ws before v l)
       go true q ih = refl
       go false q ih = first-without x (distinct l) q ∙ ih
 
@@ -317,7 +317,7 @@ module _ (ws : List ℕ) (before : ℕ → ℕ → Bool) (v : Votes) where
 
   first-leads : (l : List ℕ) → first_leader before (unheard ws v) (rows_by ws v) (map (row_of ws v) l) ≡ first_winner ws before v l
   first-leads [] = refl
-  first-leads (x ∷ l) = ap₂ (λ (t : Bool) (r : Option ℕ). cond t (some x) r) (leads-wins x) (first-leads l)
+  first-leads (x ∷ l) = ap₂ (λ (t : Bool) (r : Option ℕ). cond t (Some x) r) (leads-wins x) (first-leads l)
 
   pub leader-wins : first_leader before (unheard ws v) (rows_by ws v) (rows_by ws v) ≡ winner ws before v
   unfolding row_entries winner

@@ -13,7 +13,7 @@
 --     refused-zeros    (r : Record) (words : List ℕ) → ((standing_of r words).number ≡ 0 → ⊥) → standing_of r words ≡ refused
 -- Assumes nothing.
 use Rattle.std.specs.Prelude.{◌≡◌, ◌↔◌, List, cond, ℕ, ◌+◌, ◌<◌, ◌≤◌, get_or, set}
-use Rattle.std.proofs.Math.Option.{none, some}
+use Rattle.std.specs.Prelude.{None, Some}
 use Rattle.lists.specs.Tests.{times}
 use Rattle.protocol.specs.Limits.{total}
 use Rattle.protocol.specs.Office.{votes}
@@ -33,7 +33,7 @@ vote_of r words = votes (held_by r words)
 pub record Shows (r : Record) (words : List ℕ) (s : Standing) : Type 0 where
   -- each entry that the ballot of one of the n offices supports has one row, and no other has any
   pub once : (e : ℕ) → times e (entries_in (rows_in s)) ≤ 1
-  pub supports : (e : ℕ) → (times e (entries_in (rows_in s)) ≡ 1) ↔ ((k : ℕ) × (k < r.n) × (vote_of r words k ≡ some e))
+  pub supports : (e : ℕ) → (times e (entries_in (rows_in s)) ≡ 1) ↔ ((k : ℕ) × (k < r.n) × (vote_of r words k ≡ Some e))
   -- its row has its T; an entry with no row has none
   pub weighs : (e : ℕ) → weight_in e (rows_in s) ≡ tally r.summary.present (vote_of r words) e
   pub missing : s.unheard ≡ unheard r.summary.present (vote_of r words)
@@ -52,9 +52,9 @@ pub record Shows (r : Record) (words : List ℕ) (s : Standing) : Type 0 where
 pub record Decides (r : Record) (words : List ℕ) (s : Standing) : Type 0 where
   pub winner : leader (tie_order r words) s ≡ winner_of r words
   -- where no entry wins by the rows, elect settles nothing
-  pub nothing : leader (tie_order r words) s ≡ none → (elect_of r words).count ≡ 0
+  pub nothing : leader (tie_order r words) s ≡ None → (elect_of r words).count ≡ 0
   -- where one does, elect settles it, and writes it first
-  pub first : (e : ℕ) → leader (tie_order r words) s ≡ some e → (1 ≤ (elect_of r words).count) × (get_or (elect_words r words) (held_length r) 0 ≡ e)
+  pub first : (e : ℕ) → leader (tie_order r words) s ≡ Some e → (1 ≤ (elect_of r words).count) × (get_or (elect_words r words) (held_length r) 0 ≡ e)
 
 -- ── "at the same settled log, a vote of an office that had none adds its present weight to one row, or makes one, and takes it from U" ──
 -- two records of n offices at one settled log, so with the same present weights (law `same_log`); office k has no ballot in the first and one
@@ -63,8 +63,8 @@ pub record OneVoteMore (r : Record) (words : List ℕ) (s : Record) (words' : Li
   pub offices : r.n ≡ s.n
   pub weights : r.summary.present ≡ s.summary.present
   pub member : k < r.n
-  pub unvoted : vote_of r words k ≡ none
-  pub voted : vote_of s words' k ≡ some e
+  pub unvoted : vote_of r words k ≡ None
+  pub voted : vote_of s words' k ≡ Some e
   pub others : (j : ℕ) → (j ≡ k → ⊥) → vote_of s words' j ≡ vote_of r words j
 
 -- the second answer is the first with weight w more in the row of e, and less in U, and office k no longer silent

@@ -1,6 +1,6 @@
 -- What a reader makes of an answer, by its own numbers: its rows, the weight of the offices that it marks, the entry that wins. Assumes nothing.
 use Rattle.std.specs.Prelude.{List, [], ◌∷◌, map, Bool, true, ◌&&◌, ◌||◌, cond, ℕ, ◌+◌, eqb, ltb, take}
-use Rattle.std.proofs.Math.Option.{Option, none, some}
+use Rattle.std.specs.Prelude.{Option, None, Some}
 use Rattle.protocol.specs.Vote.{above}
 use Rattle.standing.specs.declared.Standing.{Standing}
 
@@ -46,8 +46,8 @@ abbrev pub leads : (ℕ → ℕ → Bool) → ℕ → List Row → Row → Bool
 leads before u rs r = ltb u r.weight && ahead before u r rs
 
 abbrev pub first_leader : (ℕ → ℕ → Bool) → ℕ → List Row → List Row → Option ℕ
-first_leader before u rs [] = none
-first_leader before u rs (s ∷ ss) = cond (leads before u rs s) (some s.entry) (first_leader before u rs ss)
+first_leader before u rs [] = None
+first_leader before u rs (s ∷ ss) = cond (leads before u rs s) (Some s.entry) (first_leader before u rs ss)
 
 -- the entry that wins by the answer's rows and U alone, if any, where ties go in the order `before`
 unfoldable pub leader : (ℕ → ℕ → Bool) → Standing → Option ℕ

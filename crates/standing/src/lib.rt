@@ -5,9 +5,13 @@ ghost use Rattle.std.specs.Prelude.{◌≡◌};
 ghost use Rattle.standing.specs.Standing.{standing_of};
 
 use frame::Record;
+use refusals::Refusal;
+use rows::Rows;
 
 // The number; the supported entries, each once, in the order of the lowest office that supports it, with their T, 0 past them; U; and 1 for
 // each of the n offices that has no ballot.
+// The rows are a count beside arrays side by side, since a row of its own was no part of what C was given.
+// C has it as it lies here, so it holds the number and is no `Result`.
 #[repr(C)]
 #[derive(Clone, Copy)]
 pub struct Standing {
@@ -25,7 +29,7 @@ pub fn next_place(office: Record, log: &[u32]) -> Standing
 {
     if !office.sound(log) {
         return Standing {
-            number: 1,
+            number: Refusal::Unsound.number(),
             rows: 0,
             unheard: 0,
             entries: [0; 8],
@@ -33,20 +37,21 @@ pub fn next_place(office: Record, log: &[u32]) -> Standing
             silent: [0; 8],
         };
     }
-    let ballots = office.ballots;
     let present = office.summary.present;
-    let votes = votes::of_ballots(ballots);
-    let rows = rows::of_votes(votes, present);
-    let unheard = tallies::weight_for(votes, present, tallies::NO_VOTE);
-    let silent = rows::silent(votes, office.n);
-    let entries = rows.entries;
-    let heard = rows.tallies;
+    let votes = votes::of_ballots(office.ballots);
+    let unheard = tallies::weight_for(&votes, &present, None);
+    let silent = rows::silent(&votes, office.n);
+    let Rows {
+        count,
+        entries,
+        tallies,
+    } = rows::of_votes(&votes, &present);
     Standing {
         number: 0,
-        rows: rows.count,
+        rows: count,
         unheard,
         entries,
-        tallies: heard,
+        tallies,
         silent,
     }
 }

@@ -3,13 +3,18 @@
 --     summary-nil         an empty log has done nothing
 --     summary-next        one entry more
 --     same-summary-true, same-summary-refl     the test of two summaries, both ways
+--     same-summary-eq     what `==` of two summaries answers
 -- Assumes nothing.
-use mathlib.Core.Path.{◌≡◌, refl, ◌∙◌}
-use mathlib.Core.Bool.{true}
+use mathlib.Core.Path.{◌≡◌, refl, ap₂, ◌∙◌}
+use mathlib.Core.Bool.{true, ◌&&◌}
 use mathlib.Core.List.{List, [], ◌∷◌, ◌++◌}
 use Prim.Native.Nat.{ℕ}
+use lib.Dec.{eqb}
+use Rattle.std.specs.Cmp.Lexicographic.{pointwise}
+use Rattle.lists.specs.Tests.{both}
+use Rattle.lists.proofs.Walk.{and_both}
 use Rattle.lists.proofs.Tests.{both-0, both-1, both_true}
-use Rattle.lists.proofs.Same.{same_true, same_refl}
+use Rattle.lists.proofs.Same.{same_true, same_refl, same_is}
 use Rattle.protocol.specs.Codes.{codes_after}
 use Rattle.protocol.specs.Moves.{weights_after}
 use Rattle.protocol_laws.proofs.Codes.{codes-append}
@@ -38,3 +43,7 @@ same-summary-true a b e = λ i. record { present = same_true a.present b.present
 pub same-summary-refl : (a : Summary) → same_summary a a ≡ true
 unfolding same_summary
 same-summary-refl a = both_true _ _ (same_refl a.present) (same_refl a.codes)
+
+pub same-summary-eq : (a b : Summary) → (pointwise eqb a.present b.present && pointwise eqb a.codes b.codes) ≡ same_summary a b
+unfolding same_summary
+same-summary-eq a b = and_both _ _ ∙ ap₂ both (same_is a.present b.present) (same_is a.codes b.codes)

@@ -2,11 +2,12 @@
 #![tactic(auto)]
 
 ghost use Rattle.std.specs.Prelude.{◌≡◌};
-ghost use Rattle.summary.specs.Summary.{start_with, summary_after, summary_next, same_summary};
+ghost use Rattle.summary.specs.Summary.{start_with, summary_after, summary_next};
 
-// The present weights, and the settled codes of the 64 lines: 0 for a line with no edit yet, else the code + 1.
+// The present weights, and the settled codes of the 64 lines: 0 for a line with no edit yet, else the code + 1. C has them so: `Option`s
+// cannot cross, nor be walked on vectors.
 #[repr(C)]
-#[derive(Clone, Copy)]
+#[derive(Clone, Copy, PartialEq, Eq)]
 pub struct Summary {
     pub present: [u16; 8],
     pub codes: [u32; 64],
@@ -27,38 +28,24 @@ impl Summary {
     pub fn after(self, words: &[u32]) -> Summary
         ensures { result ≡ summary_after self words.now }
     {
-        let weights = self.present;
-        let before = self.codes;
-        let present = moved_weights::weights_after(weights, words);
-        let codes = settled_codes::codes_after(before, words);
-        Summary { present, codes }
+        Summary {
+            present: moved_weights::weights_after(self.present, words),
+            codes: settled_codes::codes_after(self.codes, words),
+        }
     }
 
     // After one entry more: the code of its line is its code. A move is for no line.
     pub fn next(self, word: u32) -> Summary
         ensures { result ≡ summary_next self word }
     {
-        let weights = self.present;
+        let mut next = Summary {
+            present: moved_weights::moved(self.present, word),
+            ..self
+        };
         let line = words::line_of(word);
-        let mut next = self;
-        next.present = moved_weights::moved(weights, word);
         if line < 64 {
             next.codes[line] = settled_codes::cell_of(word);
         }
         next
-    }
-
-    // Whether two are the same.
-    pub fn same(self, other: Summary) -> bool
-        ensures { result ≡ same_summary self other }
-    {
-        let mine = self.present;
-        let theirs = other.present;
-        if !lists::same_eight(mine, theirs) {
-            return false;
-        }
-        let codes = self.codes;
-        let others = other.codes;
-        settled_codes::same_codes(codes, others)
     }
 }

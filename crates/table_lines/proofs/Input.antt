@@ -10,8 +10,9 @@ use native.Mathlib.Omega.{arith}
 use lib.Dec.{eqb}
 use lib.ListN.{length, take, drop, length-drop}
 use Rattle.lists.specs.Tests.{pick}
-use Rattle.decimal.specs.Number.{by_number, number_of}
-use Rattle.decimal.specs.Numbers.{in_first, fields, fields_from, numbers_after, no_numbers, numbers_of, numbers_from}
+use Rattle.std.specs.Prelude.{None}
+use Rattle.decimal.specs.Number.{number_of}
+use Rattle.decimal.specs.Numbers.{in_first, fields, fields_from, numbers_after, numbers_of, numbers_from}
 use Rattle.decimal.proofs.Walks.{fields-all}
 use Rattle.text_parts.specs.Parts.{part_length}
 use Rattle.rehearsal_lines.specs.Feeding.{lines_of}
@@ -46,7 +47,7 @@ first-line b (c ∷ s) = go (eqb b 10) refl (first-line c s)
     go false e h = first_byte b (c ∷ s) e h
 
 -- by what is behind the first newline
-two-lines : (line rest : List ℕ) → 0 < length rest → only_line (line ∷ lines_of rest) ≡ no_numbers
+two-lines : (line rest : List ℕ) → 0 < length rest → only_line (line ∷ lines_of rest) ≡ None
 two-lines line [] h = absurd (omega arith)
 two-lines line (b ∷ s) h = ap (λ (ls : List (List ℕ)). only_line (line ∷ ls)) (first-line b s)
 
@@ -55,14 +56,14 @@ unfolding lines_of
 one_line line [] h = ap numbers_of (sym (fields-all line 0 (omega arith)))
 one_line line (b ∷ s) h = absurd (omega (arith, h))
 
-pub second-line : (input : List ℕ) → part_length 10 input + 1 < length input → numbers_in input ≡ no_numbers
+pub second-line : (input : List ℕ) → part_length 10 input + 1 < length input → numbers_in input ≡ None
 second-line [] h = absurd (omega arith)
 second-line (b ∷ s) h =
     let p = part_length 10 (b ∷ s) in
     ap only_line (first-line b s) ∙ two-lines (take p (b ∷ s)) (drop (suc p) (b ∷ s)) (simp length-drop (omega arith))
 
 pub only-line : (input : List ℕ) → length input ≤ part_length 10 input + 1 → numbers_in input ≡ numbers_from (take (part_length 10 input) input) 0
-unfolding lines_of part_length fields_from fields numbers_after by_number number_of pick
+unfolding lines_of part_length fields_from fields numbers_after number_of pick
 only-line [] h = refl
 only-line (b ∷ s) h =
     let p = part_length 10 (b ∷ s) in

@@ -16,10 +16,9 @@ use borrow.Author.Tests.{eqb-true, eqb-false, ne_eqb, leb-true, le-leb, lt-ltb}
 use Rattle.lists.specs.Tests.{both, pick, all_b}
 use Rattle.lists.proofs.Tests.{both-0, both-1, both_true, pick-false}
 use Rattle.text_parts.specs.Parts.{part_length}
-use Rattle.decimal.specs.Number.{is_digit, appended, by_number, digit_of, digits_of, leading_zero, number_of}
-use Rattle.decimal.specs.Numbers.{in_first, fields, field_number, no_numbers, numbers_after, numbers_of}
-use Rattle.decimal.specs.declared.number.Number.{Number}
-use Rattle.decimal.specs.declared.number.Number.TheVariants.{Value, Not}
+use Rattle.decimal.specs.Number.{is_digit, appended, digit_of, digits_of, leading_zero, number_of}
+use Rattle.decimal.specs.Numbers.{in_first, fields, field_number, numbers_after, numbers_of}
+use Rattle.std.specs.Prelude.{Option, Some, None, option_and_then}
 use Rattle.decimal.specs.declared.numbers.Numbers.{Numbers}
 use Rattle.text_parts.proofs.Ends.{part-short}
 use Rattle.decimal.proofs.Walks.{fields-all}
@@ -29,9 +28,9 @@ use Rattle.table_lines.proofs.Printed.{answer-question}
 
 -- ── a number has at most five digits ──
 -- whether a number was read
-pub is_number : Number → Bool
-is_number (Value v) = true
-is_number Not = false
+pub is_number : Option ℕ → Bool
+is_number (Some v) = true
+is_number None = false
 
 -- whether digits behind the number w make one
 reads : ℕ → List ℕ → Bool
@@ -46,8 +45,8 @@ record Next (w b : ℕ) (s : List ℕ) : Type 0 where
   most : next ≤ 65535
 
 next-by : (w b : ℕ) (s : List ℕ) (t : Bool) → both (is_digit b) (leb (appended w b) 65535) ≡ t
-    → is_number (by_number (pick t (Value (appended w b)) Not) (λ (u : ℕ). digits_of 65535 u s) Not) ≡ true → Next w b s
-unfolding reads is_number by_number is_digit pick
+    → is_number (option_and_then (λ (u : ℕ). digits_of 65535 u s) (pick t (Some (appended w b)) None)) ≡ true → Next w b s
+unfolding reads is_number is_digit pick
 next-by w b s true e h = record {
   next = appended w b;
   more = h;
@@ -84,22 +83,22 @@ four-more =
     (one_more 656 0 (above 6554 6560 0 (omega arith) no_more)))))))
 
 -- a field of two bytes or more begins with another digit than 0
-long-field : (b c : ℕ) (s : List ℕ) → field_number (b ∷ c ∷ s) ≡ pick (both true (eqb b 48)) Not (digits_of 65535 0 (b ∷ c ∷ s))
+long-field : (b c : ℕ) (s : List ℕ) → field_number (b ∷ c ∷ s) ≡ pick (both true (eqb b 48)) None (digits_of 65535 0 (b ∷ c ∷ s))
 unfolding number_of leading_zero
 long-field b c s =
     let some = ne_eqb (length (b ∷ c ∷ s)) 0 (λ z. omega (arith, z)) in
     let two = lt-ltb 1 (length (b ∷ c ∷ s)) (omega arith) in
-    pick-false (eqb (length (b ∷ c ∷ s)) 0) Not (pick (both (ltb 1 (length (b ∷ c ∷ s))) (eqb b 48)) Not (digits_of 65535 0 (b ∷ c ∷ s))) some
-    ∙ ap (λ (t : Bool). pick (both t (eqb b 48)) Not (digits_of 65535 0 (b ∷ c ∷ s))) two
+    pick-false (eqb (length (b ∷ c ∷ s)) 0) None (pick (both (ltb 1 (length (b ∷ c ∷ s))) (eqb b 48)) None (digits_of 65535 0 (b ∷ c ∷ s))) some
+    ∙ ap (λ (t : Bool). pick (both t (eqb b 48)) None (digits_of 65535 0 (b ∷ c ∷ s))) two
 
-begins-by : (b : ℕ) (x : Number) (t : Bool) → eqb b 48 ≡ t → is_number (pick (both true t) Not x) ≡ true → (b ≡ 48 → ⊥) × (is_number x ≡ true)
+begins-by : (b : ℕ) (x : Option ℕ) (t : Bool) → eqb b 48 ≡ t → is_number (pick (both true t) None x) ≡ true → (b ≡ 48 → ⊥) × (is_number x ≡ true)
 unfolding is_number both pick
 begins-by b x true e h = absurd (true≢false (sym h))
 begins-by b x false e h = (eqb-false b 48 e, h)
 
 begins : (b c : ℕ) (s : List ℕ) → is_number (field_number (b ∷ c ∷ s)) ≡ true → (b ≡ 48 → ⊥) × (reads 0 (b ∷ c ∷ s) ≡ true)
 unfolding reads
-begins b c s h = begins-by b (digits_of 65535 0 (b ∷ c ∷ s)) (eqb b 48) refl (subst (λ (x : Number). is_number x ≡ true) (long-field b c s) h)
+begins b c s h = begins-by b (digits_of 65535 0 (b ∷ c ∷ s)) (eqb b 48) refl (subst (λ (x : Option ℕ). is_number x ≡ true) (long-field b c s) h)
 
 pub number_short : (f : List ℕ) → is_number (field_number f) ≡ true → length f ≤ 5
 number_short [] h = omega arith
@@ -113,8 +112,8 @@ number_short (b ∷ c ∷ s) h =
 short_field : List ℕ → Bool
 short_field f = leb (length f) 5
 
-none-three : three_numbers no_numbers ≡ true → ⊥
-unfolding three_numbers both
+none-three : three_numbers None ≡ true → ⊥
+unfolding three_numbers
 none-three h = true≢false (sym h)
 
 -- what is claimed of these fields
@@ -125,16 +124,16 @@ field-more : (count : ℕ) (f : List ℕ) (fs : List (List ℕ)) → length f �
 unfolding all_b short_field
 field-more count f fs h r = (omega (arith, r.0), both_true _ _ (le-leb (length f) 5 h) r.1)
 
-by_field : (count : ℕ) (cells : List ℕ) (f : List ℕ) (fs : List (List ℕ)) (x : Number) → field_number f ≡ x
+by_field : (count : ℕ) (cells : List ℕ) (f : List ℕ) (fs : List (List ℕ)) (x : Option ℕ) → field_number f ≡ x
     → ((v : ℕ) → three_numbers (numbers_after (count + 1) (set cells count v) fs) ≡ true → Fields (count + 1) fs)
-    → three_numbers (by_number x (λ (v : ℕ). numbers_after (count + 1) (set cells count v) fs) no_numbers) ≡ true → Fields count (f ∷ fs)
-unfolding by_number is_number
-by_field count cells f fs (Value v) e again q = field-more count f fs (number_short f (ap is_number e)) (again v q)
-by_field count cells f fs Not e again q = absurd (none-three q)
+    → three_numbers (option_and_then (λ (v : ℕ). numbers_after (count + 1) (set cells count v) fs) x) ≡ true → Fields count (f ∷ fs)
+unfolding is_number
+by_field count cells f fs (Some v) e again q = field-more count f fs (number_short f (ap is_number e)) (again v q)
+by_field count cells f fs None e again q = absurd (none-three q)
 
 by_count : (count : ℕ) (cells : List ℕ) (f : List ℕ) (fs : List (List ℕ)) (t : Bool)
     → ((v : ℕ) → three_numbers (numbers_after (count + 1) (set cells count v) fs) ≡ true → Fields (count + 1) fs)
-    → three_numbers (pick t no_numbers (by_number (field_number f) (λ (v : ℕ). numbers_after (count + 1) (set cells count v) fs) no_numbers)) ≡ true
+    → three_numbers (pick t None (option_and_then (λ (v : ℕ). numbers_after (count + 1) (set cells count v) fs) (field_number f))) ≡ true
     → Fields count (f ∷ fs)
 unfolding pick
 by_count count cells f fs true again q = absurd (none-three q)
@@ -142,7 +141,7 @@ by_count count cells f fs false again q = by_field count cells f fs (field_numbe
 
 three-fields : (count : ℕ) (cells : List ℕ) (fs : List (List ℕ)) → three_numbers (numbers_after count cells fs) ≡ true → Fields count fs
 unfolding numbers_after three_numbers all_b
-three-fields count cells [] h = (omega (arith, eqb-true count 3 (both-1 _ _ h)), refl)
+three-fields count cells [] h = (omega (arith, eqb-true count 3 h), refl)
 three-fields count cells (f ∷ fs) h = by_count count cells f fs (eqb count 8) (λ v q. three-fields (count + 1) (set cells count v) fs q) h
 
 -- ── the bytes of a line, by its fields ──
@@ -179,12 +178,12 @@ three-short : (input : List ℕ) → three_numbers (numbers_in input) ≡ true �
 three-short input h = go (dec_lt (part_length 10 input + 1) (length input))
   where
     go : Dec (part_length 10 input + 1 < length input) → length input ≤ 18
-    go (yes l) = absurd (none-three (subst (λ (x : Numbers). three_numbers x ≡ true) (second-line input l) h))
+    go (yes l) = absurd (none-three (subst (λ (x : Option Numbers). three_numbers x ≡ true) (second-line input l) h))
     go (no l) =
         let p = part_length 10 input in
         let line = take p input in
         let only = only-line input (omega arith) ∙ ap numbers_of (fields-all line 0 (omega arith)) in
-        let short = line-short line (subst (λ (x : Numbers). three_numbers x ≡ true) only h) in
+        let short = line-short line (subst (λ (x : Option Numbers). three_numbers x ≡ true) only h) in
         omega (arith, short, length-take-le p input (part-short 10 input))
 
 pub long-input : (input : List ℕ) → 18 < length input → answer_to input ≡ 63 ∷ 10 ∷ []

@@ -14,6 +14,7 @@ use lib.Dec.{eqb}
 use lib.ListN.{length, set, length-append, length-replicate}
 use lib.Seq.{sets}
 use borrow.Author.Tests.{eq-eqb, ne_eqb, le-leb}
+use Rattle.std.specs.Prelude.{Option, Some, None}
 use Rattle.lists.specs.Tests.{pick}
 use Rattle.lists.proofs.Tests.{pick_true, pick-false, pick-cases}
 use Rattle.protocol.specs.Limits.{head_fine, long_enough, found_number}
@@ -25,29 +26,32 @@ use Rattle.tables.specs.Tables.{tables}
 use Rattle.tables.proofs.Places.{tables-2197}
 use Rattle.tables.proofs.Listed.{tables-listed}
 use Rattle.table_lines.specs.Lines.{empty_log, lines_of}
-use Rattle.table_lines.specs.Answers.{numbers_in, three_numbers, founded, printed_for, answer_to}
+use Rattle.table_lines.specs.Answers.{numbers_in, three_numbers, founded, printed_for, answer_for, answer_to}
 use Rattle.table_lines.proofs.Shown.{put_last}
 use Rattle.table_lines.proofs.Written.{lines-short}
 
 -- ── by the numbers that were read ──
-module _ (input : List ℕ) (ns : Numbers) (e : ns ≡ numbers_in input) where
-  pub answer-question : three_numbers ns ≡ false → answer_to input ≡ 63 ∷ 10 ∷ []
-  unfolding answer_to
-  answer-question q = pick-false (three_numbers (numbers_in input)) (printed_for (numbers_in input).cells) (63 ∷ 10 ∷ []) (ap three_numbers (sym e) ∙ q)
+question-for : (x : Option Numbers) → three_numbers x ≡ false → answer_for x ≡ 63 ∷ 10 ∷ []
+unfolding three_numbers answer_for pick
+question-for (Some ns) q = rw q
+question-for None q = refl
 
-  answer-weights : three_numbers ns ≡ true → answer_to input ≡ printed_for ns.cells
-  unfolding answer_to
-  answer-weights q =
-      pick_true (three_numbers (numbers_in input)) (printed_for (numbers_in input).cells) (63 ∷ 10 ∷ []) (ap three_numbers (sym e) ∙ q) ∙
-      ap (λ (x : Numbers). printed_for x.cells) (sym e)
+pub answer-question : (input : List ℕ) (x : Option Numbers) → x ≡ numbers_in input → three_numbers x ≡ false → answer_to input ≡ 63 ∷ 10 ∷ []
+unfolding answer_to
+answer-question input x e q = ap answer_for (sym e) ∙ question-for x q
 
-  pub answer-lines : three_numbers ns ≡ true → (founded ns.cells).number ≡ 0 → answer_to input ≡ lines_of (founded ns.cells).«record» tables
+module _ (input : List ℕ) (ns : Numbers) (e : Some ns ≡ numbers_in input) where
+  answer-weights : ns.count ≡ 3 → answer_to input ≡ printed_for ns.cells
+  unfolding answer_to answer_for
+  answer-weights q = ap answer_for (sym e) ∙ pick_true (eqb ns.count 3) (printed_for ns.cells) (63 ∷ 10 ∷ []) (eq-eqb ns.count 3 q)
+
+  pub answer-lines : ns.count ≡ 3 → (founded ns.cells).number ≡ 0 → answer_to input ≡ lines_of (founded ns.cells).«record» tables
   unfolding printed_for
   answer-lines q z =
       answer-weights q ∙ pick_true (eqb (founded ns.cells).number 0) (lines_of (founded ns.cells).«record» tables)
       (decimal_of (founded ns.cells).number ++ (10 ∷ [])) (eq-eqb (founded ns.cells).number 0 z)
 
-  pub answer-refused : three_numbers ns ≡ true → ((founded ns.cells).number ≡ 0 → ⊥) → answer_to input ≡ decimal_of (founded ns.cells).number ++ (10 ∷ [])
+  pub answer-refused : ns.count ≡ 3 → ((founded ns.cells).number ≡ 0 → ⊥) → answer_to input ≡ decimal_of (founded ns.cells).number ++ (10 ∷ [])
   unfolding printed_for
   answer-refused q z =
       answer-weights q ∙ pick-false (eqb (founded ns.cells).number 0) (lines_of (founded ns.cells).«record» tables)
@@ -92,8 +96,12 @@ printed-short ws =
     (λ e. omega (arith, lines-short (founded ws).«record» tables tables-listed.only, tables-2197))
     (λ e. omega (arith, length-append (decimal_of (founded ws).number) (10 ∷ []), decimal-short 20 (founded ws).number))
 
+answer-short-for : (x : Option Numbers) → length (answer_for x) ≤ 61536
+unfolding answer_for
+answer-short-for (Some ns) =
+    pick-cases (λ (l : List ℕ). length l ≤ 61536) (eqb ns.count 3) (printed_for ns.cells) (63 ∷ 10 ∷ []) (λ e. printed-short ns.cells) (λ e. omega arith)
+answer-short-for None = omega arith
+
 pub answer-short : (input : List ℕ) → length (answer_to input) ≤ 61536
 unfolding answer_to
-answer-short input =
-    pick-cases (λ (l : List ℕ). length l ≤ 61536) (three_numbers (numbers_in input)) (printed_for (numbers_in input).cells) (63 ∷ 10 ∷ [])
-    (λ e. printed-short (numbers_in input).cells) (λ e. omega arith)
+answer-short input = answer-short-for (numbers_in input)

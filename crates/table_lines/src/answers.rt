@@ -1,8 +1,7 @@
 // What is printed for an input.
 ghost use Rattle.std.specs.Prelude.{◌≡◌, length};
 ghost use Rattle.std.proofs.lemmas.List.Edits.{sets};
-ghost use Rattle.decimal.specs.Numbers.{no_numbers};
-ghost use Rattle.table_lines.specs.Answers.{numbers_in, three_numbers, answer_to};
+ghost use Rattle.table_lines.specs.Answers.{numbers_in, answer_to};
 
 use crate::lines::{OUTPUT, put_lines};
 use decimal::{Numbers, numbers_from};
@@ -10,40 +9,15 @@ use frame::Record;
 use printing::put_number;
 use text_parts::part_end;
 
-// The answer where the input is not one line.
-fn no_numbers() -> Numbers
-    ensures { result ≡ no_numbers }
-{
-    Numbers {
-        proper: false,
-        count: 0,
-        cells: [0; 8],
-    }
-}
-
 // The numbers of the input's only line, none where it has another. The newline at its end may be missing.
-fn numbers_in(input: &[u8]) -> Numbers
+fn numbers_in(input: &[u8]) -> Option<Numbers>
     ensures { result ≡ numbers_in input.now }
 {
     let end = part_end(input, 0, b'\n');
     if end + 1 < input.len() {
-        return no_numbers();
+        return None;
     }
     numbers_from(&input[..end], 0)
-}
-
-// Whether they are three.
-fn three_numbers(numbers: Numbers) -> bool
-    ensures { result ≡ three_numbers numbers }
-{
-    numbers.proper & (numbers.count == 3)
-}
-
-// A refusal's number, wider.
-fn wide(x: u32) -> usize
-    ensures { result ≡ x }
-{
-    x as usize
 }
 
 // Writes at the output's front what is printed for an input, and answers how many bytes it takes: a line for each table, the number of a refused
@@ -51,20 +25,20 @@ fn wide(x: u32) -> usize
 pub fn answer(input: &[u8], out: &mut [u8; OUTPUT]) -> usize
     ensures { (result ≡ length (answer_to input.now)) × (out.new ≡ sets out.old 0 (answer_to input.now)) }
 {
-    let numbers = numbers_in(input);
-    let weights = numbers.cells;
-    if !three_numbers(numbers) {
-        out[0] = b'?';
-        out[1] = b'\n';
-        return 2;
-    }
-    let log = [0u32; 1024];
-    let founded = Record::found(3, 0, weights, &log);
-    let record = founded.record;
+    let numbers = match numbers_in(input) {
+        Some(numbers) if numbers.count == 3 => numbers,
+        _ => {
+            out[0] = b'?';
+            out[1] = b'\n';
+            return 2;
+        }
+    };
+    let founded = Record::found(3, 0, numbers.cells, &[0; 1024]);
+    // a number and no `Result`: the answer is one that crosses to C, and there 0 is done
     if founded.number != 0 {
-        let next = put_number(out, 0, wide(founded.number));
+        let next = put_number(out, 0, founded.number as usize);
         out[next] = b'\n';
         return next + 1;
     }
-    put_lines(out, record)
+    put_lines(out, founded.record)
 }

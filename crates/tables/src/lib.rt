@@ -16,12 +16,6 @@ const PAIRS: usize = TAILS * TAILS;
 
 pub const TABLES: usize = TAILS * PAIRS;
 
-// The three offices' tails.
-#[derive(Clone, Copy)]
-pub struct Table {
-    pub tails: [Ballot; 3],
-}
-
 // The entry of an office with line 0 and code 0.
 fn entry_of(office: usize) -> u32
     requires { office < 3 }
@@ -48,17 +42,15 @@ fn tail_at(place: usize) -> Ballot
     none.push(entry_of(pair / 3)).push(entry_of(pair % 3))
 }
 
-// The table at a place of the list; three empty tails past its end.
-pub fn table_at(place: usize) -> Table
-    ensures { result.tails ≡ map ballot_of (table_at place) }
+// The three offices' tails in the table at a place of the list; three empty ones past its end.
+pub fn table_at(place: usize) -> [Ballot; 3]
+    ensures { result ≡ map ballot_of (table_at place) }
 {
-    let none = Ballot::none();
-    let mut tails = [none; 3];
     if place >= TABLES {
-        return Table { tails };
+        return [Ballot::none(); 3];
     }
-    tails[0] = tail_at(place / PAIRS);
-    tails[1] = tail_at(place / TAILS % TAILS);
-    tails[2] = tail_at(place % TAILS);
-    Table { tails }
+    let first = tail_at(place / PAIRS);
+    let second = tail_at(place / TAILS % TAILS);
+    let third = tail_at(place % TAILS);
+    [first, second, third]
 }

@@ -1,23 +1,26 @@
 -- Rows in an array with a count.
---     place-next, place-stop, place_end     a walk to the place of a class
---     inserted                              a walk that moves the rows from a place on by one
+--     place-found                           the place of a class is the first row that has reached it
+--     inserted                              the rows from a place on copied one place on, and a row put there
 --     pool-same, pool-new                   a row pooled, by its place
 --     into-same, into_new                   the same in the array
 --     held_rows                             the rows that an array holds
 -- Assumes nothing.
 use mathlib.Core.Path.{◌≡◌, refl, sym, ap, ap₂, subst, ◌∙◌}
-use mathlib.Core.Bool.{Bool, true, false}
-use mathlib.Core.List.{List, [], ◌∷◌, ◌++◌, append_assoc}
+use mathlib.Core.Bool.{Bool, true, false, cond, not}
+use mathlib.Core.List.{List, [], ◌∷◌, ◌++◌, append_assoc, append-nil}
 use Prim.Native.Nat.{ℕ, zero, suc, ◌+◌, ◌-◌, ◌≤◌, ◌<◌}
 use native.Mathlib.Nat.{not-suc-le-zero, le_of_suc-le-suc}
 use native.Mathlib.Omega.{arith}
 use lib.Dec.{ltb}
 use lib.ListN.{length, get_or, take, drop, set, replicate, length-append, length-drop, length-set, drop_of_length-le}
-use lib.Seq.{length-take-le, take_all, take-append-le, drop-append-le, take-append-add, take-append_seam, set-append_left, take_at}
+use lib.Seq.{length-take-le, take-append-le, drop-append-le, take-append-add, take-append_seam, take-set-lt, set-append_left}
 use borrow.Author.Tests.{ne_eqb, eq-eqb, le-ltb, lt-ltb, ltb-true, ltb-false}
+use Rattle.std.specs.Prelude.{Option, Some, None, unwrap_or}
+use Rattle.std.specs.List.{copy_within, position_or_len}
+use Rattle.std.proofs.lemmas.List.{take_more_set}
+use Rattle.std.proofs.lemmas.List.Sums.{prefix_len-le-length}
 use Rattle.lists.specs.Tests.{pick}
 use Rattle.lists.proofs.Padded.{padded-at}
-use Rattle.lists.proofs.Walk.{rest-step}
 use Rattle.tabulation.specs.Rows.{pool, total_of}
 use Rattle.tabulation.specs.Cells.{no_row, cells_of, rows_of, held, place_of, pool_into, RoomFor}
 use Rattle.tabulation.specs.declared.Row.{Row}
@@ -32,23 +35,57 @@ place_here : (class : ℕ) (s : Row) (rows : List Row) → class ≤ s.class →
 unfolding place_of pick
 place_here class s rows h = rw (le-ltb s.class class h)
 
-module _ (class : ℕ) (xs : List Row) (i : ℕ) where
-  pub place-next : i < length xs → (get_or xs i no_row).class < class → place_of class (drop i xs) ≡ suc (place_of class (drop (i + 1) xs))
-  place-next h l = ap (place_of class) (rest-step no_row xs i h) ∙ place-behind class (get_or xs i no_row) (drop (i + 1) xs) l
+-- the code's test of a row
+abbrev pub Reached : ℕ → Row → Bool
+Reached class s = not (ltb s.class class)
 
-  pub place-stop : i < length xs → class ≤ (get_or xs i no_row).class → place_of class (drop i xs) ≡ 0
-  place-stop h l = ap (place_of class) (rest-step no_row xs i h) ∙ place_here class (get_or xs i no_row) (drop (i + 1) xs) l
+place-first : (class : ℕ) (xs : List Row) → position_or_len (Reached class) xs ≡ place_of class xs
+unfolding place_of pick
+place-first class [] = refl
+place-first class (s ∷ rows) = step (ltb s.class class) (place-first class rows)
+  where
+    step : (b : Bool) → position_or_len (Reached class) rows ≡ place_of class rows
+        → cond (not (not b)) (1 + position_or_len (Reached class) rows) 0 ≡ pick b (suc (place_of class rows)) 0
+    step true e = omega (arith, e)
+    step false e = refl
 
-  pub place_end : length xs ≤ i → place_of class (drop i xs) ≡ 0
-  unfolding place_of
-  place_end h = rw (drop_of_length-le xs h)
+pub place-found : (class count : ℕ) (xs : List Row) (o : Option ℕ) → length xs ≡ count
+    → o ≡ cond (ltb (position_or_len (Reached class) xs) (length xs)) (Some (position_or_len (Reached class) xs)) None
+    → (unwrap_or o count ≡ place_of class xs) × (unwrap_or o count ≤ count)
+place-found class count xs o l e =
+    let found = ap (λ (q : Option ℕ). unwrap_or q count) e ∙ go (ltb (position_or_len (Reached class) xs) (length xs)) refl in
+    (found ∙ place-first class xs, omega (arith, found, most))
+  where
+    most : position_or_len (Reached class) xs ≤ length xs
+    most = prefix_len-le-length _ xs
 
--- ── rows moved by one ──
--- the walk is at the end
-pub inserted : (next whole : List Row) (carried : Row) (i : ℕ) → length next ≡ 64 → 64 ≤ i → take i next ++ (carried ∷ drop i next) ≡ whole → next ≡ take 64 whole
-inserted next whole carried i l h e =
-    let past : length next ≤ i = omega arith in
-    sym (take_at next (carried ∷ []) 64 l) ∙ ap (take 64) (ap₂ (λ (a b : List Row). a ++ (carried ∷ b)) (sym (take_all i next past)) (sym (drop_of_length-le next past)) ∙ e)
+    go : (t : Bool) → ltb (position_or_len (Reached class) xs) (length xs) ≡ t → unwrap_or (cond t (Some (position_or_len (Reached class) xs)) None) count ≡ position_or_len (Reached class) xs
+    go true q = refl
+    go false q = omega (arith, ltb-false _ _ q, most, l)
+
+-- ── a row put in ──
+pub inserted : (rows : List Row) (at : ℕ) (row : Row) → length rows ≡ 64 → at < 64 → set (copy_within rows at 63 (at + 1)) at row ≡ take 64 (take at rows ++ (row ∷ drop at rows))
+inserted rows at row l h = ap (λ (x : List Row). set x at row) copied ∙ set-append_left front moved at row before ∙ ap (λ (x : List Row). x ++ moved) first ∙ append_assoc (take at rows) (row ∷ []) moved ∙ sym whole
+  where
+    front : List Row
+    front = take (at + 1) rows
+
+    moved : List Row
+    moved = take (63 - at) (drop at rows)
+
+    copied : copy_within rows at 63 (at + 1) ≡ front ++ moved
+    copied = ap (λ (x : List Row). (front ++ moved) ++ x) (drop_of_length-le rows (omega arith)) ∙ append-nil (front ++ moved)
+
+    before : at < length front
+    before = omega (arith, length-take-le (at + 1) rows (omega arith))
+
+    first : set front at row ≡ take at rows ++ (row ∷ [])
+    first = sym (take-set-lt (at + 1) rows at row (omega arith)) ∙ take_more_set rows at row (omega arith)
+
+    whole : take 64 (take at rows ++ (row ∷ drop at rows)) ≡ take at rows ++ (row ∷ moved)
+    whole =
+        let n : 64 ≡ length (take at rows) + suc (63 - at) = omega (arith, length-take-le at rows (omega arith)) in
+        ap (λ (k : ℕ). take k (take at rows ++ (row ∷ drop at rows))) n ∙ take-append-add (take at rows) (row ∷ drop at rows) (suc (63 - at))
 
 -- ── a row pooled, by its place ──
 pool-behind : (r s : Row) (rows : List Row) → s.class < r.class → pool r (s ∷ rows) ≡ s ∷ pool r rows

@@ -9,7 +9,8 @@
 -- Assumes nothing.
 use mathlib.Core.Path.{◌≡◌, refl, sym, ap, ap₂, subst, ◌∙◌}
 use mathlib.Core.List.{List, [], ◌∷◌, Memᴰ}
-use mathlib.Core.Option.{Option, none, some, get_or, none-ne-some, some-injective}
+use Rattle.std.specs.Prelude.{Option, None, Some, unwrap_or}
+use Rattle.std.proofs.lemmas.Option.{none-some, same_Some}
 use mathlib.Core.Bool.{Bool, true, false}
 use Prim.Native.Nat.{ℕ, ◌+◌, ◌≤◌, ◌<◌}
 use native.Mathlib.Omega.{arith}
@@ -25,34 +26,34 @@ use Rattle.tabulation.specs.declared.Row.{Row}
 -- ── the total under a class ──
 -- a weight more, where the test holds
 unfoldable pub more : Bool → ℕ → Option ℕ → Option ℕ
-more true w o = some (w + get_or o 0)
+more true w o = Some (w + unwrap_or o 0)
 more false w o = o
 
 pub more-swap : (s t : Bool) (v w : ℕ) (o : Option ℕ) → more s v (more t w o) ≡ more t w (more s v o)
 unfolding more
-more-swap true true v w o = ap {B = Option ℕ} some (omega arith)
+more-swap true true v w o = ap {B = Option ℕ} Some (omega arith)
 more-swap true false v w o = refl
 more-swap false true v w o = refl
 more-swap false false v w o = refl
 
 pub more-twice : (t : Bool) (v w : ℕ) (o : Option ℕ) → more t (v + w) o ≡ more t v (more t w o)
 unfolding more
-more-twice true v w o = ap {B = Option ℕ} some (omega arith)
+more-twice true v w o = ap {B = Option ℕ} Some (omega arith)
 more-twice false v w o = refl
 
-more-some : (t : Bool) (v w : ℕ) (o : Option ℕ) → o ≡ some w → (z : ℕ) × (more t v o ≡ some z)
+more-some : (t : Bool) (v w : ℕ) (o : Option ℕ) → o ≡ Some w → (z : ℕ) × (more t v o ≡ Some z)
 unfolding more
-more-some true v w o e = (v + get_or o 0, refl)
+more-some true v w o e = (v + unwrap_or o 0, refl)
 more-some false v w o e = (w, e)
 
-pub more-weight : (t : Bool) (w : ℕ) (o : Option ℕ) → get_or (more t w o) 0 ≡ pick t w 0 + get_or o 0
+pub more-weight : (t : Bool) (w : ℕ) (o : Option ℕ) → unwrap_or (more t w o) 0 ≡ pick t w 0 + unwrap_or o 0
 unfolding more pick
 more-weight true w o = refl
 more-weight false w o = omega arith
 
 -- none where no row has the class
 unfoldable pub under : ℕ → List Row → Option ℕ
-under c [] = none
+under c [] = None
 under c (r ∷ rows) = more (eqb r.class c) r.total (under c rows)
 
 -- a row is pooled with the first, comes before it, or goes on behind it
@@ -130,27 +131,27 @@ pooled-rises [] = tt
 pooled-rises (r ∷ rows) = pool-rises r (pooled rows) (pooled-rises rows)
 
 -- what holds of every row's class holds of a class that has a total
-under_all : (t : ℕ → Bool) (c : ℕ) (rows : List Row) (w : ℕ) → all_b (λ (s : Row). t s.class) rows ≡ true → under c rows ≡ some w → t c ≡ true
+under_all : (t : ℕ → Bool) (c : ℕ) (rows : List Row) (w : ℕ) → all_b (λ (s : Row). t s.class) rows ≡ true → under c rows ≡ Some w → t c ≡ true
 unfolding all_b under more
-under_all t c [] w p e = absurd (none-ne-some w e)
+under_all t c [] w p e = absurd (none-some w e)
 under_all t c (r ∷ rows) w p e = go (eqb r.class c) refl e (under_all t c rows w (both-1 _ _ p))
   where
-    go : (u : Bool) → eqb r.class c ≡ u → more u r.total (under c rows) ≡ some w → (under c rows ≡ some w → t c ≡ true) → t c ≡ true
+    go : (u : Bool) → eqb r.class c ≡ u → more u r.total (under c rows) ≡ Some w → (under c rows ≡ Some w → t c ≡ true) → t c ≡ true
     go true q e again = rw (← eqb-true r.class c q) (both-0 _ _ p)
     go false q e again = again e
 
-after_none : (c : ℕ) (rows : List Row) → After c rows → under c rows ≡ none
+after_none : (c : ℕ) (rows : List Row) → After c rows → under c rows ≡ None
 after_none c rows p = go (under c rows) refl
   where
-    go : (o : Option ℕ) → under c rows ≡ o → o ≡ none
-    go none e = refl
-    go (some w) e = absurd (omega (arith, ltb-true c c (under_all (λ d. ltb c d) c rows w p e)))
+    go : (o : Option ℕ) → under c rows ≡ o → o ≡ None
+    go None e = refl
+    go (Some w) e = absurd (omega (arith, ltb-true c c (under_all (λ d. ltb c d) c rows w p e)))
 
-first_under : (r : Row) (rows : List Row) → After r.class rows → under r.class (r ∷ rows) ≡ some r.total
+first_under : (r : Row) (rows : List Row) → After r.class rows → under r.class (r ∷ rows) ≡ Some r.total
 unfolding under more
-first_under r rows p = rw (eq-eqb r.class r.class refl, after_none r.class rows p) (ap {B = Option ℕ} some (omega arith))
+first_under r rows p = rw (eq-eqb r.class r.class refl, after_none r.class rows p) (ap {B = Option ℕ} Some (omega arith))
 
-first-least : (c : ℕ) (r : Row) (rows : List Row) (w : ℕ) → After r.class rows → under c (r ∷ rows) ≡ some w → r.class ≤ c
+first-least : (c : ℕ) (r : Row) (rows : List Row) (w : ℕ) → After r.class rows → under c (r ∷ rows) ≡ Some w → r.class ≤ c
 unfolding all_b
 first-least c r rows w p e = leb-true r.class c (under_all (λ d. leb r.class d) c (r ∷ rows) w
     (both_true _ _ (le-leb r.class r.class (omega arith))
@@ -168,8 +169,8 @@ rest-same r a b p q same c = go (eqb r.class c) refl (same c)
 pub rows_same : (a b : List Row) → Rising a → Rising b → ((c : ℕ) → under c a ≡ under c b) → a ≡ b
 unfolding under
 rows_same [] [] ra rb same = refl
-rows_same [] (s ∷ b) ra rb same = absurd (none-ne-some s.total (same s.class ∙ first_under s b rb.0))
-rows_same (r ∷ a) [] ra rb same = absurd (none-ne-some r.total (sym (same r.class) ∙ first_under r a ra.0))
+rows_same [] (s ∷ b) ra rb same = absurd (none-some s.total (same s.class ∙ first_under s b rb.0))
+rows_same (r ∷ a) [] ra rb same = absurd (none-some r.total (sym (same r.class) ∙ first_under r a ra.0))
 rows_same (r ∷ a) (s ∷ b) ra rb same =
     let first = first-row r s a b ra.0 rb.0 same in
     let rest : (After r.class b) × ((c : ℕ) → under c (r ∷ a) ≡ under c (r ∷ b)) =
@@ -178,34 +179,34 @@ rows_same (r ∷ a) (s ∷ b) ra rb same =
   where
     first-row : (r s : Row) (a b : List Row) → After r.class a → After s.class b → ((c : ℕ) → under c (r ∷ a) ≡ under c (s ∷ b)) → r ≡ s
     first-row r s a b p q same =
-        let theirs : under r.class (s ∷ b) ≡ some r.total = sym (same r.class) ∙ first_under r a p in
-        let ours : under s.class (r ∷ a) ≡ some s.total = same s.class ∙ first_under s b q in
+        let theirs : under r.class (s ∷ b) ≡ Some r.total = sym (same r.class) ∙ first_under r a p in
+        let ours : under s.class (r ∷ a) ≡ Some s.total = same s.class ∙ first_under s b q in
         let class : r.class ≡ s.class = omega (arith, first-least r.class s b r.total q theirs, first-least s.class r a s.total p ours) in
-        let total : r.total ≡ s.total = some-injective r.total s.total (sym theirs ∙ ap (λ (c : ℕ). under c (s ∷ b)) class ∙ first_under s b q) in
+        let total : r.total ≡ s.total = same_Some r.total s.total (sym theirs ∙ ap (λ (c : ℕ). under c (s ∷ b)) class ∙ first_under s b q) in
         ap₂ (λ (c : ℕ) (w : ℕ). record { class = c; total = w }) class total
 
 -- a class has a total exactly where it is listed
-mem-under : {r : Row} {rows : List Row} → Memᴰ r rows → (w : ℕ) × (under r.class rows ≡ some w)
+mem-under : {r : Row} {rows : List Row} → Memᴰ r rows → (w : ℕ) × (under r.class rows ≡ Some w)
 unfolding under more
-mem-under {r} (Memᴰ.head {x = x} {xs = xs} q) = (x.total + get_or (under r.class xs) 0, rw (eq-eqb x.class r.class (ap (λ (y : Row). y.class) (sym q))))
+mem-under {r} (Memᴰ.head {x = x} {xs = xs} q) = (x.total + unwrap_or (under r.class xs) 0, rw (eq-eqb x.class r.class (ap (λ (y : Row). y.class) (sym q))))
 mem-under {r} (Memᴰ.tail {x = x} {xs = xs} m) = let z = mem-under m in more-some (eqb x.class r.class) x.total z.0 (under r.class xs) z.1
 
-pub listed-under : (c : ℕ) (rows : List Row) → Listed c rows → (w : ℕ) × (under c rows ≡ some w)
+pub listed-under : (c : ℕ) (rows : List Row) → Listed c rows → (w : ℕ) × (under c rows ≡ Some w)
 listed-under c rows l = rw (← l.2) (mem-under l.1)
 
-pub under-listed : (c : ℕ) (rows : List Row) (w : ℕ) → under c rows ≡ some w → Listed c rows
+pub under-listed : (c : ℕ) (rows : List Row) (w : ℕ) → under c rows ≡ Some w → Listed c rows
 unfolding under more
-under-listed c [] w e = absurd (none-ne-some w e)
+under-listed c [] w e = absurd (none-some w e)
 under-listed c (r ∷ rows) w e = go (eqb r.class c) refl e (under-listed c rows w)
   where
-    go : (u : Bool) → eqb r.class c ≡ u → more u r.total (under c rows) ≡ some w → (under c rows ≡ some w → Listed c rows) → Listed c (r ∷ rows)
+    go : (u : Bool) → eqb r.class c ≡ u → more u r.total (under c rows) ≡ Some w → (under c rows ≡ Some w → Listed c rows) → Listed c (r ∷ rows)
     go true q e again = (r, Memᴰ.head refl, eqb-true r.class c q)
     go false q e again = let l = again e in (l.0, Memᴰ.tail l.1, l.2)
 
 -- where the rows rise, its own row's
-pub row_under : {r : Row} {rows : List Row} → Memᴰ r rows → Rising rows → under r.class rows ≡ some r.total
+pub row_under : {r : Row} {rows : List Row} → Memᴰ r rows → Rising rows → under r.class rows ≡ Some r.total
 unfolding under more
-row_under {r} (Memᴰ.head {x = x} {xs = xs} q) h = subst (λ (y : Row). under y.class (x ∷ xs) ≡ some y.total) (sym q) (first_under x xs h.0)
+row_under {r} (Memᴰ.head {x = x} {xs = xs} q) h = subst (λ (y : Row). under y.class (x ∷ xs) ≡ Some y.total) (sym q) (first_under x xs h.0)
 row_under {r} (Memᴰ.tail {x = x} {xs = xs} m) h =
     let own = row_under m h.1 in
     let before : x.class < r.class = ltb-true _ _ (under_all (λ d. ltb x.class d) r.class xs r.total h.0 own) in

@@ -12,7 +12,7 @@ pub struct Row {
     pub total: u64,
 }
 
-// The first `count` rows; those past them are zero.
+// The first `count` rows; those past them are zero. A count beside an array, as the sheet that C has.
 #[derive(Clone, Copy)]
 pub struct Rows {
     pub count: usize,
@@ -35,13 +35,10 @@ fn place(rows: [Row; 64], count: usize, class: u32) -> usize
     requires { count ≤ 64 }
     ensures { (result ≡ place_of class (take count rows)) × (result ≤ count) }
 {
-    for i in 0..count {
-        let row = rows[i];
-        if row.class >= class {
-            return i;
-        }
-    }
-    count
+    rows[..count]
+        .iter()
+        .position(|row| row.class >= class)
+        .unwrap_or(count)
 }
 
 // The rows from `at` on moved by one, the last of them out, and the row put before them.
@@ -50,12 +47,8 @@ fn insert(rows: [Row; 64], at: usize, row: Row) -> [Row; 64]
     ensures { result ≡ take 64 (take at rows ++ (row ∷ drop at rows)) }
 {
     let mut next = rows;
-    let mut carried = row;
-    for i in at..64 {
-        let here = next[i];
-        next[i] = carried;
-        carried = here;
-    }
+    next.copy_within(at..63, at + 1);
+    next[at] = row;
     next
 }
 
@@ -91,9 +84,8 @@ pub fn tabulate(codes: [u32; 64], met: [bool; 64], totals: [u64; 64]) -> Rows
     ensures { result ≡ rows_of (pooled (line_rows codes met totals)) }
 {
     let mut sheet = no_rows();
-    let mut i: usize = 64;
-    while i > 0 {
-        i = i - 1;
+    // A loop over the line's number: it walks three arrays by it, from the last line to the first.
+    for i in (0..64).rev() {
         if met[i] {
             let class = codes[i];
             let total = totals[i];

@@ -7,7 +7,7 @@ use mathlib.Core.Path.{◌≡◌, refl, sym, ap, ap₂, subst, subst₂, ◌∙�
 use mathlib.Core.Bool.{Bool, true, false}
 use mathlib.Core.Logic.{◌⊎◌, inl, inr}
 use mathlib.Core.List.{List, [], ◌++◌, map}
-use mathlib.Core.Option.{Option, none, some}
+use Rattle.std.specs.Prelude.{Option, None, Some}
 use Prim.Native.Nat.{ℕ, ◌+◌, ◌-◌, ◌<◌, ◌≤◌}
 use native.Mathlib.Omega.{arith}
 use lib.ListN.{length, take, drop, replicate}
@@ -76,13 +76,13 @@ module _ (r : Record) (words s : List ℕ) (done : (take_of r words s).number �
   folded_after : folded_by (take_of r words s).«record» (take_words r words s) ≡ after
   folded_after = ap₂ folded_by left.0 left.1 ∙ folded-by r words found.sounds after more within
 
-  same-content : (c : Content) → reading s ≡ some c → found.content ≡ c
-  same-content c e = let q : some found.content ≡ some c = sym found.reads ∙ e in cc
+  same-content : (c : Content) → reading s ≡ Some c → found.content ≡ c
+  same-content c e = let q : Some found.content ≡ Some c = sym found.reads ∙ e in cc
 
-  pub take-state : (c : Content) → reading s ≡ some c → folded_by (take_of r words s).«record» (take_words r words s) ≡ with_folded_take r.own (as_packet c) (folded_by r words)
+  pub take-state : (c : Content) → reading s ≡ Some c → folded_by (take_of r words s).«record» (take_words r words s) ≡ with_folded_take r.own (as_packet c) (folded_by r words)
   take-state c e = folded_after ∙ ap (λ (d : Content). with_folded_take r.own (as_packet d) (folded_by r words)) (same-content c e)
 
-  pub take-kept : (c : Content) → reading s ≡ some c → (take_of r words s).«record».kept ≡ kept_by r words (with_folded_take r.own (as_packet c) (folded_by r words))
+  pub take-kept : (c : Content) → reading s ≡ Some c → (take_of r words s).«record».kept ≡ kept_by r words (with_folded_take r.own (as_packet c) (folded_by r words))
   take-kept c e = ap (λ (x : Record). x.kept) left.0 ∙ ap (λ (d : Content). kept_by r words (with_folded_take r.own (as_packet d) (folded_by r words))) (same-content c e)
 
   same-weights : found.content.weights ≡ take r.n r.weights
@@ -175,7 +175,7 @@ refuse-seven k m f e = go (take-values k m f)
     go (inr (inr (inr (inr q)))) = omega (arith, q, e)
 
 module _ (r : Record) (words : List ℕ) (S : Sound r words) where
-  read-seven : (s : List ℕ) (c : Content) → reading s ≡ some c → take_number r words s ≡ 7 → ⊥
+  read-seven : (s : List ℕ) (c : Content) → reading s ≡ Some c → take_number r words s ≡ 7 → ⊥
   read-seven s c e q = go (same_offices r c) refl
     where
       go : (b : Bool) → same_offices r c ≡ b → ⊥
@@ -189,5 +189,5 @@ module _ (r : Record) (words : List ℕ) (S : Sound r words) where
   reads_only s bytes h = go (reading s) refl
     where
       go : (x : Option Content) → reading s ≡ x → (c : Content) × (valid_content c ≡ true) × (spelling c ≡ s)
-      go none e = absurd (h (not-read r words s S e))
-      go (some c) e = let t = spelling-reading s c bytes e in (c, t.1, t.0)
+      go None e = absurd (h (not-read r words s S e))
+      go (Some c) e = let t = spelling-reading s c bytes e in (c, t.1, t.0)

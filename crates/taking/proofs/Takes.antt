@@ -5,8 +5,8 @@
 -- Assumes nothing.
 use mathlib.Core.Path.{◌≡◌, refl, sym, ap, ap₂, subst, ◌∙◌}
 use mathlib.Core.Bool.{Bool, true, false, not, cond}
-use mathlib.Core.List.{List, ◌++◌, map}
-use mathlib.Core.Option.{Option, none, some}
+use mathlib.Core.List.{List, [], ◌++◌, map}
+use Rattle.std.specs.Prelude.{Option, None, Some}
 use Prim.Native.Nat.{ℕ, ◌-◌, ◌*◌, ◌<◌, ◌≤◌}
 use native.Mathlib.Omega.{arith}
 use lib.Dec.{eqb}
@@ -31,14 +31,13 @@ use Rattle.spelling.specs.Spelling.{head_size}
 use Rattle.spelling.proofs.Valid.{Valid, valid-facts, valid-office}
 use Rattle.spelling.proofs.Laws.{reading-valid, reading-log, reading-room}
 use Rattle.readings.specs.declared.Reading.{Reading}
-use Rattle.readings.specs.Read.{bad_reading}
 use Rattle.message_heads.specs.Heads.{eight_weights}
-use Rattle.reading.specs.Read.{reading_of, ballots_of}
+use Rattle.reading.specs.Read.{read_as, reading_of, ballots_of}
+use Rattle.std.proofs.lemmas.Option.{none-some, same_Some}
 use Rattle.shared_places.specs.FromEnd.{compares}
 use Rattle.acceptance.specs.Acceptance.{packet_in, refusal_of, checked_of}
-use Rattle.comparing.specs.Checking.{checked_by}
-use Rattle.comparing.specs.declared.Checked.{Checked}
-use Rattle.acceptance.proofs.Numbers.{refusal-folded}
+use Rattle.comparing.specs.Checking.{Checked, checked_by}
+use Rattle.acceptance.proofs.Numbers.{checked-number, refusal-folded}
 use Rattle.reading.proofs.Answers.{rest-of-message}
 use Rattle.frame.specs.State.{held_length, folded_by, holding}
 use Rattle.frame.specs.Soundness.{sound_b, Sound}
@@ -67,10 +66,10 @@ pub record Says (m : Reading) (c : Content) : Type 0 where
   pub head : m.head ≡ head_size c.n
   pub ballots : m.ballots ≡ map ballot_of (as_packet c).state.tails
 
-pub says : (m : Reading) (o : Option Content) (c : Content) → m ≡ reading_of o → o ≡ some c → Says m c
+pub says : (m : Reading) (o : Option Content) (c : Content) → Some m ≡ reading_of o → o ≡ Some c → Says m c
 unfolding reading_of ballots_of as_packet
 says m o c e q =
-    let w : m ≡ reading_of (some c) = e ∙ ap reading_of q in
+    let w : m ≡ read_as c = same_Some _ _ (e ∙ ap reading_of q) in
     record {
       sender = ap (λ (x : Reading). x.sender) w;
       n = ap (λ (x : Reading). x.n) w;
@@ -82,7 +81,7 @@ says m o c e q =
     }
 
 -- what was read is within the limits
-pub valid : (s : List ℕ) (c : Content) → reading s ≡ some c → Valid c
+pub valid : (s : List ℕ) (c : Content) → reading s ≡ Some c → Valid c
 valid s c e = valid-facts c (reading-valid s c e)
 
 -- ── the number ──
@@ -92,11 +91,11 @@ module _ (r : Record) (words s : List ℕ) where
   not_sound e = rw e
 
   module _ (S : Sound r words) where
-    pub not-read : reading s ≡ none → take_number r words s ≡ 7
+    pub not-read : reading s ≡ None → take_number r words s ≡ 7
     unfolding take_number pick
     not-read e = rw (sound-true r words S, e)
 
-    module _ (c : Content) (e : reading s ≡ some c) where
+    module _ (c : Content) (e : reading s ≡ Some c) where
       pub number_read : take_number r words s ≡ pick (not (same_offices r c)) 8 (refuse_folded_take r.own (as_packet c) (folded_by r words))
       unfolding take_number pick
       number_read = rw (sound-true r words S, e)
@@ -115,10 +114,10 @@ unfolding take_places
 no-places r words s e = go (reading s)
   where
     go : (x : Option Content) → ◌≡◌ {A = ℕ} 0 (on_reading x 0 (λ c. pick (compares (take_number r words s)) (shared_places (as_packet c) (folded_by r words)) 0))
-    go none = refl
-    go (some c) = sym (pick-false (compares (take_number r words s)) (shared_places (as_packet c) (folded_by r words)) 0 e)
+    go None = refl
+    go (Some c) = sym (pick-false (compares (take_number r words s)) (shared_places (as_packet c) (folded_by r words)) 0 e)
 
-places-said : (r : Record) (words s : List ℕ) (c : Content) → reading s ≡ some c → take_places r words s ≡ pick (compares (take_number r words s)) (shared_places (as_packet c) (folded_by r words)) 0
+places-said : (r : Record) (words s : List ℕ) (c : Content) → reading s ≡ Some c → take_places r words s ≡ pick (compares (take_number r words s)) (shared_places (as_packet c) (folded_by r words)) 0
 unfolding take_places
 places-said r words s c e = ap (λ (x : Option Content). on_reading x 0 (λ c. pick (compares (take_number r words s)) (shared_places (as_packet c) (folded_by r words)) 0)) e
 
@@ -156,14 +155,14 @@ rest_of m s = take (length s - m.head) (drop m.head s)
 abbrev pub log_in : Reading → List ℕ → List ℕ
 log_in m s = run_at 6 record_at m.held (rest_of m s)
 
-log-in : (m : Reading) (s : List ℕ) (c : Content) → Says m c → reading s ≡ some c → log_in m s ≡ c.log
+log-in : (m : Reading) (s : List ℕ) (c : Content) → Says m c → reading s ≡ Some c → log_in m s ≡ c.log
 log-in m s c f e = rw (rest-of-message s m.head, f.head, f.held) (reading-log s c e)
 
 pub tails-in : (m : Reading) (c : Content) → Says m c → map tail_of m.ballots ≡ (as_packet c).state.tails
 tails-in m c f = ap (map tail_of) f.ballots ∙ tails-of (as_packet c).state.tails
 
 -- what was read is the message
-pub packet-in : (m : Reading) (s : List ℕ) (c : Content) → Says m c → reading s ≡ some c → packet_in (rest_of m s) m ≡ as_packet c
+pub packet-in : (m : Reading) (s : List ℕ) (c : Content) → Says m c → reading s ≡ Some c → packet_in (rest_of m s) m ≡ as_packet c
 unfolding as_packet
 packet-in m s c f e =
     let l = log-in m s c f e in
@@ -179,87 +178,96 @@ done-comparable k m o e = go (eqb m.sender k) (comparable o.log m.state.log) e
     go false true e = refl
     go false false e = absurd (omega arith)
 
--- the number that is found by the reading
-module _ (r : Record) (words s : List ℕ) (S : Sound r words) (m : Reading) (is : m ≡ reading_of (reading s)) where
-  abbrev checked : Checked
-  checked = checked_of r.n r.own r.weights r.kept.dropped words (held_length r) (rest_of m s) m
+-- a message that was read
+module _ (r : Record) (words s : List ℕ) (S : Sound r words) (m : Reading) (is : Some m ≡ reading_of (reading s)) where
+  -- some message was read
+  said : (c : Content) × (reading s ≡ Some c)
+  unfolding reading_of
+  said = go (reading s) refl
+    where
+      go : (x : Option Content) → reading s ≡ x → (c : Content) × (reading s ≡ Some c)
+      go None e = absurd (none-some m (sym (is ∙ ap reading_of e)))
+      go (Some c) e = (c, e)
 
-  abbrev found : ℕ
-  found = refusal_of r.n r.own r.weights r.kept.dropped words (held_length r) (rest_of m s) m
-
-  not-read-found : reading s ≡ none → found ≡ 7
-  unfolding refusal_of pick reading_of bad_reading
-  not-read-found e = let no : m.ok ≡ false = ap (λ (x : Reading). x.ok) (is ∙ ap reading_of e) in rw no
-
-  module _ (c : Content) (e : reading s ≡ some c) where
+  module _ (c : Content) (e : reading s ≡ Some c) where
     abbrev message : Says m c
     message = says m (reading s) c is e
-
-    ok : m.ok ≡ true
-    unfolding reading_of
-    ok = ap (λ (x : Reading). x.ok) (is ∙ ap reading_of e)
 
     counted : (b : Bool) → eqb c.n r.n ≡ b → both (eqb m.n r.n) (same m.weights r.weights) ≡ same_offices r c
     unfolding same_offices both
     counted true q = rw (message.n, q, message.weights) (weights-like r c words S (valid s c e).weights-length (eqb-true c.n r.n q))
     counted false q = rw (message.n, q)
 
-    read_found : found ≡ pick (not (same_offices r c)) 8 (refuse_folded_take r.own (as_packet c) (folded_by r words))
+    number-of-message : refusal_of r.n r.own r.weights r.kept.dropped (take (held_length r) words) (rest_of m s) (Some m) ≡ take_number r words s
     unfolding pick
-    read_found =
-        refusal-folded r.n r.own r.weights r.kept.dropped words (held_length r) (rest_of m s) m r.ballots r.noted
-        ∙ rw (ok, counted (eqb c.n r.n) refl)
+    number-of-message =
+        refusal-folded r.n r.own r.weights r.kept.dropped (take (held_length r) words) (rest_of m s) (Some m) (map tail_of r.ballots) r.noted
+        ∙ rw (counted (eqb c.n r.n) refl)
         (ap (λ (p : F.Packet). pick (not (same_offices r c)) 8 (refuse_folded_take r.own p (folded_by r words))) (packet-in m s c message e))
+        ∙ sym (number_read r words s S c e)
 
-  number_at : found ≡ take_number r words s
-  number_at = go (reading s) refl
-    where
-      go : (x : Option Content) → reading s ≡ x → found ≡ take_number r words s
-      go none e = not-read-found e ∙ sym (not-read r words s S e)
-      go (some c) e = read_found c e ∙ sym (number_read r words s S c e)
+    places-of-message : (checked_of r.n r.own r.weights r.kept.dropped (take (held_length r) words) (rest_of m s) (Some m)).places ≡ take_places r words s
+    unfolding checked_of checked_by compares pick
+    places-of-message =
+        ap (λ (k : ℕ). pick (compares k) (shared_places (packet_in (rest_of m s) m) (folded_by r words)) 0) number-of-message
+        ∙ ap (λ (p : F.Packet). pick (compares (take_number r words s)) (shared_places p (folded_by r words)) 0) (packet-in m s c message e)
+        ∙ sym (places-said r words s c e)
 
-  -- and so are the places
-  places-at : checked.places ≡ take_places r words s
-  unfolding checked_of checked_by compares pick
-  places-at = ap (λ (k : ℕ). pick (compares k) (shared_places (packet_in (rest_of m s) m) (folded_by r words)) 0) number_at ∙ go (reading s) refl
-    where
-      go : (x : Option Content) → reading s ≡ x → pick (compares (take_number r words s)) (shared_places (packet_in (rest_of m s) m) (folded_by r words)) 0 ≡ take_places r words s
-      go none e = let seven = not-read r words s S e in ap (λ (k : ℕ). pick (compares k) (shared_places (packet_in (rest_of m s) m) (folded_by r words)) 0) seven ∙ no-places r words s (ap compares seven)
-      go (some c) e = ap (λ (p : F.Packet). pick (compares (take_number r words s)) (shared_places p (folded_by r words)) 0) (packet-in m s c (message c e) e) ∙ sym (places-said r words s c e)
-
-  -- with the held length as the code has it
-  abbrev pub checked_with : ℕ → Checked
-  checked_with held = checked_of r.n r.own r.weights r.kept.dropped words held (rest_of m s) m
-
-  pub number-found : (held : ℕ) → held ≡ held_length r → (x : Checked) → x ≡ checked_with held → x.number ≡ take_number r words s
-  unfolding checked_of checked_by
-  number-found held e x q = ap (λ (y : Checked). y.number) (q ∙ ap checked_with e) ∙ number_at
-
-  pub places-found : (held : ℕ) → held ≡ held_length r → (x : Checked) → x ≡ checked_with held → x.places ≡ take_places r words s
-  places-found held e x q = ap (λ (y : Checked). y.places) (q ∙ ap checked_with e) ∙ places-at
-
-  -- the lengths that the code's walks ask, whatever was read
+  -- the lengths that the code's walks ask
   pub head-within : m.head ≤ length s
-  unfolding reading_of bad_reading
-  head-within = go (reading s) refl
-    where
-      go : (x : Option Content) → reading s ≡ x → m.head ≤ length s
-      go none e = let z : m.head ≡ 0 = ap (λ (y : Reading). y.head) (is ∙ ap reading_of e) in omega (arith, z)
-      go (some c) e = omega (arith, reading-room s c e, (message c e).head)
+  head-within = omega (arith, reading-room s said.0 said.1, (message said.0 said.1).head)
 
   pub log-within : 6 * m.held ≤ length s - m.head
-  unfolding reading_of bad_reading
-  log-within = go (reading s) refl
-    where
-      go : (x : Option Content) → reading s ≡ x → 6 * m.held ≤ length s - m.head
-      go none e = let z : m.held ≡ 0 = ap (λ (y : Reading). y.held) (is ∙ ap reading_of e) in omega (arith, z)
-      go (some c) e = omega (arith, reading-room s c e, (message c e).held, (message c e).head)
+  log-within = omega (arith, reading-room s said.0 said.1, (message said.0 said.1).held, (message said.0 said.1).head)
+
+-- nothing was read
+pub none-read : (s : List ℕ) → None ≡ reading_of (reading s) → reading s ≡ None
+unfolding reading_of
+none-read s is = go (reading s) refl
+  where
+    go : (x : Option Content) → reading s ≡ x → reading s ≡ None
+    go None e = e
+    go (Some c) e = absurd (none-some (read_as c) (is ∙ ap reading_of e))
+
+-- what is lent of the message, by what it was read as: nothing where it is none
+abbrev pub rest_in : Option Reading → List ℕ → List ℕ
+rest_in None s = []
+rest_in (Some m) s = rest_of m s
+
+-- the number and the places that are found by the reading are the call's
+module _ (r : Record) (words s : List ℕ) (S : Sound r words) where
+  -- with the held log as the code lends it
+  abbrev pub checked_with : Option Reading → List ℕ → Checked
+  checked_with o log = checked_of r.n r.own r.weights r.kept.dropped log (rest_in o s) o
+
+  abbrev found : Option Reading → ℕ
+  found o = refusal_of r.n r.own r.weights r.kept.dropped (take (held_length r) words) (rest_in o s) o
+
+  pub number_at : (o : Option Reading) → o ≡ reading_of (reading s) → found o ≡ take_number r words s
+  unfolding refusal_of
+  number_at None is = sym (not-read r words s S (none-read s is))
+  number_at (Some m) is = let c = said r words s S m is in number-of-message r words s S m is c.0 c.1
+
+  pub places-at : (o : Option Reading) → o ≡ reading_of (reading s) → (checked_with o (take (held_length r) words)).places ≡ take_places r words s
+  unfolding checked_of compares pick
+  places-at None is = no-places r words s (ap compares (not-read r words s S (none-read s is)))
+  places-at (Some m) is = let c = said r words s S m is in places-of-message r words s S m is c.0 c.1
+
+  module _ (o : Option Reading) (is : o ≡ reading_of (reading s)) (log : List ℕ) (h : log ≡ take (held_length r) words) (x : Checked) (q : x ≡ checked_with o log) where
+    pub number-found : x.number ≡ take_number r words s
+    number-found =
+        ap (λ (y : Checked). y.number) (q ∙ ap (checked_with o) h)
+        ∙ checked-number r.n r.own r.weights r.kept.dropped (take (held_length r) words) (rest_in o s) o
+        ∙ number_at o is
+
+    pub places-found : x.places ≡ take_places r words s
+    places-found = ap (λ (y : Checked). y.places) (q ∙ ap (checked_with o) h) ∙ places-at o is
 
 -- ── an accepted message ──
 pub record Accepted (r : Record) (words s : List ℕ) : Type 0 where
   pub sounds : Sound r words
   pub content : Content
-  pub reads : reading s ≡ some content
+  pub reads : reading s ≡ Some content
   pub offices : same_offices r content ≡ true
   pub done : refuse_folded_take r.own (as_packet content) (folded_by r words) ≡ 0
 
@@ -270,15 +278,15 @@ accepted r words s e = go (sound_b r words) refl (reading s) refl e
     behind : Content → ℕ
     behind c = pick (not (same_offices r c)) 8 (refuse_folded_take r.own (as_packet c) (folded_by r words))
 
-    like-offices : (S : sound_b r words ≡ true) (c : Content) → reading s ≡ some c → (b : Bool) → same_offices r c ≡ b
+    like-offices : (S : sound_b r words ≡ true) (c : Content) → reading s ≡ Some c → (b : Bool) → same_offices r c ≡ b
         → ◌≡◌ {A = ℕ} (pick (not b) 8 (refuse_folded_take r.own (as_packet c) (folded_by r words))) 0 → Accepted r words s
     like-offices S c q true o e = record { sounds = sound r words S; content = c; reads = q; offices = o; done = e }
     like-offices S c q false o e = absurd (omega arith)
 
     go : (b : Bool) → sound_b r words ≡ b → (x : Option Content) → reading s ≡ x → ◌≡◌ {A = ℕ} (pick (not b) 1 (on_reading x 7 behind)) 0 → Accepted r words s
     go false S x q e = absurd (omega arith)
-    go true S none q e = absurd (omega arith)
-    go true S (some c) q e = like-offices S c q (same_offices r c) refl e
+    go true S None q e = absurd (omega arith)
+    go true S (Some c) q e = like-offices S c q (same_offices r c) refl e
 
 -- it is of the record's offices, and within the limits
 pub same_count : (r : Record) (words s : List ℕ) (a : Accepted r words s) → a.content.n ≡ r.n

@@ -22,6 +22,7 @@ use Rattle.spelling.specs.Content.{Content, as_packet}
 use Rattle.spelling.specs.Reading.{reading, record_at}
 use Rattle.spelling.proofs.Valid.{Valid, settled-length}
 use Rattle.spelling.proofs.Laws.{reading-room}
+use Rattle.std.specs.Prelude.{Some}
 use Rattle.reading.specs.Read.{reading_of}
 use Rattle.readings.specs.declared.Reading.{Reading}
 use Rattle.intake.specs.Intake.{taken_in, intaken_of, Ready}
@@ -40,7 +41,7 @@ use Rattle.frame.proofs.State as Held
 use Rattle.taking.proofs.Takes.{Says, says, valid, rest_of, packet-in, tails-in, done-comparable, Accepted, accepted, packet-fine, taken-office, take-done-is, take-answer}
 
 -- ── the code's work on an accepted message ──
-module _ (r : Record) (words s : List ℕ) (m : Reading) (e : take_number r words s ≡ 0) (is : m ≡ reading_of (reading s)) where
+module _ (r : Record) (words s : List ℕ) (m : Reading) (e : take_number r words s ≡ 0) (is : Some m ≡ reading_of (reading s)) where
   taken : Accepted r words s
   taken = accepted r words s e
 

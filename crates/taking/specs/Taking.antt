@@ -1,6 +1,6 @@
 -- "Take works on an accepted message", and on no other bytes. Assumes nothing.
 use Rattle.std.specs.Prelude.{ℕ, Bool, not, List, eqb, take}
-use Rattle.std.proofs.Math.Option.{Option, none, some}
+use Rattle.std.specs.Prelude.{Option, None, Some}
 use Rattle.lists.specs.Tests.{both, pick, same}
 use Rattle.protocol.specs.Folding as F
 use Rattle.shared_places.specs.FromEnd.{compares, places_from_end}
@@ -18,8 +18,8 @@ same_offices r c = both (eqb c.n r.n) (same c.weights (take r.n r.weights))
 
 -- what follows the reading of bytes: `a` where they are no message, `go c` where they are one that says c
 abbrev pub on_reading : {A : Type 0} → Option Content → A → (Content → A) → A
-on_reading none a go = a
-on_reading (some c) a go = go c
+on_reading None a go = a
+on_reading (Some c) a go = go c
 
 -- 1: "record unsound, or log below 1024 words"; 7: "message not of the layout, .."; 8: "message's n or weights differ from the record's";
 -- 9, 16, 17 and 10 are the protocol's

@@ -1,32 +1,19 @@
--- The first part, byte by byte.
---     part-stop, part-next, part_none     at a mark, at another byte, at the end
+-- The first part.
 --     part-within     it ends within the bytes
+--     part-taken     it is what comes before the first mark
 -- Assumes nothing.
-use mathlib.Core.Path.{◌≡◌}
+use mathlib.Core.Path.{◌≡◌, refl, ap}
+use mathlib.Core.Bool.{Bool, true, false}
 use mathlib.Core.List.{List, [], ◌∷◌}
-use Prim.Native.Nat.{ℕ, suc, ◌+◌, ◌<◌, ◌≤◌, zero-le, suc-le-suc}
-use native.Mathlib.Numerals.{add-one}
+use Prim.Native.Nat.{ℕ, suc, ◌+◌, ◌≤◌, zero-le, suc-le-suc}
 use native.Mathlib.Omega.{arith}
 use lib.Dec.{eqb}
-use lib.ListN.{length, get_or, drop, drop_of_length-le, length-drop}
-use lib.Seq.{drop-cons}
-use borrow.Author.Tests.{eq-eqb, ne_eqb}
+use lib.ListN.{length, drop, length-drop}
+use Rattle.std.specs.Prelude.{◌==◌, not, take_while}
+use Rattle.std.proofs.lemmas.List.Sums.{take_while-cons}
 use Rattle.lists.specs.Tests.{pick}
 use Rattle.lists.proofs.Tests.{pick-cases}
 use Rattle.text_parts.specs.Parts.{part_length}
-
-module _ (mark : ℕ) (s : List ℕ) (i : ℕ) where
-  pub part-stop : i < length s → get_or s i 0 ≡ mark → part_length mark (drop i s) ≡ 0
-  unfolding part_length pick
-  part-stop h e = rw (drop-cons s i 0 h, eq-eqb (get_or s i 0) mark e)
-
-  pub part-next : i < length s → (get_or s i 0 ≡ mark → ⊥) → part_length mark (drop i s) ≡ suc (part_length mark (drop (i + 1) s))
-  unfolding part_length pick
-  part-next h e = rw (add-one, drop-cons s i 0 h, ne_eqb (get_or s i 0) mark e)
-
-  pub part_none : length s ≤ i → part_length mark (drop i s) ≡ 0
-  unfolding part_length
-  part_none h = rw (drop_of_length-le s h)
 
 pub part-short : (mark : ℕ) (s : List ℕ) → part_length mark s ≤ length s
 unfolding part_length
@@ -35,3 +22,15 @@ part-short mark (b ∷ s) = pick-cases (λ (k : ℕ). k ≤ suc (length s)) (eqb
 
 pub part-within : (mark : ℕ) (s : List ℕ) (at : ℕ) → at ≤ length s → at + part_length mark (drop at s) ≤ length s
 part-within mark s at h = omega (arith, part-short mark (drop at s), length-drop at s)
+
+-- what a chain that stops at the mark takes
+taken-by : (mark b : ℕ) (s : List ℕ) (t : Bool) → eqb b mark ≡ t → part_length mark s ≡ length (take_while (λ (c : ℕ). not (c == mark)) s)
+    → part_length mark (b ∷ s) ≡ length (take_while (λ (c : ℕ). not (c == mark)) (b ∷ s))
+unfolding part_length pick
+taken-by mark b s true e h = rw (take_while-cons, e)
+taken-by mark b s false e h = rw (take_while-cons, e) (ap suc h)
+
+pub part-taken : (mark : ℕ) (s : List ℕ) → part_length mark s ≡ length (take_while (λ (b : ℕ). not (b == mark)) s)
+unfolding part_length
+part-taken mark [] = refl
+part-taken mark (b ∷ s) = taken-by mark b s (eqb b mark) refl (part-taken mark s)

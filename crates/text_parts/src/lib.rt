@@ -1,19 +1,19 @@
 // The parts of a text that a mark ends.
 #![tactic(auto)]
 
-ghost use Rattle.std.specs.Prelude.{◌≡◌, ◌+◌, drop};
+ghost use Rattle.std.specs.Prelude.{◌≡◌, ◌+◌, ◌==◌, not, drop, length, take_while};
 ghost use Rattle.text_parts.specs.Parts.{part_length};
+
+// How many bytes from `at` on stand before the next mark, or before the end.
+fn part_length(bytes: &[u8], at: usize, mark: u8) -> usize
+    ensures { result ≡ length (take_while (λ b. not (b == mark)) (drop at bytes.now)) }
+{
+    bytes.iter().skip(at).take_while(|b| **b != mark).count()
+}
 
 // Where the part that begins at `at` ends: at the next mark, or at the end.
 pub fn part_end(bytes: &[u8], at: usize, mark: u8) -> usize
     ensures { result ≡ at + part_length mark (drop at bytes.now) }
 {
-    let mut i = at;
-    while i < bytes.len() {
-        if bytes[i] == mark {
-            return i;
-        }
-        i += 1;
-    }
-    i
+    at + part_length(bytes, at, mark)
 }

@@ -10,37 +10,22 @@ ghost use Rattle.protocol.specs.Vote.{above};
 fn count_for(counts: [u64; 8], entry: u32) -> u64
     ensures { result ≡ count_of counts (office_of entry) }
 {
-    let office = words::office_of(entry);
-    if office >= 8 {
-        return 0;
-    }
-    counts[office]
+    counts.get(words::office_of(entry)).copied().unwrap_or(0)
 }
 
 // Whether a tie goes to the entry and not to the other: the office with fewer settled entries first, then the lower value.
+#[tactic(auto, unfolding(protocol::specs::Counts::quieter_by))]
 fn is_before(counts: [u64; 8], entry: u32, other: u32) -> bool
     ensures { result ≡ quieter_by counts entry other }
 {
     let mine = count_for(counts, entry);
     let theirs = count_for(counts, other);
-    if mine < theirs {
-        return true;
-    }
-    if mine != theirs {
-        return false;
-    }
-    entry < other
+    mine < theirs || mine == theirs && entry < other
 }
 
 // Whether a is above b, or equal to it with the entry before the other: "T(e) > T(f) + U, or T(e) = T(f) + U" and the tie goes to e.
 pub fn is_above(counts: [u64; 8], a: u32, b: u32, entry: u32, other: u32) -> bool
     ensures { result ≡ above (quieter_by counts) a b entry other }
 {
-    if b < a {
-        return true;
-    }
-    if a != b {
-        return false;
-    }
-    is_before(counts, entry, other)
+    b < a || a == b && is_before(counts, entry, other)
 }

@@ -8,7 +8,7 @@ use mathlib.Core.Path.{◌≡◌, refl}
 use Prim.Native.Nat.{ℕ}
 use lib.ListN.{set, replicate}
 use Rattle.frame.specs.State.{fresh_record}
-use Rattle.trial_digests.specs.Digest.{digest_with, digest_from, ballots_numbers, numbers_of}
+use Rattle.trial_digests.specs.Digest.{digest_with, digest_from, all_numbers, numbers_of}
 
 settled-part : digest_from 0 (327800 ∷ []) ≡ 327801
 unfolding digest_with
@@ -22,5 +22,5 @@ abbrev weights : List ℕ
 weights = 40 ∷ 35 ∷ 25 ∷ 0 ∷ 0 ∷ 0 ∷ 0 ∷ 0 ∷ []
 
 founded : digest_from 0 (numbers_of (fresh_record 3 0 weights) ++ (1024 ∷ (replicate 1024 4294967295 ++ (0 ∷ [])))) ≡ 909801632
-unfolding digest_with ballots_numbers
+unfolding digest_with all_numbers
 founded = refl

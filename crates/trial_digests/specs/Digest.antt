@@ -17,9 +17,16 @@ digest_from h xs = foldl digest_with h xs
 abbrev pub ballot_numbers : Ballot → List ℕ
 ballot_numbers b = b.len ∷ b.cells
 
-unfoldable pub ballots_numbers : List Ballot → List ℕ
-ballots_numbers [] = []
-ballots_numbers (b ∷ bs) = ballot_numbers b ++ ballots_numbers bs
+-- the numbers of each of these, behind each other; a number is its own
+unfoldable pub all_numbers : {A : Type 0} → (A → List ℕ) → List A → List ℕ
+all_numbers f [] = []
+all_numbers f (x ∷ xs) = f x ++ all_numbers f xs
+
+abbrev pub one : ℕ → List ℕ
+one x = x ∷ []
+
+abbrev pub ballots_numbers : List Ballot → List ℕ
+ballots_numbers bs = all_numbers ballot_numbers bs
 
 -- "dropped, q0 … q7, the 64 kept codes, the eight kept counts"
 abbrev pub kept_numbers : Kept → List ℕ

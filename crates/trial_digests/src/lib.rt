@@ -1,13 +1,12 @@
 // The digest of numbers, of words and bytes, and of a record.
 #![tactic(auto)]
 
-ghost use Rattle.std.specs.Prelude.{◌≡◌, ◌∷◌, length};
-ghost use Rattle.trial_digests.specs.Digest.{digest_with, digest_from, ballot_numbers, ballots_numbers, kept_numbers, numbers_of};
+ghost use Rattle.std.specs.Prelude.{◌≡◌, ℕ, List, ◌∷◌, length};
+ghost use Rattle.trial_digests.specs.Digest.{digest_with, digest_from, all_numbers, one, ballot_numbers, kept_numbers, numbers_of};
 
 use ballots::Ballot;
 use frame::Record;
 use kept::Kept;
-use summary::Summary;
 
 // The digest with one more number. A sum of remainders doesn't pass 2^53.
 pub fn with(h: u64, x: u64) -> u64
@@ -16,35 +15,63 @@ pub fn with(h: u64, x: u64) -> u64
     (h % 4294967291 * 1000003 + x % 4294967291 + 1) % 4294967291
 }
 
-// The digest with eight weights.
-fn with_weights(start: u64, weights: [u16; 8]) -> u64
-    ensures { result ≡ digest_from start weights }
-{
-    let mut h = start;
-    for i in 0..8 {
-        h = with(h, weights[i] as u64);
-    }
-    h
+// What a digest takes in: `numbers` are those that it takes, in their order.
+pub trait Digested {
+    ghost numbers: { Self → List ℕ };
+
+    // The digest with these numbers.
+    fn onto(&self, h: u64) -> u64
+        ensures { result ≡ digest_from h (numbers self.now) };
 }
 
-// The digest with eight numbers.
-fn with_eight(start: u64, numbers: [u64; 8]) -> u64
-    ensures { result ≡ digest_from start numbers }
-{
-    let mut h = start;
-    for i in 0..8 {
-        h = with(h, numbers[i]);
+impl Digested for u8 {
+    ghost numbers = { one };
+
+    fn onto(&self, h: u64) -> u64 {
+        with(h, u64::from(*self))
     }
-    h
 }
 
-// The digest with each of these words.
-pub fn with_words(start: u64, words: &[u32]) -> u64
-    ensures { result ≡ digest_from start words.now }
+impl Digested for u16 {
+    ghost numbers = { one };
+
+    fn onto(&self, h: u64) -> u64 {
+        with(h, u64::from(*self))
+    }
+}
+
+impl Digested for u32 {
+    ghost numbers = { one };
+
+    fn onto(&self, h: u64) -> u64 {
+        with(h, u64::from(*self))
+    }
+}
+
+impl Digested for u64 {
+    ghost numbers = { one };
+
+    fn onto(&self, h: u64) -> u64 {
+        with(h, *self)
+    }
+}
+
+// Its length field and its cells.
+impl Digested for Ballot {
+    ghost numbers = { ballot_numbers };
+
+    fn onto(&self, h: u64) -> u64 {
+        with_all(with(h, self.len as u64), &self.cells)
+    }
+}
+
+// The digest with each of these.
+pub fn with_all<T: Digested>(start: u64, xs: &[T]) -> u64
+    ensures { result ≡ digest_from start (all_numbers T.numbers xs.now) }
 {
     let mut h = start;
-    for i in 0..words.len() {
-        h = with(h, words[i] as u64);
+    for x in xs {
+        h = x.onto(h);
     }
     h
 }
@@ -53,60 +80,26 @@ pub fn with_words(start: u64, words: &[u32]) -> u64
 pub fn with_bytes(start: u64, bytes: &[u8]) -> u64
     ensures { result ≡ digest_from start (length bytes.now ∷ bytes.now) }
 {
-    let mut h = with(start, bytes.len() as u64);
-    for i in 0..bytes.len() {
-        h = with(h, bytes[i] as u64);
-    }
-    h
-}
-
-// The digest with the codes.
-fn with_codes(h: u64, summary: Summary) -> u64
-    ensures { result ≡ digest_from h summary.codes }
-{
-    let codes = summary.codes;
-    with_words(h, &codes)
-}
-
-// The digest with the length field and the cells of a ballot.
-fn with_ballot(h: u64, ballot: Ballot) -> u64
-    ensures { result ≡ digest_from h (ballot_numbers ballot) }
-{
-    let cells = ballot.cells;
-    with_words(with(h, ballot.len as u64), &cells)
-}
-
-// The same for all eight.
-fn with_ballots(start: u64, ballots: [Ballot; 8]) -> u64
-    ensures { result ≡ digest_from start (ballots_numbers ballots) }
-{
-    let mut h = start;
-    for k in 0..8 {
-        h = with_ballot(h, ballots[k]);
-    }
-    h
+    with_all(with(start, bytes.len() as u64), bytes)
 }
 
 // The digest with what is kept of the dropped entries.
 fn with_kept(h: u64, kept: Kept) -> u64
     ensures { result ≡ digest_from h (kept_numbers kept) }
 {
-    let present = kept.summary.present;
-    let counts = kept.counts;
-    let weighed = with_weights(with(h, kept.dropped), present);
-    with_eight(with_codes(weighed, kept.summary), counts)
+    let weighed = with_all(with(h, kept.dropped), &kept.summary.present);
+    with_all(with_all(weighed, &kept.summary.codes), &kept.counts)
 }
 
 // The digest of the record.
 pub fn of_record(record: Record) -> u64
     ensures { result ≡ digest_from 0 (numbers_of «record») }
 {
-    let weights = record.weights;
-    let present = record.summary.present;
-    let noted = record.noted;
-    let ballots = record.ballots;
     let head = with(with(0, record.n as u64), record.own as u64);
-    let weighed = with_weights(with_weights(head, weights), present);
-    let coded = with_codes(with(weighed, record.settled), record.summary);
-    with_ballots(with_eight(with_kept(coded, record.kept), noted), ballots)
+    let weighed = with_all(with_all(head, &record.weights), &record.summary.present);
+    let coded = with_all(with(weighed, record.settled), &record.summary.codes);
+    with_all(
+        with_all(with_kept(coded, record.kept), &record.noted),
+        &record.ballots,
+    )
 }

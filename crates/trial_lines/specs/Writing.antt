@@ -1,9 +1,8 @@
 -- What a line's numbers write into a list. Assumes nothing.
-use Rattle.std.specs.Prelude.{ℕ, zero, suc, ◌+◌, ◌*◌, ◌%◌, min, Bool, true, false, List, [], ◌++◌, map, length, take, drop, nat_le, nat_lt}
+use Rattle.std.specs.Prelude.{ℕ, zero, suc, ◌+◌, ◌*◌, ◌%◌, min, Bool, Option, Some, None, List, [], ◌++◌, map, length, take, drop, nat_le, nat_lt}
 use Rattle.std.proofs.lemmas.List.Edits.{sets}
 use Rattle.lists.specs.Tests.{both, pick}
 use Rattle.trial_lines.specs.declared.line.Line.{Line}
-use Rattle.trial_lines.specs.declared.writing.Put.{Put}
 
 -- the line's numbers from place `from` on
 abbrev pub said_from : Line → ℕ → List ℕ
@@ -18,17 +17,16 @@ over (suc times) xs = xs ++ over times xs
 unfoldable pub has_room : Line → ℕ → ℕ → ℕ → ℕ → Bool
 has_room l from times at room = both (nat_lt 0 (length (said_from l from))) (nat_le (at + times * length (said_from l from)) room)
 
--- whether they have room, and where they end
-unfoldable pub room_for : Line → ℕ → ℕ → ℕ → ℕ → Put
-room_for l from times at room =
-    pick (has_room l from times at room) (record { done = true; end = at + times * length (said_from l from) }) (record { done = false; end = 0 })
+-- where they end, if they have room
+unfoldable pub room_for : Line → ℕ → ℕ → ℕ → ℕ → Option ℕ
+room_for l from times at room = pick (has_room l from times at room) (Some (at + times * length (said_from l from))) None
 
 -- the numbers that are written, each as `f` has it: none where they have no room
-unfoldable pub written : (ℕ → ℕ) → Line → ℕ → ℕ → ℕ → ℕ → List ℕ
+unfoldable pub written : {A : Type 0} → (ℕ → A) → Line → ℕ → ℕ → ℕ → ℕ → List A
 written f l from times at room = pick (has_room l from times at room) (map f (over times (said_from l from))) []
 
 -- a list with these written into it from place `at` on
-abbrev pub put_into : (ℕ → ℕ) → Line → ℕ → ℕ → ℕ → List ℕ → List ℕ
+abbrev pub put_into : {A : Type 0} → (ℕ → A) → Line → ℕ → ℕ → ℕ → List A → List A
 put_into f l from times at to = sets to at (written f l from times at (length to))
 
 -- the low bits of a number, and a number as it is

@@ -2,7 +2,9 @@
 #![tactic(auto)]
 
 mod line;
+mod low;
 mod writing;
 
 pub use line::Line;
-pub use writing::{Put, put_bytes, put_numbers, put_words, room_for, weights};
+pub use low::LowPart;
+pub use writing::{put, room_for, weights};

@@ -9,26 +9,25 @@ use ballots::Ballot;
 use frame::Record;
 use kept::Kept;
 use summary::Summary;
-use trial_lines::{Line, put_numbers, put_words, room_for, weights};
+use trial_lines::{Line, put, room_for, weights};
 
 // The all-zero record: what a refused founding answers.
 pub fn none() -> Record
     ensures { result ≡ zero_record }
 {
-    let log = [0u32; 1];
-    Record::found(0, 0, [0; 8], &log).record
+    Record::found(0, 0, [0; 8], &[0]).record
 }
 
+// A `match` on the letter, here and below: each letter has numbers and a part of its own, so a table of closures would be no plainer.
 // Whether the part of the record that the line writes into has room for its numbers.
 pub fn fits(line: Line) -> bool
     ensures { result ≡ fits_record line }
 {
-    let letter = line.letter;
-    match letter {
-        b'j' | b'k' => return room_for(line, 2, 1, line.first, 64).done,
-        b'n' | b't' => return room_for(line, 2, 1, line.first, 8).done,
-        b'a' => return room_for(line, 3, 1, line.second, 32).done,
-        _ => return true,
+    match line.letter {
+        b'j' | b'k' => room_for(line, 2, 1, line.first, 64).is_some(),
+        b'n' | b't' => room_for(line, 2, 1, line.first, 8).is_some(),
+        b'a' => room_for(line, 3, 1, line.second, 32).is_some(),
+        _ => true,
     }
 }
 
@@ -36,18 +35,17 @@ pub fn fits(line: Line) -> bool
 fn with_present(summary: Summary, present: [u16; 8]) -> Summary
     ensures { result ≡ with_present summary present }
 {
-    let codes = summary.codes;
-    Summary { present, codes }
+    Summary { present, ..summary }
 }
 
+// This, `with_numbers` and `with_cells` are of one shape: what they share is `put`, and each answers with a type of its own.
 // With codes that the line writes.
 fn with_codes(summary: Summary, line: Line) -> Summary
     ensures { result ≡ with_codes summary line }
 {
-    let present = summary.present;
-    let mut codes = summary.codes;
-    put_words(line, 2, 1, line.first, &mut codes);
-    Summary { present, codes }
+    let mut next = summary;
+    put(line, 2, 1, line.first, &mut next.codes);
+    next
 }
 
 // The eight numbers with those that the line writes.
@@ -55,7 +53,7 @@ fn with_numbers(before: [u64; 8], line: Line) -> [u64; 8]
     ensures { result ≡ with_numbers before line }
 {
     let mut numbers = before;
-    put_numbers(line, 2, 1, line.first, &mut numbers);
+    put(line, 2, 1, line.first, &mut numbers);
     numbers
 }
 
@@ -63,27 +61,23 @@ fn with_numbers(before: [u64; 8], line: Line) -> [u64; 8]
 fn set_kept(kept: Kept, line: Line) -> Kept
     ensures { result ≡ set_kept kept line }
 {
-    let mut next = kept;
-    let letter = line.letter;
-    match letter {
-        b'f' => {
-            next.dropped = line.first;
-            return next;
-        }
-        b'q' => {
-            next.summary = with_present(kept.summary, weights(line, 1));
-            return next;
-        }
-        b'j' => {
-            next.summary = with_codes(kept.summary, line);
-            return next;
-        }
-        _ => {
-            let counts = kept.counts;
-            let written = with_numbers(counts, line);
-            next.counts = written;
-            return next;
-        }
+    match line.letter {
+        b'f' => Kept {
+            dropped: line.first,
+            ..kept
+        },
+        b'q' => Kept {
+            summary: with_present(kept.summary, weights(line, 1)),
+            ..kept
+        },
+        b'j' => Kept {
+            summary: with_codes(kept.summary, line),
+            ..kept
+        },
+        _ => Kept {
+            counts: with_numbers(kept.counts, line),
+            ..kept
+        },
     }
 }
 
@@ -92,28 +86,27 @@ fn set_head(record: Record, line: Line) -> Record
     ensures { result ≡ set_head «record» line }
 {
     let founding = weights(line, 3);
-    let mut kept = record.kept;
-    kept.summary = with_present(kept.summary, founding);
-    let mut next = record;
-    next.n = line.first as usize;
-    next.own = line.second as usize;
-    next.weights = founding;
-    next.kept = kept;
-    next.summary = with_present(record.summary, founding);
-    next.settled = line.numbers[11];
-    next
+    Record {
+        n: line.first as usize,
+        own: line.second as usize,
+        weights: founding,
+        kept: Kept {
+            summary: with_present(record.kept.summary, founding),
+            ..record.kept
+        },
+        summary: with_present(record.summary, founding),
+        settled: line.numbers[11],
+        ..record
+    }
 }
 
 // The ballot with cells that the line says.
 fn with_cells(ballot: Ballot, line: Line) -> Ballot
     ensures { result ≡ with_cells ballot line }
 {
-    let mut cells = ballot.cells;
-    put_words(line, 3, 1, line.second, &mut cells);
-    Ballot {
-        len: ballot.len,
-        cells,
-    }
+    let mut next = ballot;
+    put(line, 3, 1, line.second, &mut next.cells);
+    next
 }
 
 // `b` and `a`: the ballots with one of them set.
@@ -122,14 +115,14 @@ fn set_ballots(before: [Ballot; 8], line: Line) -> [Ballot; 8]
 {
     let mut ballots = before;
     let k = (line.first % 8) as usize;
-    if line.letter == b'b' {
-        ballots[k] = Ballot {
+    ballots[k] = if line.letter == b'b' {
+        Ballot {
             len: line.second as usize,
             cells: [0; 32],
-        };
-        return ballots;
-    }
-    ballots[k] = with_cells(ballots[k], line);
+        }
+    } else {
+        with_cells(ballots[k], line)
+    };
     ballots
 }
 
@@ -137,33 +130,27 @@ fn set_ballots(before: [Ballot; 8], line: Line) -> [Ballot; 8]
 pub fn set(record: Record, line: Line) -> Record
     ensures { result ≡ set_record «record» line }
 {
-    let mut next = record;
-    let letter = line.letter;
-    match letter {
-        b'r' => return set_head(record, line),
-        b'p' => {
-            next.summary = with_present(record.summary, weights(line, 1));
-            return next;
-        }
-        b'k' => {
-            next.summary = with_codes(record.summary, line);
-            return next;
-        }
-        b'n' => {
-            let noted = record.noted;
-            let written = with_numbers(noted, line);
-            next.noted = written;
-            return next;
-        }
-        b'f' | b'j' | b'q' | b't' => {
-            next.kept = set_kept(record.kept, line);
-            return next;
-        }
-        _ => {
-            let ballots = record.ballots;
-            let written = set_ballots(ballots, line);
-            next.ballots = written;
-            return next;
-        }
+    match line.letter {
+        b'r' => set_head(record, line),
+        b'p' => Record {
+            summary: with_present(record.summary, weights(line, 1)),
+            ..record
+        },
+        b'k' => Record {
+            summary: with_codes(record.summary, line),
+            ..record
+        },
+        b'n' => Record {
+            noted: with_numbers(record.noted, line),
+            ..record
+        },
+        b'f' | b'j' | b'q' | b't' => Record {
+            kept: set_kept(record.kept, line),
+            ..record
+        },
+        _ => Record {
+            ballots: set_ballots(record.ballots, line),
+            ..record
+        },
     }
 }

@@ -1,12 +1,11 @@
 // The lines that call, and what each call answers.
 use crate::setting::Trial;
 use frame::Record;
-use lists::within;
-use shown_edits::Edit;
+use refusals::Refusal;
 use std::io;
 use tabulation::Row;
-use tallies::Winner;
-use trial_lines::{Line, weights};
+use trial_digests::{of_record, with, with_all, with_bytes};
+use trial_lines::{Line, LowPart, weights};
 
 // Prints a space and a number.
 fn print(rt: &impl Print, number: u64) -> io::Result<()> {
@@ -15,43 +14,38 @@ fn print(rt: &impl Print, number: u64) -> io::Result<()> {
 
 // Prints a call's number and another behind it.
 fn tell(rt: &impl Print, number: u32, more: u64) -> io::Result<()> {
-    print(rt, number as u64)?;
-    print(rt, more)
+    print!(rt; " {number} {more}")
 }
 
-// What a frame shows, as codes are stored: 0 for no edit yet, else the code + 1.
-fn stored(edit: Edit) -> u64 {
-    match edit {
-        Edit::Code(code) => code as u64 + 1,
-        Edit::NotYet => 0,
+// What a frame shows, or a forecast names: 0 for none, else the number + 1.
+fn stored(number: Option<u32>) -> u64 {
+    number.map_or(0, |number| u64::from(number) + 1)
+}
+
+// Prints a frame's number and what it shows, or a forecast's and what it names.
+fn tell_frame(rt: &impl Print, framed: Result<Option<u32>, Refusal>) -> io::Result<()> {
+    match framed {
+        Ok(edit) => tell(rt, 0, stored(edit)),
+        Err(refusal) => tell(rt, refusal.number(), stored(None)),
     }
 }
 
-// The entry that is named, as a frame's code is stored: 0 for none, else its value + 1.
-fn named(winner: Winner) -> u64 {
-    match winner {
-        Winner::Entry(e) => e as u64 + 1,
-        Winner::Nobody => 0,
-    }
-}
-
-// The digest of the class and the total of each of the first rows.
-fn rows_digest(rows: [Row; 64], count: usize) -> u64 {
-    let mut h: u64 = 0;
-    for i in 0..within(count, 64) {
-        let row = rows[i];
-        h = trial_digests::with(trial_digests::with(h, row.class as u64), row.total);
-    }
-    h
+// The digest of the class and the total of each row.
+fn rows_digest(rows: &[Row]) -> u64 {
+    rows.iter().fold(0, |h, row| {
+        with(with(h, u64::from(row.class)), row.total)
+    })
 }
 
 // Writes the bytes as words.
 fn widen(bytes: &[u8], words: &mut [u32]) {
-    for i in 0..within(bytes.len(), words.len()) {
-        words[i] = bytes[i] as u32;
+    for (word, byte) in words.iter_mut().zip(bytes) {
+        *word = u32::from(*byte);
     }
 }
 
+// The log, the output and the message are lent side by side, here, below and in the other files: a struct of three would be taken apart at each call.
+// A `match` on the letter, here and below: each call has arguments and an answer of its own, so a table of closures would be no plainer.
 // `H`, `C` and `Q`, which read the message, and `U`.
 fn look_at(
     rt: &impl Print,
@@ -60,29 +54,25 @@ fn look_at(
     log: &[u32],
     message: &[u8],
 ) -> io::Result<()> {
-    let letter = line.letter;
-    match letter {
+    match line.letter {
         b'H' => {
             let made = sheet::household_sheet(record, log, message);
-            let rows = made.rows;
             tell(rt, made.number, made.count as u64)?;
-            print(rt, rows_digest(rows, made.count))
+            print(rt, rows_digest(&made.rows[..made.count.min(64)]))
         }
         b'C' => {
             let made = archive::compare(record, log, message);
-            let answers = made.answers;
-            tell(rt, made.number, trial_digests::with_words(0, &answers))
+            tell(rt, made.number, with_all(0, &made.answers))
         }
         b'Q' => {
             let mut lines = [0u32; 7100];
             widen(message, &mut lines);
-            let length = within(message.len(), 7100);
+            let length = message.len().min(lines.len());
             let made = earlier::frame_at(record, log, line.first, &lines[..length]);
-            let edits = made.edits;
             tell(rt, made.number, made.words as u64)?;
-            print(rt, trial_digests::with_words(0, &edits))
+            print(rt, with_all(0, &made.edits))
         }
-        _ => print(rt, record.sound(log) as u64),
+        _ => print(rt, u64::from(record.sound(log))),
     }
 }
 
@@ -94,37 +84,43 @@ fn look(
     log: &[u32],
     message: &[u8],
 ) -> io::Result<()> {
-    let letter = line.letter;
-    match letter {
+    match line.letter {
         b'P' => {
             let mut number: u32 = 0;
             let part = settling::settled(record, log, &mut number);
             tell(rt, number, part.len() as u64)?;
-            print(rt, trial_digests::with_words(0, part))
+            print(rt, with_all(0, part))
         }
         b'V' => {
-            let place = (line.first % 4294967296) as u32;
+            let place = u32::low_part(line.first);
             let settled = both_frames::settled_frame(record, log, place);
-            let now = settled.edit;
-            tell(rt, settled.number, stored(now))?;
+            tell_frame(rt, settled)?;
             let tentative = both_frames::tentative_frame(record, log, place);
-            let soon = tentative.edit;
-            tell(rt, tentative.number, stored(soon))
+            tell_frame(rt, tentative)
         }
         b'A' => {
             let lines = both_frames::all_lines(record, log);
-            let codes = lines.codes;
-            tell(rt, lines.number, trial_digests::with_words(0, &codes))
+            tell(rt, lines.number, with_all(0, &lines.codes))
         }
         b'B' => {
             let lowest = weights(line, 1);
             let highest = weights(line, 9);
-            let made = forecast::first_step(record, log, lowest, highest);
-            let winner = made.winner;
-            tell(rt, made.number, named(winner))
+            tell_frame(rt, forecast::first_step(record, log, lowest, highest))
         }
         _ => look_at(rt, record, line, log, message),
     }
+}
+
+// `F`.
+fn found(rt: &impl Print, line: Line, log: &[u32]) -> io::Result<Record> {
+    let founded = Record::found(
+        line.first as usize,
+        line.second as usize,
+        weights(line, 3),
+        log,
+    );
+    print(rt, u64::from(founded.number))?;
+    Ok(founded.record)
 }
 
 // `F`, `I`, `S` and `W`: none writes the log.
@@ -136,32 +132,30 @@ fn make(
     output: &mut [u8],
     message: &[u8],
 ) -> io::Result<Record> {
-    let letter = line.letter;
-    match letter {
-        b'F' => {
-            let founding = weights(line, 3);
-            let founded = Record::found(line.first as usize, line.second as usize, founding, log);
-            print(rt, founded.number as u64)?;
-            return Ok(founded.record);
-        }
+    match line.letter {
+        b'F' => found(rt, line, log),
         b'I' => {
-            let place = (line.first % 4294967296) as u32;
-            let code = (line.second % 4294967296) as u32;
+            let place = u32::low_part(line.first);
+            let code = u32::low_part(line.second);
             let issued = issuing::issue(record, log, place, code);
-            print(rt, issued.number as u64)?;
-            return Ok(issued.record);
+            print(rt, u64::from(issued.number))?;
+            Ok(issued.record)
         }
         b'S' => {
             let sent = sending::send(record, log, output);
             tell(rt, sent.number, sent.length as u64)?;
+            Ok(record)
         }
         b'W' => {
             let written = archive::write(record, log, output);
             tell(rt, written.number, written.length as u64)?;
+            Ok(record)
         }
-        _ => look(rt, record, line, log, message)?,
+        _ => {
+            look(rt, record, line, log, message)?;
+            Ok(record)
+        }
     }
-    Ok(record)
 }
 
 // `E`, `D` and `T`, which write the log, and all others.
@@ -173,8 +167,7 @@ fn change(
     output: &mut [u8],
     message: &[u8],
 ) -> io::Result<Record> {
-    let letter = line.letter;
-    match letter {
+    match line.letter {
         b'E' => {
             let elected = record.elect(log);
             tell(rt, elected.number, elected.count as u64)?;
@@ -203,13 +196,11 @@ pub fn call(
     output: &mut [u8],
     message: &[u8],
 ) -> io::Result<Trial> {
-    let words = within(trial.words, log.len());
-    let room = within(trial.output, output.len());
-    let size = within(trial.message, message.len());
-    let letter = line.letter;
-    rt.write_all(&[letter])?;
-    let mut next = trial;
-    next.record = change(
+    let words = trial.words.min(log.len());
+    let room = trial.output.min(output.len());
+    let size = trial.message.min(message.len());
+    rt.write_all(&[line.letter])?;
+    let record = change(
         rt,
         trial.record,
         line,
@@ -217,11 +208,8 @@ pub fn call(
         &mut output[..room],
         &message[..size],
     )?;
-    let h = trial_digests::with(trial_digests::of_record(next.record), words as u64);
-    print(
-        rt,
-        trial_digests::with_bytes(trial_digests::with_words(h, &log[..words]), &output[..room]),
-    )?;
+    let h = with(of_record(record), words as u64);
+    print(rt, with_bytes(with_all(h, &log[..words]), &output[..room]))?;
     rt.write_all(b"\n")?;
-    Ok(next)
+    Ok(Trial { record, ..trial })
 }

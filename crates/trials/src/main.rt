@@ -18,9 +18,11 @@ fn answer(
     output: &mut [u8],
     message: &mut [u8],
 ) -> io::Result<Trial> {
-    let mut whole = line;
-    whole.first = line.numbers[1];
-    whole.second = line.numbers[2];
+    let whole = Line {
+        first: line.numbers[1],
+        second: line.numbers[2],
+        ..line
+    };
     if line.letter < b'a' {
         return calling::call(rt, trial, whole, log, output, message);
     }

@@ -1,10 +1,10 @@
 // The lines that set the state and print nothing.
 use frame::Record;
-use lists::within;
 use std::io;
-use trial_lines::{Line, Put, put_bytes, put_words};
+use trial_lines::{Line, put};
 
 // The record, and how long the log, the output and the message are.
+// The lengths stand by themselves, since the three are lent arrays of a fixed size: no heap.
 #[derive(Clone, Copy)]
 pub struct Trial {
     pub record: Record,
@@ -15,9 +15,8 @@ pub struct Trial {
 
 // As at the start.
 pub fn start() -> Trial {
-    let record = trial_records::none();
     Trial {
-        record,
+        record: trial_records::none(),
         words: 0,
         output: 0,
         message: 0,
@@ -26,9 +25,8 @@ pub fn start() -> Trial {
 
 // The message's bytes are those of the output.
 fn copy(output: &[u8], message: &mut [u8]) {
-    for i in 0..within(output.len(), message.len()) {
-        message[i] = output[i];
-    }
+    let size = output.len().min(message.len());
+    message[..size].copy_from_slice(&output[..size]);
 }
 
 // Prints that a line is not taken.
@@ -37,12 +35,27 @@ fn refuse(rt: &impl Print) -> io::Result<()> {
 }
 
 // Where what was written ends; as before where it is not taken.
-fn taken(rt: &impl Print, put: Put, before: usize) -> io::Result<usize> {
-    if put.done {
-        return Ok(put.end);
+fn taken(rt: &impl Print, end: Option<usize>, before: usize) -> io::Result<usize> {
+    if end.is_none() {
+        refuse(rt)?;
     }
-    refuse(rt)?;
-    Ok(before)
+    Ok(end.unwrap_or(before))
+}
+
+// Makes so many bytes of the output the message, and answers how many there are in it; as before where the output has fewer.
+fn hand_over(
+    rt: &impl Print,
+    trial: Trial,
+    size: u64,
+    output: &[u8],
+    message: &mut [u8],
+) -> io::Result<usize> {
+    if size > trial.output as u64 {
+        refuse(rt)?;
+        return Ok(trial.message);
+    }
+    copy(output, message);
+    Ok(size as usize)
 }
 
 // The record with what the line says, if it is taken.
@@ -54,6 +67,7 @@ fn set_record(rt: &impl Print, before: Record, line: Line) -> io::Result<Record>
     Ok(before)
 }
 
+// A `match` on the letter: each has a list and a place of its own, so a table of closures would be no plainer.
 // Writes what the line says, or prints that it is not taken.
 pub fn set(
     rt: &impl Print,
@@ -63,40 +77,31 @@ pub fn set(
     output: &mut [u8],
     message: &mut [u8],
 ) -> io::Result<Trial> {
-    let mut next = trial;
     let first = line.first;
-    let words = within(trial.words, log.len());
-    let before = trial.message;
-    let size = within(before, message.len());
-    let letter = line.letter;
-    match letter {
+    let words = trial.words.min(log.len());
+    let size = trial.message.min(message.len());
+    let mut next = trial;
+    match line.letter {
         b'd' => return Ok(start()),
-        b'l' => next.words = taken(rt, put_words(line, 2, first, 0, log), trial.words)?,
+        b'l' => next.words = taken(rt, put(line, 2, first, 0, log), trial.words)?,
         b'w' => {
-            taken(rt, put_words(line, 2, 1, first, &mut log[..words]), 0)?;
+            taken(rt, put(line, 2, 1, first, &mut log[..words]), 0)?;
         }
-        b'o' => next.output = taken(rt, put_bytes(line, 2, first, 0, output), trial.output)?,
+        b'o' => next.output = taken(rt, put(line, 2, first, 0, output), trial.output)?,
         b'm' => next.message = taken(
             rt,
-            put_bytes(line, 2, first, before as u64, message),
-            before,
+            put(line, 2, first, trial.message as u64, message),
+            trial.message,
         )?,
         b'x' => {
-            taken(rt, put_bytes(line, 2, 1, first, &mut message[..size]), 0)?;
+            taken(rt, put(line, 2, 1, first, &mut message[..size]), 0)?;
         }
         b'c' => next.message = taken(
             rt,
-            put_bytes(line, 1, 0, first, &mut message[..size]),
-            before,
+            put(line, 1, 0, first, &mut message[..size]),
+            trial.message,
         )?,
-        b'g' => {
-            if first > trial.output as u64 {
-                refuse(rt)?;
-                return Ok(trial);
-            }
-            next.message = first as usize;
-            copy(output, message);
-        }
+        b'g' => next.message = hand_over(rt, trial, first, output, message)?,
         _ => next.record = set_record(rt, trial.record, line)?,
     }
     Ok(next)

@@ -1,4 +1,3 @@
 -- Laws of the vectors.
 pub mod Items
-pub mod Paths
 pub mod Vectors

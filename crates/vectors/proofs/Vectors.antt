@@ -10,7 +10,7 @@
 -- Assumes nothing.
 use mathlib.Core.Path.{◌≡◌, refl, sym, ap, ap₂, ◌∙◌}
 use mathlib.Core.List.{List, [], ◌∷◌, ◌++◌, map}
-use Prim.Native.Nat.{ℕ, suc, ◌+◌, ◌*◌, ◌<◌, ◌≤◌, zero-le}
+use Prim.Native.Nat.{ℕ, suc, ◌+◌, ◌*◌, ◌<◌, ◌≤◌}
 use native.Mathlib.Nat.{zero-add, mul-le-mul}
 use native.Mathlib.Omega.{arith}
 use lib.ListN.{length, get_or, take, drop, length-append, length-map, length-replicate, drop_of_length-le}
@@ -26,7 +26,7 @@ use Rattle.ballots.specs.Ballots.{tail_of, off_end}
 use Rattle.ballots.specs.declared.Ballot.{Ballot}
 use Rattle.ballots.proofs.Laws.{tail_at}
 use Rattle.spelling.proofs.Items.{room_for}
-use Rattle.vectors.specs.Vectors.{EachAtMost, kept_count_limit, vector_of, vector_bytes, versions_bytes, versions_in}
+use Rattle.vectors.specs.Vectors.{Countable, EachAtMost, kept_count_limit, vector_of, vector_bytes, versions_bytes, versions_in}
 use Rattle.vectors.proofs.Items.{is_count, count_item}
 
 -- ── one vector ──
@@ -85,6 +85,12 @@ module _ (n : ℕ) (bs : List Ballot) (some : n ≤ length bs) where
   tails-step o h =
       rest-step [] (tails_in n bs) o (omega (arith, tails-length)) ∙ ap (λ (t : List ℕ). t ∷ drop (o + 1) (tails_in n bs)) (get_or-take n (map tail_of bs) o [] h ∙ tail_at bs o)
 
+  -- the ballots of n offices are theirs among all
+  pub tails_next : (o : ℕ) → o < length (take n bs) → drop o (tails_in n bs) ≡ tail_of (get_or (take n bs) o off_end) ∷ drop (o + 1) (tails_in n bs)
+  tails_next o h =
+      let l : o < n = omega (arith, length-take-le n bs some) in
+      tails-step o l ∙ ap (λ (b : Ballot). tail_of b ∷ drop (o + 1) (tails_in n bs)) (sym (get_or-take n bs o off_end l))
+
 -- ── the bytes: of n counts, from those in `start` on ──
 module _ (n : ℕ) (start : List ℕ) (long : length start ≡ n) where
   pub vector-length : (p : List ℕ) → length (vector_bytes start p) ≡ 8 * n
@@ -104,45 +110,46 @@ row-few n h = let a : 8 * n ≤ 64 = omega arith in mul-le-mul a h
 
 -- ── the walk that writes the paths' vectors, from the log's on ──
 -- from office o on, at place p, the rest is left to store
-pub record ToWrite (l₀ : List ℕ) (at n : ℕ) (base : List ℕ) (bs : List Ballot) (l : List ℕ) (p o : ℕ) : Type 0 where
-  pub within : o ≤ n
-  pub left : Left l₀ at (versions_bytes base (tails_in n bs)) l p (versions_bytes base (drop o (tails_in n bs)))
+abbrev pub ToWrite : List ℕ → ℕ → ℕ → List ℕ → List Ballot → List ℕ → ℕ → ℕ → Type 0
+ToWrite l₀ at n base bs l p o = Left l₀ at (versions_bytes base (tails_in n bs)) l p (versions_bytes base (drop o (tails_in n bs)))
 
 pub write-begins : (l : List ℕ) (at n : ℕ) (base : List ℕ) (bs : List Ballot) → ToWrite l at n base bs l at 0
-write-begins l at n base bs = record { within = zero-le; left = left-all l at (versions_bytes base (tails_in n bs)) }
+write-begins l at n base bs = left-all l at (versions_bytes base (tails_in n bs))
 
-module _ {l₀ : List ℕ} {at n : ℕ} {base : List ℕ} {bs : List Ballot} {l : List ℕ} {p o : ℕ} (inv : ToWrite l₀ at n base bs l p o) (long : length base ≡ n) (some : n ≤ length bs) where
+module _ (n : ℕ) (base : List ℕ) (bs : List Ballot) (o : ℕ) {l₀ : List ℕ} {at : ℕ} {l : List ℕ} {p : ℕ} (inv : ToWrite l₀ at n base bs l p o) (long : length base ≡ n) (some : n ≤ length bs) where
   abbrev next : List ℕ
-  next = tail_of (get_or bs o off_end)
+  next = tail_of (get_or (take n bs) o off_end)
 
-  rest-next : o < n → versions_bytes base (drop o (tails_in n bs)) ≡ vector_bytes base next ++ versions_bytes base (drop (o + 1) (tails_in n bs))
+  rest-next : o < length (take n bs) → versions_bytes base (drop o (tails_in n bs)) ≡ vector_bytes base next ++ versions_bytes base (drop (o + 1) (tails_in n bs))
   unfolding versions_bytes
-  rest-next h = ap (versions_bytes base) (tails-step n bs some o h)
+  rest-next h = ap (versions_bytes base) (tails_next n bs some o h)
 
-  rest-none : n ≤ o → versions_bytes base (drop o (tails_in n bs)) ≡ []
+  rest-none : length (take n bs) ≤ o → versions_bytes base (drop o (tails_in n bs)) ≡ []
   unfolding versions_bytes
-  rest-none h = let l : length (tails_in n bs) ≤ o = omega (arith, tails-length n bs some) in ap (versions_bytes base) (drop_of_length-le (tails_in n bs) l)
+  rest-none h =
+      let l : length (tails_in n bs) ≤ o = omega (arith, tails-length n bs some, length-take-le n bs some) in
+      ap (versions_bytes base) (drop_of_length-le (tails_in n bs) l)
 
-  pub write-room : o < n → at + length (versions_bytes base (tails_in n bs)) ≤ length l₀ → p + 8 * n ≤ length l
+  pub write-room : o < length (take n bs) → at + length (versions_bytes base (tails_in n bs)) ≤ length l₀ → p + 8 * n ≤ length l
   write-room h room =
       omega (
         arith,
-        inv.left.place,
-        inv.left.long,
+        inv.place,
+        inv.long,
         ap length (rest-next h),
         length-append (vector_bytes base next) (versions_bytes base (drop (o + 1) (tails_in n bs))),
         vector-length n base long next,
       )
 
-  pub write_again : o < n → {l' : List ℕ} {p' : ℕ} (counts : List ℕ) → counts ≡ vector_of base (tail_of (get_or bs o off_end)) → p' ≡ p + 8 * n
-      → l' ≡ sets l p (run bytes64 counts) → ToWrite l₀ at n base bs l' p' (o + 1)
-  write_again h counts v e q = record {
-    within = omega arith;
-    left = left-next inv.left (vector_bytes base next) (rest-next h) (e ∙ ap (λ (k : ℕ). p + k) (sym (vector-length n base long next))) (q ∙ ap (λ (c : List ℕ). sets l p (run bytes64 c)) v);
-  }
+  pub write_again : o < length (take n bs) → {l' : List ℕ} {p' : ℕ} (counts : List ℕ) → counts ≡ vector_of base (tail_of (get_or (take n bs) o off_end))
+      → p' ≡ p + 8 * length counts → l' ≡ sets l p (run bytes64 counts) → ToWrite l₀ at n base bs l' p' (o + 1)
+  write_again h counts v e q =
+      left-next inv (vector_bytes base next) (rest-next h)
+      (e ∙ ap (λ (c : List ℕ). p + 8 * length c) v ∙ ap (λ (k : ℕ). p + 8 * k) (counts-length base next ∙ long) ∙ ap (λ (k : ℕ). p + k) (sym (vector-length n base long next)))
+      (q ∙ ap (λ (c : List ℕ). sets l p (run bytes64 c)) v)
 
-  pub write-ends : n ≤ o → l ≡ sets l₀ at (versions_bytes base (tails_in n bs))
-  write-ends h = (left-none inv.left (rest-none h)).1
+  pub write-ends : length (take n bs) ≤ o → l ≡ sets l₀ at (versions_bytes base (tails_in n bs))
+  write-ends h = (left-none inv (rest-none h)).1
 
 -- ── all of it ──
 module _ (n : ℕ) (start : List ℕ) (long : length start ≡ n) (log : List ℕ) (bs : List Ballot) (base : List ℕ) (e : base ≡ vector_of start log) where
@@ -165,3 +172,37 @@ module _ (n : ℕ) (start : List ℕ) (long : length start ≡ n) (log : List �
       e2 ∙ ap₂ (λ (x : List ℕ) (k : ℕ). sets x k (versions_bytes base (tails_in n bs))) first place
       ∙ sym (ap (sets l 0) all-parts ∙ sets-append l 0 (vector_bytes start log) (versions_bytes base (tails_in n bs))) in
       stores ∙ sets-eq all l 0 (rw zero-add room) ∙ rw zero-add
+
+-- ── what the walks over eight ballots have of their caller ──
+module _ {n : ℕ} {start log : List ℕ} {bs : List Ballot} (C : Countable n start log bs) (full : length start ≡ 8) where
+  some-counts : n ≤ length start
+  some-counts = omega (arith, C.most)
+
+  pub kept-long : length (take n start) ≡ n
+  kept-long = length-take-le n start some-counts
+
+  pub all-size : 8 * n + 8 * n * n ≡ length (versions_bytes (take n start) (versions_in n log bs))
+  all-size = size_is n (take n start) kept-long log bs C.offices
+
+  -- the log's counts
+  module _ {base : List ℕ} (e : base ≡ counts_after start log) where
+    pub base-few : EachAtMost (kept_count_limit + 1024) base
+    base-few = log-most start log base e C.kept C.few
+
+    pub base-some : n ≤ length base
+    base-some = omega (arith, ap length e, counts-length start log, some-counts)
+
+    pub base-long : length (take n base) ≡ n
+    base-long = length-take-le n base base-some
+
+    pub base-counts : take n base ≡ vector_of (take n start) log
+    base-counts = log-vector n start some-counts log base e
+
+    pub path-counts : (b : Ballot) {counts : List ℕ} → counts ≡ counts_after base (tail_of b) → take n counts ≡ vector_of (take n base) (tail_of b)
+    path-counts b {counts} h = log-vector n base base-some (tail_of b) counts h
+
+    pub path-long : (b : Ballot) {counts : List ℕ} → counts ≡ counts_after base (tail_of b) → length (take n counts) ≡ n
+    path-long b h = ap length (path-counts b h) ∙ counts-length (take n base) (tail_of b) ∙ base-long
+
+    pub all-length : length (versions_bytes (take n start) (versions_in n log bs)) ≡ 8 * n + length (versions_bytes (take n base) (tails_in n bs))
+    all-length = all-is n (take n start) kept-long log bs (take n base) base-counts

@@ -43,6 +43,7 @@ kept_count_limit = 9223372036854775808
 pub record Countable (n : ℕ) (start log : List ℕ) (ballots : List Ballot) : Type 0 where
   pub some : 1 ≤ n
   pub most : n ≤ 8
+  pub offices : n ≤ length ballots
   pub kept : EachAtMost kept_count_limit start
   pub few : length log ≤ 1024
   pub shapes : all_b ballot_shape ballots ≡ true

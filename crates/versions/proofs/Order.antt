@@ -1,17 +1,20 @@
 -- Two vectors, count by count.
+--     both-ways                               what is found both ways is the answer
 --     WalkedTo, walked-first, walked_next     a walk over the counts, both ways: its start, and one office more
 --     found-stands                            at its end, what was found both ways is the answer
 --     sized                                   a vector has the length of one
 -- Assumes nothing.
 use mathlib.Core.Path.{◌≡◌, refl, sym, ap, ap₂, ◌∙◌}
 use mathlib.Core.Bool.{Bool, true, ◌&&◌}
-use mathlib.Core.List.{List}
+use mathlib.Core.List.{List, [], ◌∷◌}
 use Prim.Native.Nat.{ℕ, ◌+◌, ◌*◌, ◌<◌, ◌≤◌}
 use native.Mathlib.Omega.{arith}
 use lib.Dec.{leb}
 use lib.ListN.{length, get_or, take, drop, drop_of_length-le}
 use lib.Seq.{length-take-le, get_or-take}
 use borrow.Author.Tests.{eqb-true}
+use Rattle.std.specs.Prelude.{nat_le}
+use Rattle.std.specs.List.{list_all, zip}
 use Rattle.lists.specs.Tests.{both}
 use Rattle.lists.proofs.Tests.{both-assoc, both-comm}
 use Rattle.lists.proofs.Walk.{and_both, rest-step}
@@ -62,6 +65,18 @@ module _ (n : ℕ) (a b : List ℕ) (la : n ≤ length a) (lb : n ≤ length b) 
   pub found-stands : n ≤ k → (l h : Bool) → low ≡ l → high ≡ h → stands l h ≡ compared_to (take n a) (take n b)
   unfolding compared_to
   found-stands e l h p q = ap₂ stands (sym p ∙ way-done n a b la lb low k inv.1.0 e) (sym q ∙ way-done n b a lb la high k inv.1.1 e)
+
+-- ── vectors of one length ──
+one-way : (a b : List ℕ) → length a ≡ length b → list_all (λ p. nat_le p.0 p.1) (zip a b) ≡ at_most a b
+unfolding at_most
+one-way [] b e = refl
+one-way (x ∷ a) [] e = absurd (omega (arith, e))
+one-way (x ∷ a) (y ∷ b) e = and_both (leb x y) (list_all (λ p. nat_le p.0 p.1) (zip a b)) ∙ ap (both (leb x y)) (one-way a b (omega (arith, e)))
+
+pub both-ways : (a b : List ℕ) → length a ≡ length b → (low high : Bool) → low ≡ list_all (λ p. nat_le p.0 p.1) (zip a b)
+    → high ≡ list_all (λ p. nat_le p.0 p.1) (zip b a) → stands low high ≡ compared_to a b
+unfolding compared_to
+both-ways a b e low high p q = ap₂ stands (p ∙ one-way a b e) (q ∙ one-way b a (sym e))
 
 -- ── the bytes of a vector ──
 pub sized : (n : ℕ) (s : List ℕ) → is_vector n s ≡ true → length s ≡ 8 * n

@@ -1,6 +1,8 @@
 -- Request (xi): "Read one vector to answer, for the log and then each of those paths, whether by counts it comes before, equals, comes after or
 -- stands beside that vector"; (xiv) "Archive counts become 8 bytes and lose that limit" of 1024. Assumes nothing.
-use Rattle.std.specs.Prelude.{ℕ, ◌*◌, Bool, true, false, List, [], ◌∷◌, map, eqb, leb, length}
+use Rattle.std.specs.Prelude.{ℕ, ◌*◌, Bool, true, false, List, [], ◌∷◌, map, Option, None, Some, eqb, leb, length}
+use Rattle.std.specs.declared.cmp.Ordering.{Ordering}
+use Rattle.std.specs.declared.cmp.Ordering.TheVariants.{Less, Equal, Greater}
 use Rattle.lists.specs.Tests.{both}
 use Rattle.lists.specs.Padded.{padded}
 use Rattle.numbers.specs.Numbers.{be64, run_at}
@@ -28,6 +30,13 @@ after = 2
 
 abbrev pub beside : ℕ
 beside = 3
+
+-- the answer that an order gives: by counts, vectors that do not come one before the other have none
+abbrev pub number_in : Option Ordering → ℕ
+number_in (Some Less) = before
+number_in (Some Equal) = equal
+number_in (Some Greater) = after
+number_in None = beside
 
 -- each count of the first is at most the second's; both have as many
 unfoldable pub at_most : List ℕ → List ℕ → Bool

@@ -1,22 +1,27 @@
-// A vector read and compared with those of an office's versions. The functions are public only for the crate above, which proves what each
+// A vector read and compared with those of an office's versions. What is here is public only for the crate above, which proves what each function
 // requires.
 #![tactic(auto)]
 
-ghost use Rattle.std.specs.Prelude.{◌≡◌, ◌++◌, ◌-◌, ◌*◌, ◌≤◌, length, replicate, take};
+ghost use Rattle.std.specs.Prelude.{◌≡◌, ◌++◌, ◌-◌, ◌*◌, ◌≤◌, nat_le, length, replicate, take};
+ghost use Rattle.std.specs.List.{list_all, zip};
 ghost use Rattle.vectors.specs.Vectors.{Countable, versions_in};
-ghost use Rattle.versions.specs.Versions.{answers_to, compared_to, counts_in, is_vector, nine};
+ghost use Rattle.versions.specs.Versions.{answers_to, compared_to, counts_in, is_vector, nine, number_in};
 
-use ballots::Ballot;
-use numbers::be64_at;
+use numbers::read_run;
+use std::cmp::Ordering;
+use vectors::Versions;
 
-// The answers: a version comes before the vector, equals it, comes after it or stands beside it.
-pub const BEFORE: u32 = 0;
-
-pub const EQUAL: u32 = 1;
-
-pub const AFTER: u32 = 2;
-
-pub const BESIDE: u32 = 3;
+// The answers as numbers: a version comes before the vector, equals it, comes after it or stands beside it. No `From`: both types are std's.
+pub fn number(stands: Option<Ordering>) -> u32
+    ensures { result ≡ number_in stands }
+{
+    match stands {
+        Some(Ordering::Less) => 0,
+        Some(Ordering::Equal) => 1,
+        Some(Ordering::Greater) => 2,
+        None => 3,
+    }
+}
 
 // The counts in the bytes of a vector; zero from place n on.
 fn counts_in(s: &[u8], n: usize) -> [u64; 8]
@@ -24,11 +29,7 @@ fn counts_in(s: &[u8], n: usize) -> [u64; 8]
     ensures { result ≡ counts_in n s.now ++ replicate (8 - n) 0 }
 {
     let mut counts: [u64; 8] = [0; 8];
-    let mut at = 0;
-    for k in 0..n {
-        counts[k] = be64_at(s, at);
-        at += 8;
-    }
+    read_run(&mut counts[..n], s, 0);
     counts
 }
 
@@ -40,44 +41,40 @@ pub fn is_vector(s: &[u8], n: usize) -> bool
     s.len() == 8 * n
 }
 
-// How the first n counts of one stand to those of another.
-fn compared(a: [u64; 8], b: [u64; 8], n: usize) -> u32
-    requires { n ≤ 8 }
-    ensures { result ≡ compared_to (take n a) (take n b) }
+// Whether each count of one is at most the other's.
+fn at_most(a: &[u64], b: &[u64]) -> bool
+    ensures { result ≡ list_all (λ p. nat_le p.0 p.1) (zip a.now b.now) }
 {
-    let mut low = true;
-    let mut high = true;
-    for k in 0..n {
-        low = low & (a[k] <= b[k]);
-        high = high & (b[k] <= a[k]);
-    }
-    if low {
-        if high {
-            return EQUAL;
-        }
-        return BEFORE;
-    }
-    if high {
-        return AFTER;
-    }
-    BESIDE
+    a.iter().zip(b).all(|(x, y)| *x <= *y)
 }
 
-// How the settled log, and then each of n paths, stands to the vector in the bytes; beside in the answers behind them. `start` has the counts of
-// the entries before the log.
-pub fn answers(n: usize, start: [u64; 8], log: &[u32], ballots: [Ballot; 8], s: &[u8]) -> [u32; 9]
-    requires { Countable n start log.now ballots × (length s.now ≡ 8 * n) }
-    ensures { result ≡ nine (answers_to (take n start) (counts_in n s.now) (versions_in n log.now ballots)) }
+// How the counts of one stand to those of another.
+fn compared(a: &[u64], b: &[u64]) -> Option<Ordering>
+    requires { length a.now ≡ length b.now }
+    ensures { number_in result ≡ compared_to a.now b.now }
 {
+    match (at_most(a, b), at_most(b, a)) {
+        (true, true) => Some(Ordering::Equal),
+        (true, false) => Some(Ordering::Less),
+        (false, true) => Some(Ordering::Greater),
+        (false, false) => None,
+    }
+}
+
+// How the settled log, and then each path, stands to the vector in the bytes; beside in the answers behind them.
+pub fn answers(of: &Versions, s: &[u8]) -> [u32; 9]
+    requires { Countable of.now.n of.now.start of.now.log.now of.now.ballots.now × (length s.now ≡ 8 * of.now.n) }
+    ensures { result ≡ nine (answers_to (take of.now.n of.now.start) (counts_in of.now.n s.now) (versions_in of.now.n of.now.log.now of.now.ballots.now)) }
+{
+    let n = of.n;
+    let ballots = of.ballots;
     let given = counts_in(s, n);
-    let base = counting::counts_after(start, log);
-    let mut answers: [u32; 9] = [BESIDE; 9];
-    answers[0] = compared(base, given, n);
-    for o in 0..n {
-        let b = ballots[o];
+    let base = counting::counts_after(of.start, of.log);
+    let mut answers = [number(None); 9];
+    answers[0] = number(compared(&base[..n], &given[..n]));
+    for (o, b) in ballots[..n].iter().enumerate() {
         let counts = vectors::path_counts(base, b);
-        let answer = compared(counts, given, n);
-        answers[o + 1] = answer;
+        answers[o + 1] = number(compared(&counts[..n], &given[..n]));
     }
     answers
 }

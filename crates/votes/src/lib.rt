@@ -6,45 +6,31 @@ ghost use Rattle.ballots.specs.Ballots.{tail_of, ballot_of, ballot_shape};
 ghost use Rattle.tallies.specs.Tallies.{cast};
 
 use ballots::Ballot;
-use tallies::NO_VOTE;
 
 // The vote that a ballot casts.
-pub fn vote(b: Ballot) -> u32
+pub fn vote(b: Ballot) -> Option<u32>
     ensures { result ≡ cast b }
 {
-    let cells = b.cells;
-    if b.len == 0 {
-        return NO_VOTE;
-    }
-    cells[0]
+    if b.len == 0 { None } else { Some(b.cells[0]) }
 }
 
 // The votes that eight ballots cast.
-pub fn of_ballots(ballots: [Ballot; 8]) -> [u32; 8]
+pub fn of_ballots(ballots: [Ballot; 8]) -> [Option<u32>; 8]
     ensures { result ≡ map cast ballots }
 {
-    let mut votes: [u32; 8] = [0; 8];
-    for i in 0..8 {
-        let b = ballots[i];
-        votes[i] = vote(b);
-    }
-    votes
+    ballots.map(vote)
 }
 
-// The ballot without its first entry. Its unused cells are zero, so all its cells move up by one, in a walk of fixed length. Public only
-// for the crate above, which proves what it requires.
+// The ballot without its first entry. Its unused cells are zero, so all its cells move up by one, in a copy of fixed length. Public only for
+// the crate above, which proves what it requires.
 pub fn without_first(b: Ballot) -> Ballot
     requires { (ballot_shape b ≡ true) × (1 ≤ b.len) }
     ensures { result ≡ ballot_of (drop 1 (tail_of b)) }
 {
-    let old = b.cells;
-    let mut cells: [u32; 32] = [0; 32];
-    for j in 0..31 {
-        let next = old[j + 1];
-        cells[j] = next;
-    }
+    let mut cells = [0; 32];
+    cells[..31].copy_from_slice(&b.cells[1..]);
     Ballot {
         len: b.len - 1,
-        cells: cells,
+        cells,
     }
 }

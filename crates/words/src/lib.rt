@@ -8,7 +8,7 @@ ghost use Rattle.protocol.specs.Entry.{value, office_of, line_of, code_of};
 pub fn pack(office: u8, line: u8, code: u16) -> u32
     ensures { result ≡ value office line code }
 {
-    (office as u32) * 16777216 + (line as u32) * 65536 + (code as u32)
+    u32::from(office) * 16777216 + u32::from(line) * 65536 + u32::from(code)
 }
 
 // The parts of a word.

@@ -3,7 +3,7 @@
 use mathlib.Core.Path.{◌≡◌, refl}
 use mathlib.Core.List.{List, [], ◌∷◌}
 use mathlib.Core.Logic.{inr}
-use mathlib.Core.Option.{some}
+use Rattle.std.specs.Prelude.{Some}
 use Prim.Native.Nat.{ℕ, zero, suc}
 use native.Mathlib.Omega.{arith}
 use lib.ListN.{get_or, replicate}
@@ -69,16 +69,16 @@ abbrev at1 : List ℕ
 at1 = value 0 5 120 ∷ value 1 5 131 ∷ []
 
 pub record Crossed : Type 0 where
-  pub office0 : replica_at crossed 0 ≡ some (office 0)
-  pub office1 : replica_at crossed 1 ≡ some (office 1)
+  pub office0 : replica_at crossed 0 ≡ Some (office 0)
+  pub office1 : replica_at crossed 1 ≡ Some (office 1)
   pub first : at0 ≡ path (says (office 0)) 1
   pub second : at1 ≡ path (says (office 1)) 1
 
 -- that they are there is a law, and their records need not be computed for it
-there-0 : replica_at crossed 0 ≡ some (office 0)
+there-0 : replica_at crossed 0 ≡ Some (office 0)
 there-0 = office-there crossing 0 (found_replica 3 usual_weights 0 empty_log) (omega arith)
 
-there-1 : replica_at crossed 1 ≡ some (office 1)
+there-1 : replica_at crossed 1 ≡ Some (office 1)
 there-1 = office-there crossing 1 (found_replica 3 usual_weights 0 empty_log) (omega arith)
 
 pub computed : Crossed

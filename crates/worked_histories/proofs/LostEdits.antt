@@ -11,7 +11,7 @@
 use mathlib.Core.Path.{◌≡◌, refl, sym, ap, subst, ◌∙◌}
 use mathlib.Core.List.{List, [], ◌∷◌, ◌++◌}
 use mathlib.Core.Logic.{◌⊎◌, inl, inr}
-use mathlib.Core.Option.{some}
+use Rattle.std.specs.Prelude.{Some}
 use Prim.Native.Nat.{ℕ, ◌≤◌}
 use native.Mathlib.Omega.{arith}
 use lib.ListN.{length, get_or, drop, replicate}
@@ -107,16 +107,16 @@ pub record Computed : Type 0 where
   pub log-last : log_at (after three_offices calls) 2 ≡ a ∷ b ∷ b ∷ []
   pub ordered : order three_offices calls ≡ a ∷ b ∷ b ∷ []
   pub issues : issues_of three_offices calls b ≡ 3
-  pub mixed-was : replica_at (after three_offices mixed) 1 ≡ some mixed-before
-  pub mixed-is : replica_at (after three_offices (mixed ++ (take 1 0 ∷ []))) 1 ≡ some mixed-after
+  pub mixed-was : replica_at (after three_offices mixed) 1 ≡ Some mixed-before
+  pub mixed-is : replica_at (after three_offices (mixed ++ (take 1 0 ∷ []))) 1 ≡ Some mixed-after
   pub mixed-settled : settled_of 1 (says mixed-before) (says mixed-after) ≡ b ∷ []
   pub mixed-lost : lost_of 1 (says mixed-before) (says mixed-after) ≡ value 1 5 131 ∷ []
 
 -- that office 1 is there is a law, and its record need not be computed for it
-was-there : replica_at (after three_offices mixed) 1 ≡ some mixed-before
+was-there : replica_at (after three_offices mixed) 1 ≡ Some mixed-before
 was-there = office-there mixed 1 (found_replica 3 usual_weights 1 empty_log) (omega arith)
 
-is-there : replica_at (after three_offices (mixed ++ (take 1 0 ∷ []))) 1 ≡ some mixed-after
+is-there : replica_at (after three_offices (mixed ++ (take 1 0 ∷ []))) 1 ≡ Some mixed-after
 is-there = office-there (mixed ++ (take 1 0 ∷ [])) 1 (found_replica 3 usual_weights 1 empty_log) (omega arith)
 
 pub computed : Computed
@@ -221,7 +221,7 @@ each-office-issues law =
 -- no call settles some entries of an own tail and loses others
 abbrev SettlesOrLoses : Type 0
 SettlesOrLoses = (n : ℕ) (weights : List ℕ) (start : World) → Founded n weights start → (cs : List Call) (c : Call) (k : ℕ) (d d' : Replica)
-    → replica_at (after start cs) k ≡ some d → replica_at (after start (cs ++ (c ∷ []))) k ≡ some d'
+    → replica_at (after start cs) k ≡ Some d → replica_at (after start (cs ++ (c ∷ []))) k ≡ Some d'
     → (settled_of k (says d) (says d') ≡ []) ⊎ (lost_of k (says d) (says d') ≡ [])
 
 pub settles-and-loses : SettlesOrLoses → ⊥

@@ -6,7 +6,7 @@
 -- Each refutes the law that says otherwise. Assumes nothing.
 use mathlib.Core.Path.{◌≡◌, refl, sym, ap, ◌∙◌}
 use mathlib.Core.List.{List, [], ◌∷◌, ◌++◌}
-use mathlib.Core.Option.{some}
+use Rattle.std.specs.Prelude.{Some}
 use Prim.Native.Nat.{ℕ}
 use native.Mathlib.Omega.{arith}
 use lib.ListN.{length, get_or, replicate}
@@ -90,9 +90,9 @@ abbrev with-b : List ℕ
 with-b = from 1 [] (b ∷ [])
 
 pub record OwnBallot : Type 0 where
-  pub here : replica_at (after three_offices news) 2 ≡ some office2
-  pub a-sent : message_at (after three_offices news) 1 ≡ some (sent with-a)
-  pub b-sent : message_at (after three_offices news) 0 ≡ some (sent with-b)
+  pub here : replica_at (after three_offices news) 2 ≡ Some office2
+  pub a-sent : message_at (after three_offices news) 1 ≡ Some (sent with-a)
+  pub b-sent : message_at (after three_offices news) 0 ≡ Some (sent with-b)
   pub a-accepted : Accepts office2 with-a
   pub b-accepted : Accepts office2 with-b
   pub a_first : ballot (taken (taken office2 with-a) with-b) 2 ≡ a ∷ []
@@ -154,7 +154,7 @@ computed = (
 -- the own ballot swaps too
 abbrev OwnSwaps : Type 0
 OwnSwaps = (n : ℕ) (weights : List ℕ) (start : World) → Founded n weights start → (cs : List Call) (k i j : ℕ) (r : Replica) (s t : Posted)
-    → replica_at (after start cs) k ≡ some r → message_at (after start cs) i ≡ some s → message_at (after start cs) j ≡ some t → Accepts r s.bytes → Accepts r t.bytes
+    → replica_at (after start cs) k ≡ Some r → message_at (after start cs) i ≡ Some s → message_at (after start cs) j ≡ Some t → Accepts r s.bytes → Accepts r t.bytes
     → ballot (taken (taken r s.bytes) t.bytes) k ≡ ballot (taken (taken r t.bytes) s.bytes) k
 
 one_entry : (x y : ℕ) → x ∷ [] ≡ y ∷ [] → x ≡ y

@@ -1,5 +1,5 @@
 -- Laws of what the writer stores, part by part.
-pub mod LogRecord
+pub mod Records
 pub mod Ballots
 pub mod Whole
 pub mod Contents

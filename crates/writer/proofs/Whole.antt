@@ -16,6 +16,8 @@ use lib.Dec.{ltb}
 use lib.ListN.{length, take, set, length-append, drop}
 use lib.Seq.{sets, sets-eq, length-take-le}
 use borrow.Author.Tests.{lt-ltb, le-ltb}
+use Rattle.std.specs.Prelude.{Option, None, Some}
+use Rattle.std.proofs.lemmas.Option.{none-some, same_Some}
 use Rattle.ballots.specs.declared.Ballot.{Ballot}
 use Rattle.lists.specs.Tests.{pick}
 use Rattle.protocol.specs.Limits.{is_weight}
@@ -85,7 +87,7 @@ module _ (sender n : ℕ) (ws : List ℕ) (dropped : ℕ) (log : List ℕ) (held
       ∙ omega (arith, heads-length, logs-length, length-append heads (logs ++ (ballots ++ end_bytes)), length-append logs (ballots ++ end_bytes), length-append ballots end_bytes)
 
   -- the size that the walk of the ballots has counted is that length
-  pub counted : (base size o : ℕ) → base ≡ head_size n + 6 * held + 2 → ToCount base n of size o → n ≤ o → size ≡ length (message_of sender n ws dropped log held of)
+  pub counted : (base size o : ℕ) → base ≡ head_size n + 6 * held + 2 → ToCount base n of size o → length (take n of) ≤ o → size ≡ length (message_of sender n ws dropped log held of)
   counted base size o e inv h = omega (arith, message-length, ap length (rest-none n of o h))
 
   -- the stores, one after the other: the front, the ballots, the end
@@ -117,27 +119,27 @@ module _ (sender n : ℕ) (ws : List ℕ) (dropped : ℕ) (log : List ℕ) (held
 -- ---- what writing answers and leaves
 
 module _ (message out : List ℕ) (size : ℕ) (e : size ≡ length message) where
-  pub refused : length out < size → Writes message out 0 out
+  pub refused : length out < size → Writes message out None out
   unfolding written_length written_bytes pick
   refused h = let t = lt-ltb (length out) (length message) (omega arith) in (simp t, simp t)
 
-  pub written : size ≤ length out → Writes message out size (message ++ drop (length message) out)
+  pub written : size ≤ length out → Writes message out (Some size) (message ++ drop (length message) out)
   unfolding written_length written_bytes pick
-  written h = let t = le-ltb (length out) (length message) (omega arith) in (simp t e, simp t)
+  written h = let t = le-ltb (length out) (length message) (omega arith) in (simp t (ap Some e), simp t)
 
--- 0 is answered without room alone, as a message has bytes; another answer with room
-pub answer-short : (message out : List ℕ) → 0 < length message → written_length message out ≡ 0 → ltb (length out) (length message) ≡ true
+-- none is answered without room alone, and the length with room alone
+pub answer-short : (message out : List ℕ) → None ≡ written_length message out → ltb (length out) (length message) ≡ true
 unfolding written_length pick
-answer-short message out some = go (ltb (length out) (length message))
+answer-short message out = go (ltb (length out) (length message))
   where
-    go : (b : Bool) → ◌≡◌ {A = ℕ} (pick b 0 (length message)) 0 → b ≡ true
+    go : (b : Bool) → ◌≡◌ {A = Option ℕ} None (pick b None (Some (length message))) → b ≡ true
     go true e = refl
-    go false e = absurd (omega arith)
+    go false e = absurd (none-some (length message) e)
 
-pub answer-fits : (message out : List ℕ) → (written_length message out ≡ 0 → ⊥) → ltb (length out) (length message) ≡ false
+pub answer-fits : (message out : List ℕ) (k : ℕ) → Some k ≡ written_length message out → (ltb (length out) (length message) ≡ false) × (k ≡ length message)
 unfolding written_length pick
-answer-fits message out = go (ltb (length out) (length message))
+answer-fits message out k = go (ltb (length out) (length message))
   where
-    go : (b : Bool) → (◌≡◌ {A = ℕ} (pick b 0 (length message)) 0 → ⊥) → b ≡ false
-    go true e = absurd (e refl)
-    go false e = refl
+    go : (b : Bool) → ◌≡◌ {A = Option ℕ} (Some k) (pick b None (Some (length message))) → (b ≡ false) × (k ≡ length message)
+    go true e = absurd (none-some k (sym e))
+    go false e = (refl, same_Some k (length message) e)

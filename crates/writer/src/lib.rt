@@ -1,122 +1,51 @@
-// Writing the message of a record to a buffer. `write` is public only for the crate above, which proves what it requires.
+// Writing the message of a record to a buffer. `Message` is public only for the crate above, which proves what `write` requires.
 #![tactic(auto)]
 
-ghost use Rattle.std.specs.Prelude.{◌≡◌, ◌+◌, ◌*◌, ◌<◌, ◌≤◌, length, take};
+ghost use Rattle.std.specs.Prelude.{◌≡◌, ℕ, ◌+◌, ◌*◌, ◌<◌, ◌≤◌, length, take};
 ghost use Rattle.std.proofs.lemmas.List.Edits.{sets};
 ghost use Rattle.ballots.specs.Ballots.{tail_of};
-ghost use Rattle.numbers.specs.Numbers.{bytes16, bytes32, run};
 ghost use Rattle.spelling.specs.Spelling.{head_bytes, head_size, log_record, ballot_bytes, end_bytes};
-ghost use Rattle.writer.specs.Written.{front_bytes, message_of, Writable, Writes};
+ghost use Rattle.writer.specs.Written.{front_bytes, log_record-length, message_of, Writable, Writes};
 
 use ballots::Ballot;
 use head_places::head_size;
-use put_numbers::{put16, put32, put64};
+use put_numbers::{Item, put_run};
 
-// One log record at a position. The value goes first: its four stores then become one.
-fn put_record(out: &mut [u8], at: usize, value: u32)
-    requires { at + 6 ≤ length out.old }
-    ensures { out.new ≡ sets out.old at (log_record value) }
-{
-    put32(out, at + 2, value);
-    out[at] = 0x4C;
-    out[at + 1] = 0x47;
-}
+// The log's entries are written as log records.
+struct LogRecord;
 
-// The first k values of the log, as log records from a position on; the position after them.
-fn put_log(out: &mut [u8], at: usize, log: &[u32], k: usize) -> usize
-    requires { (k ≤ length log.now) × (at + 6 * k ≤ length out.old) }
-    ensures { (result ≡ at + 6 * k) × (out.new ≡ sets out.old at (run log_record (take k log.now))) }
-{
-    let mut p = at;
-    for i in 0..k {
-        put_record(out, p, log[i]);
-        p += 6;
+impl Item for LogRecord {
+    type Of = u32;
+
+    ghost SIZE = { 6 };
+
+    const SIZE: usize = 6;
+
+    ghost bytes = { log_record };
+
+    ghost sized = { log_record-length };
+
+    // The value goes first: its four stores then become one.
+    fn put(out: &mut [u8], at: usize, value: u32) {
+        u32::put(out, at + 2, value);
+        out[at] = 0x4C;
+        out[at + 1] = 0x47;
     }
-    p
-}
-
-// The first k values, four bytes each, from a position on; the position after them.
-fn put_values(out: &mut [u8], at: usize, values: &[u32], k: usize) -> usize
-    requires { (k ≤ length values.now) × (at + 4 * k ≤ length out.old) }
-    ensures { (result ≡ at + 4 * k) × (out.new ≡ sets out.old at (run bytes32 (take k values.now))) }
-{
-    let mut p = at;
-    for i in 0..k {
-        put32(out, p, values[i]);
-        p += 4;
-    }
-    p
-}
-
-// The first k weights, two bytes each, from a position on; the position after them.
-fn put_weights(out: &mut [u8], at: usize, weights: &[u16], k: usize) -> usize
-    requires { (k ≤ length weights.now) × (at + 2 * k ≤ length out.old) }
-    ensures { (result ≡ at + 2 * k) × (out.new ≡ sets out.old at (run bytes16 (take k weights.now))) }
-{
-    let mut p = at;
-    for i in 0..k {
-        put16(out, p, weights[i]);
-        p += 2;
-    }
-    p
 }
 
 // The ballot of an office from a position on, nothing where it is empty; the position after it.
-fn put_ballot(out: &mut [u8], at: usize, o: usize, b: Ballot) -> usize
-    requires { (b.len ≤ 32) × ((o < 256) × (at + length (ballot_bytes o (tail_of b)) ≤ length out.old)) }
-    ensures { (result ≡ at + length (ballot_bytes o (tail_of b))) × (out.new ≡ sets out.old at (ballot_bytes o (tail_of b))) }
+fn put_ballot(out: &mut [u8], at: usize, o: usize, b: &Ballot) -> usize
+    requires { (b.now.len ≤ 32) × ((o < 256) × (at + length (ballot_bytes o (tail_of b.now)) ≤ length out.old)) }
+    ensures { (result ≡ at + length (ballot_bytes o (tail_of b.now))) × (out.new ≡ sets out.old at (ballot_bytes o (tail_of b.now))) }
 {
-    let len = b.len;
-    if len == 0 {
+    if b.len == 0 {
         return at;
     }
-    let cells = b.cells;
     out[at] = 0x42;
     out[at + 1] = 0x41;
     out[at + 2] = o as u8;
-    out[at + 3] = len as u8;
-    put_values(out, at + 4, &cells, len)
-}
-
-// The head, at the start of the buffer; the position after it.
-fn put_head(
-    out: &mut [u8],
-    sender: usize,
-    n: usize,
-    weights: [u16; 8],
-    dropped: u64,
-    held: usize,
-) -> usize
-    requires { (n ≤ 8) × ((sender < 256) × ((dropped + held < 18446744073709551616) × (head_size n ≤ length out.old))) }
-    ensures { (result ≡ head_size n) × (out.new ≡ sets out.old 0 (head_bytes sender n (take n weights) (dropped + held) dropped)) }
-{
-    out[0] = 0x53;
-    out[1] = 0x48;
-    out[2] = sender as u8;
-    out[3] = n as u8;
-    let p = put_weights(out, 4, &weights, n);
-    put64(out, p, dropped + held as u64);
-    put64(out, p + 8, dropped);
-    p + 16
-}
-
-// The head and the log records, from the start of the buffer on; the position after them.
-fn put_front(
-    out: &mut [u8],
-    sender: usize,
-    n: usize,
-    weights: [u16; 8],
-    dropped: u64,
-    log: &[u32],
-    held: usize,
-) -> usize
-    requires { (n ≤ 8) × ((sender < 256) × ((dropped + held < 18446744073709551616)
-        × ((held ≤ length log.now) × (head_size n + 6 * held ≤ length out.old)))) }
-    ensures { (result ≡ head_size n + 6 * held)
-        × (out.new ≡ sets out.old 0 (front_bytes sender n weights dropped log.now held)) }
-{
-    let h = put_head(out, sender, n, weights, dropped, held);
-    put_log(out, h, log, held)
+    out[at + 3] = b.len as u8;
+    put_run::<u32>(out, at + 4, &b.cells[..b.len])
 }
 
 // The end, at a position.
@@ -129,46 +58,83 @@ fn put_end(out: &mut [u8], at: usize)
 }
 
 // How many bytes the ballot of an office takes.
-fn ballot_size(o: usize, b: Ballot) -> usize
-    requires { b.len ≤ 32 }
-    ensures { (result ≡ length (ballot_bytes o (tail_of b))) × (result ≤ 132) }
+fn ballot_size(b: &Ballot) -> usize
+    requires { b.now.len ≤ 32 }
+    ensures { ((o : ℕ) → result ≡ length (ballot_bytes o (tail_of b.now))) × (result ≤ 132) }
 {
-    let len = b.len;
-    if len == 0 {
-        return 0;
-    }
-    4 + 4 * len
+    if b.len == 0 { 0 } else { 4 + 4 * b.len }
 }
 
-// Writes the message of a record to the start of a buffer that has room for it, and answers its length. "Later bytes of the buffer keep
-// their contents." Without room the answer is 0, and the buffer is as it was. The ballots are walked here, twice: a function that is
-// handed all eight copies them.
-pub fn write(
-    sender: usize,
-    n: usize,
-    weights: [u16; 8],
-    dropped: u64,
-    log: &[u32],
-    held: usize,
-    ballots: [Ballot; 8],
-    out: &mut [u8],
-) -> usize
-    requires { Writable sender n dropped log.now held ballots }
-    ensures { Writes (message_of sender n weights dropped log.now held ballots) out.old result out.new }
-{
-    let mut size = head_size(n) + 6 * held + 2;
-    for o in 0..n {
-        let b = ballots[o];
-        size += ballot_size(o, b);
+// What a message says: its sender, the founding weights of n offices, how many entries are dropped, those that are held, and the ballots.
+// No ghost field says that it is `Writable`: two contracts do, and the other two ask for less.
+#[derive(Clone, Copy)]
+pub struct Message<'a> {
+    pub sender: usize,
+    pub n: usize,
+    pub weights: [u16; 8],
+    pub dropped: u64,
+    pub log: &'a [u32],
+    pub ballots: &'a [Ballot; 8],
+}
+
+impl Message<'_> {
+    // The head, at the start of the buffer; the position after it.
+    fn put_head(&self, out: &mut [u8]) -> usize
+        requires { (self.now.n ≤ 8) × ((self.now.sender < 256) × ((self.now.dropped + length self.now.log.now < 18446744073709551616)
+            × (head_size self.now.n ≤ length out.old))) }
+        ensures { (result ≡ head_size self.now.n) × (out.new ≡ sets out.old 0
+            (head_bytes self.now.sender self.now.n (take self.now.n self.now.weights) (self.now.dropped + length self.now.log.now) self.now.dropped)) }
+    {
+        out[0] = 0x53;
+        out[1] = 0x48;
+        out[2] = self.sender as u8;
+        out[3] = self.n as u8;
+        let p = put_run::<u16>(out, 4, &self.weights[..self.n]);
+        u64::put(out, p, self.dropped + self.log.len() as u64);
+        u64::put(out, p + 8, self.dropped);
+        p + 16
     }
-    if out.len() < size {
-        return 0;
+
+    // The head and the log records, from the start of the buffer on; the position after them.
+    fn put_front(&self, out: &mut [u8]) -> usize
+        requires { (self.now.n ≤ 8) × ((self.now.sender < 256) × ((self.now.dropped + length self.now.log.now < 18446744073709551616)
+            × (head_size self.now.n + 6 * length self.now.log.now ≤ length out.old))) }
+        ensures { (result ≡ head_size self.now.n + 6 * length self.now.log.now) × (out.new ≡ sets out.old 0
+            (front_bytes self.now.sender self.now.n self.now.weights self.now.dropped self.now.log.now (length self.now.log.now))) }
+    {
+        let p = self.put_head(out);
+        put_run::<LogRecord>(out, p, self.log)
     }
-    let mut p = put_front(out, sender, n, weights, dropped, log, held);
-    for o in 0..n {
-        let b = ballots[o];
-        p = put_ballot(out, p, o, b);
+
+    // How many bytes the message takes.
+    fn size(&self) -> usize
+        requires { Writable self.now.sender self.now.n self.now.dropped self.now.log.now self.now.ballots.now }
+        ensures { result ≡ length (message_of self.now.sender self.now.n self.now.weights self.now.dropped self.now.log.now (length self.now.log.now) self.now.ballots.now) }
+    {
+        let ballots = self.ballots;
+        let mut size = head_size(self.n) + 6 * self.log.len() + 2;
+        for b in &ballots[..self.n] {
+            size += ballot_size(b);
+        }
+        size
     }
-    put_end(out, p);
-    size
+
+    // Writes the message to the start of a buffer that has room for it, and answers its length. "Later bytes of the buffer keep their
+    // contents." Without room there is no answer, and the buffer is as it was.
+    pub fn write(&self, out: &mut [u8]) -> Option<usize>
+        requires { Writable self.now.sender self.now.n self.now.dropped self.now.log.now self.now.ballots.now }
+        ensures { Writes (message_of self.now.sender self.now.n self.now.weights self.now.dropped self.now.log.now (length self.now.log.now) self.now.ballots.now) out.old result out.new }
+    {
+        let size = self.size();
+        if out.len() < size {
+            return None;
+        }
+        let ballots = self.ballots;
+        let mut p = self.put_front(out);
+        for (o, b) in ballots[..self.n].iter().enumerate() {
+            p = put_ballot(out, p, o, b);
+        }
+        put_end(out, p);
+        Some(size)
+    }
 }

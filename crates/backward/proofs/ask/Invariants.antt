@@ -2,5 +2,5 @@
 use Rattle.backward.proofs.Cells.{Asking}
 use Rattle.backward.proofs.ask.Given as goal
 
-abbrev pub invariant-loop-i : goal.invariant-loop-i
-invariant-loop-i l = Asking l.lines l.left l.cells l.i
+abbrev pub invariant-loop-named : goal.invariant-loop-named
+invariant-loop-named l = Asking l.lines l.left l.cells l.named-index

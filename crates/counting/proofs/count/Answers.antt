@@ -5,12 +5,12 @@ use Rattle.protocol.specs.Counts.{count_of}
 use Rattle.counting.proofs.Counting.{counted-in, counted-far}
 use Rattle.counting.proofs.count.Goals as goal
 
-pub returns-then-office-ge8 : goal.returns-then-office-ge8
-returns-then-office-ge8 c = counted-far c.args.counts.now c.args.word _ c.office_of-office.ensures.0 (omega (arith, c.requires.0))
-
 -- what was read is the office's count
 pub overflow_add-counts : goal.overflow_add-counts
 overflow_add-counts c = omega (arith, ap (count_of c.args.counts.now) c.office_of-office.ensures.0, c.requires.1)
 
-pub returns : goal.returns
-returns c = counted-in c.args.counts.now c.args.word _ c.office_of-office.ensures.0
+pub returns-then-office-lt8 : goal.returns-then-office-lt8
+returns-then-office-lt8 c = counted-in c.args.counts.now c.args.word _ c.office_of-office.ensures.0
+
+pub returns-else-office-lt8 : goal.returns-else-office-lt8
+returns-else-office-lt8 c = counted-far c.args.counts.now c.args.word _ c.office_of-office.ensures.0 (omega (arith, c.requires.0))

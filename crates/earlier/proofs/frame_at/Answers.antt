@@ -11,6 +11,7 @@ use Rattle.frame.specs.Soundness.{sound_b}
 use Rattle.frame.specs.declared.Record.{Record}
 use Rattle.frame.proofs.Sound.{sound}
 use Rattle.earlier.proofs.Made.{earlier-unsound, earlier-no-line, earlier-dropped, earlier-no-place, earlier-many, earlier-made}
+use Rattle.earlier.proofs.frame_at.Goals.{then-p-dropped-via-then-p-dropped, then-p-dropped-via-else-p-dropped+then-p-office, then-p-dropped-via-else-p-dropped+else-p-office+then-lines}
 use Rattle.earlier.proofs.frame_at.Goals as goal
 
 pub returns-then-not-sound : goal.returns-then-not-sound
@@ -30,25 +31,12 @@ returns-then-p-dropped c =
     let passed : sound_b office log ≡ true = sym c.sound.ensures ∙ c.if-not-sound.false in
     let lines : List ℕ = c.args.lines.now in
     let of-frame : of_frame lines ≡ true = sym c.of_frame.ensures ∙ c.if-not-of_frame.false in
-    c.refused-then-p-dropped.ensures ∙ earlier-dropped _ _ _ _ passed of-frame c.if-p-dropped.true
-
-pub returns-then-p-office : goal.returns-then-p-office
-returns-then-p-office c =
-    let office : Record = c.args.office in
-    let log : List ℕ = c.args.log.now in
-    let passed : sound_b office log ≡ true = sym c.sound.ensures ∙ c.if-not-sound.false in
-    let lines : List ℕ = c.args.lines.now in
-    let of-frame : of_frame lines ≡ true = sym c.of_frame.ensures ∙ c.if-not-of_frame.false in
-    c.refused-then-p-office.ensures ∙ earlier-no-place _ _ _ _ passed of-frame c.if-p-office.true
-
-pub returns-then-lines : goal.returns-then-lines
-returns-then-lines c =
-    let office : Record = c.args.office in
-    let log : List ℕ = c.args.log.now in
-    let passed : sound_b office log ≡ true = sym c.sound.ensures ∙ c.if-not-sound.false in
-    let lines : List ℕ = c.args.lines.now in
-    let of-frame : of_frame lines ≡ true = sym c.of_frame.ensures ∙ c.if-not-of_frame.false in
-    c.refused-then-lines.ensures ∙ earlier-many _ _ _ _ passed of-frame c.if-lines.true
+    c.refused-then-p-dropped.ensures
+    ∙ elim c.then-p-dropped.branch [
+      | then-p-dropped-via-then-p-dropped w ↦ earlier-dropped _ _ _ _ passed of-frame w.if-p-dropped.true
+      | then-p-dropped-via-else-p-dropped+then-p-office w ↦ earlier-no-place _ _ _ _ passed of-frame w.if-p-office.true
+      | then-p-dropped-via-else-p-dropped+else-p-office+then-lines w ↦ earlier-many _ _ _ _ passed of-frame w.if-lines.true
+    ]
 
 pub slice_bounds-walk-end : goal.slice_bounds-walk-end
 slice_bounds-walk-end c =

@@ -14,15 +14,15 @@ use Rattle.earlier.proofs.of_frame.Goals as goal
 below_64 : (line : ℕ) → ltb line 64 ≡ is_line line
 below_64 line = alike (ltb line 64) (leb line 63) (λ e. le-leb line 63 (omega (arith, ltb-true line 64 e))) (λ e. lt-ltb line 64 (omega (arith, leb-true line 63 e)))
 
-pub loop-i-init : goal.loop-i-init
+pub loop-line-init : goal.loop-line-init
 unfolding both
-loop-i-init c = (search rules, refl)
+loop-line-init c = refl
 
-pub loop-i-preserved : goal.loop-i-preserved
-loop-i-preserved c =
-    let l = c.loop-i in
+pub loop-line-preserved : goal.loop-line-preserved
+loop-line-preserved c =
+    let l = c.loop-line in
     let lines = c.args.lines.now in
-    (search rules, with-next is_line 0 lines l.good l.i l.invariant.1 (search rules) _ (below_64 (get_or lines l.i 0)))
+    with-next is_line 0 lines l.good l.line-index l.invariant (search rules) _ (below_64 (get_or lines l.line-index 0))
 
 pub returns : goal.returns
-returns c = let l = c.loop-i in with-done is_line 0 c.args.lines.now l.good l.i l.invariant.1 (search rules)
+returns c = let l = c.loop-line in with-done is_line 0 c.args.lines.now l.good l.line-index l.invariant (search rules)

@@ -1,8 +1,7 @@
 -- A walk that makes every test, so that it runs on vectors.
 use mathlib.Core.Bool.{Bool}
-use Prim.Native.Nat.{ℕ, ◌≤◌}
+use Prim.Native.Nat.{ℕ}
 use lib.Dec.{leb}
-use lib.ListN.{length}
 use Rattle.lists.proofs.Walk.{AllWith}
 use Rattle.runs.specs.Runs.{of_frame}
 use Rattle.earlier.proofs.of_frame.Given as goal
@@ -11,5 +10,5 @@ use Rattle.earlier.proofs.of_frame.Given as goal
 abbrev pub is_line : ℕ → Bool
 is_line line = leb line 63
 
-abbrev pub invariant-loop-i : goal.invariant-loop-i
-invariant-loop-i l = (l.i ≤ length l.lines) × AllWith (of_frame l.lines) is_line l.lines l.good l.i
+abbrev pub invariant-loop-line : goal.invariant-loop-line
+invariant-loop-line l = AllWith (of_frame l.lines) is_line l.lines l.good l.line-index

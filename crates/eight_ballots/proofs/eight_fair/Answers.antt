@@ -9,22 +9,22 @@ use Rattle.ballots.specs.Ballots.{off_end}
 use Rattle.eight_ballots.specs.Fours.{fair_tail, padded_entries}
 use Rattle.eight_ballots.proofs.eight_fair.Goals as goal
 
-pub loop-i-init : goal.loop-i-init
+pub loop-b-init : goal.loop-b-init
 unfolding both
-loop-i-init c = (search rules, refl)
+loop-b-init c = refl
 
-pub loop-i-preserved : goal.loop-i-preserved
-loop-i-preserved c =
+pub loop-b-preserved : goal.loop-b-preserved
+loop-b-preserved c =
     let eight : length c.args.all ≡ 8 = search rules in
-    let l = c.loop-i in
-    (search rules, with-next (fair_tail c.args.n) off_end c.args.all l.good l.i l.invariant.1 (omega (arith, eight)) _ c.fair_tail-good.ensures)
+    let l = c.loop-b in
+    with-next (fair_tail c.args.n) off_end c.args.all l.good l.b-index l.invariant (omega (arith, eight)) _ c.fair_tail-good.ensures
 
 pub fair_tail-good-requires : goal.fair_tail-good-requires
 fair_tail-good-requires c =
     let eight : length c.args.all ≡ 8 = search rules in
-    (c.requires.0, (c.requires.1.0, all-at (padded_entries c.args.n) off_end c.args.all c.loop-i.i c.requires.1.1 (omega (arith, eight))))
+    (c.requires.0, (c.requires.1.0, all-at (padded_entries c.args.n) off_end c.args.all c.loop-b.b-index c.requires.1.1 (omega (arith, eight))))
 
 pub returns : goal.returns
 returns c =
     let eight : length c.args.all ≡ 8 = search rules in
-    let l = c.loop-i in with-done (fair_tail c.args.n) off_end c.args.all l.good l.i l.invariant.1 (omega (arith, eight))
+    let l = c.loop-b in with-done (fair_tail c.args.n) off_end c.args.all l.good l.b-index l.invariant (omega (arith, eight))

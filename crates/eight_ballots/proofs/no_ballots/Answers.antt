@@ -7,17 +7,17 @@ use Rattle.lists.proofs.Walk.{with-next, with-done}
 use Rattle.ballots.specs.Ballots.{empty_ballot, off_end}
 use Rattle.eight_ballots.proofs.no_ballots.Goals as goal
 
-pub loop-i-init : goal.loop-i-init
+pub loop-b-init : goal.loop-b-init
 unfolding both
-loop-i-init c = (search rules, refl)
+loop-b-init c = refl
 
-pub loop-i-preserved : goal.loop-i-preserved
-loop-i-preserved c =
+pub loop-b-preserved : goal.loop-b-preserved
+loop-b-preserved c =
     let eight : length c.args.all ≡ 8 = search rules in
-    let l = c.loop-i in
-    (search rules, with-next empty_ballot off_end c.args.all l.none l.i l.invariant.1 (omega (arith, eight)) _ c.is_none-none.ensures)
+    let l = c.loop-b in
+    with-next empty_ballot off_end c.args.all l.none l.b-index l.invariant (omega (arith, eight)) _ c.is_none-none.ensures
 
 pub returns : goal.returns
 returns c =
     let eight : length c.args.all ≡ 8 = search rules in
-    let l = c.loop-i in with-done empty_ballot off_end c.args.all l.none l.i l.invariant.1 (omega (arith, eight))
+    let l = c.loop-b in with-done empty_ballot off_end c.args.all l.none l.b-index l.invariant (omega (arith, eight))

@@ -6,18 +6,18 @@ use Rattle.lists.proofs.Walk.{with-done}
 use Rattle.entries.proofs.Carries.{no-carry-zero, raised-next}
 use Rattle.entries.proofs.all_coding.Goals as goal
 
-pub loop-i-init : goal.loop-i-init
+pub loop-word-init : goal.loop-word-init
 unfolding both
-loop-i-init c = (search rules, rw no-carry-zero)
+loop-word-init c = rw no-carry-zero
 
-pub loop-i-preserved : goal.loop-i-preserved
-loop-i-preserved c =
-    let l = c.loop-i in
+pub loop-word-preserved : goal.loop-word-preserved
+loop-word-preserved c =
+    let l = c.loop-word in
     let a = c.args in
-    (search rules, raised-next a.words.now l.bits l.i c.raised-bits.result (search rules) a.n l.invariant.1 c.raised-bits.ensures.1)
+    raised-next a.words.now l.bits l.word-index c.raised-bits.result (search rules) a.n l.invariant c.raised-bits.ensures.1
 
 pub returns : goal.returns
 returns c =
-    let l = c.loop-i in
+    let l = c.loop-word in
     let a = c.args in
-    c.no_carry.ensures ∙ with-done (is_coding a.n) 0 a.words.now (no_carry l.bits) l.i l.invariant.1 (search rules)
+    c.no_carry.ensures ∙ with-done (is_coding a.n) 0 a.words.now (no_carry l.bits) l.word-index l.invariant (search rules)

@@ -13,18 +13,18 @@ returns-then-all_coding c =
     let a = c.args in
     sym (all-mono (is_coding a.n) (is_entry a.n) (coding-entry a.n) a.words.now (sym c.all_coding.ensures ∙ c.if-all_coding.true))
 
-pub loop-i-init : goal.loop-i-init
+pub loop-word-init : goal.loop-word-init
 unfolding both
-loop-i-init c = (search rules, refl)
+loop-word-init c = refl
 
-pub loop-i-preserved : goal.loop-i-preserved
-loop-i-preserved c =
-    let l = c.loop-i in
+pub loop-word-preserved : goal.loop-word-preserved
+loop-word-preserved c =
+    let l = c.loop-word in
     let a = c.args in
-    (search rules, with-next (is_entry a.n) 0 a.words.now l.good l.i l.invariant.1 (search rules) c.is_entry-good.result c.is_entry-good.ensures)
+    with-next (is_entry a.n) 0 a.words.now l.good l.word-index l.invariant (search rules) c.is_entry-good.result c.is_entry-good.ensures
 
 pub returns : goal.returns
 returns c =
-    let l = c.loop-i in
+    let l = c.loop-word in
     let a = c.args in
-    with-done (is_entry a.n) 0 a.words.now l.good l.i l.invariant.1 (search rules)
+    with-done (is_entry a.n) 0 a.words.now l.good l.word-index l.invariant (search rules)

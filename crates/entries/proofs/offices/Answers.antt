@@ -1,12 +1,16 @@
--- The two cases of the definition.
-use borrow.Author.Tests.{lt-leb, le-leb}
+use native.Mathlib.Omega.{arith}
+use mathlib.Core.Path.{◌≡◌, refl, sym, ◌∙◌}
+use mathlib.Core.Bool.{Bool, true, false}
+use Prim.Native.Nat.{min}
+use lib.Dec.{leb}
+use borrow.Author.Tests.{leb-true, leb-false}
 use Rattle.lists.specs.Tests.{pick}
+use Rattle.lists.proofs.Tests.{pick_true, pick-false}
 use Rattle.entries.proofs.offices.Goals as goal
 
-pub returns-then-n-gt256 : goal.returns-then-n-gt256
-unfolding pick
-returns-then-n-gt256 c = simp (lt-leb _ _ c.if-n-gt256.true)
-
 pub returns : goal.returns
-unfolding pick
-returns c = simp (le-leb _ _ c.if-n-gt256.false)
+returns c = c.min.ensures ∙ go (leb c.args.n 256) refl
+  where
+    go : (t : Bool) → leb c.args.n 256 ≡ t → min c.args.n 256 ≡ pick (leb c.args.n 256) c.args.n 256
+    go true e = let h = leb-true c.args.n 256 e in omega arith ∙ sym (pick_true _ c.args.n 256 e)
+    go false e = let h = leb-false c.args.n 256 e in omega arith ∙ sym (pick-false _ c.args.n 256 e)

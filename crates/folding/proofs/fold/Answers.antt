@@ -9,7 +9,9 @@ use Rattle.folding.proofs.Folds.{fold-unsound, gone_of, gone-is, gone-within, fo
 use Rattle.folding.proofs.fold.Goals as goal
 
 pub returns-then-not-sound : goal.returns-then-not-sound
-returns-then-not-sound c = fold-unsound _ _ (sym c.sound.ensures ∙ c.if-not-sound.true)
+returns-then-not-sound c =
+    let told = fold-unsound c.args.office c.args.log.now (sym c.sound.ensures ∙ c.if-not-sound.true) in
+    (rw c.number.ensures told.0, told.1)
 
 pub drop_first-after-requires : goal.drop_first-after-requires
 drop_first-after-requires c =

@@ -25,8 +25,8 @@ counts_after-counts-requires c =
     let a = c.args in
     counts-room a.office a.log.now a.lowest a.highest sounds
 
-pub sure_winner-winner-requires : goal.sure_winner-winner-requires
-sure_winner-winner-requires c =
+pub sure_winner-requires : goal.sure_winner-requires
+sure_winner-requires c =
     let passed : sound_b c.args.office c.args.log.now ≡ true = sym c.sound.ensures ∙ c.if-not-sound.false in
     let sounds : Sound c.args.office c.args.log.now = sound _ _ passed in
     let a = c.args in
@@ -38,7 +38,7 @@ returns c =
     let sounds : Sound c.args.office c.args.log.now = sound _ _ passed in
     let fitted : let a = c.args in fits (bounds_of a.office a.lowest) (bounds_of a.office a.highest) ≡ true = sym c.fit.ensures ∙ c.if-not-fit.false in
     let a = c.args in
-    forecast-done a.office a.log.now a.lowest a.highest sounds passed fitted _ c.counts_after-counts.ensures _ c.of_ballots-votes.ensures _ c.sure_winner-winner.ensures
+    forecast-done a.office a.log.now a.lowest a.highest passed fitted _ c.counts_after-counts.ensures _ c.of_ballots-votes.ensures _ c.sure_winner.ensures
 
 pub fit-requires : goal.fit-requires
 fit-requires c =

@@ -1,60 +1,47 @@
-use Prim.Native.Nat.{ℕ, ◌+◌, ◌<◌}
-use mathlib.Core.Path.{◌≡◌, refl, sym, ◌∙◌}
-use mathlib.Core.List.{List}
-use mir.Val.{Fits}
-use mir.Syntax.{w32}
-use borrow.Author.Rules.{rules}
+-- A turn takes the next record off the front of what is left.
+use mathlib.Core.Logic.{inl, inr}
+use mathlib.Core.Path.{sym, ap, subst, ◌∙◌}
 use native.Mathlib.Omega.{arith}
-use lib.ListN.{get_or, drop}
-use lib.Seq.{get_or-drop}
-use Rattle.households.proofs.Walk.{here-true, no-mark, no_line, refused-length, refused-many, pooling-begins, pooling-again, pooling-fails, pooling-ends}
-use Rattle.households.proofs.pool.Goals.{After-be16_at}
+use Rattle.std.specs.Slice.Iter.{chunks_exact_rest, chunks_exact_size}
+use Rattle.households.proofs.Walk.{no-mark, no_line, refused-length, refused-many, Pooling, pooling-begins, pooling-again, pooling-fails, pooling-ends}
+use Rattle.households.proofs.pool.Goals.{then-s-ne0-via-then-s-ne0, then-s-ne0-via-else-s-ne0+then-s-gt-MOST}
 use Rattle.households.proofs.pool.Goals as goal
 
-abbrev bytes : After-be16_at → List ℕ
-bytes c = c.args.s.now
-
--- the byte that is j places behind the record's start
-byte : (c : After-be16_at) (j : ℕ) → get_or (drop c.loop-i.at (bytes c)) j 0 < 256
-byte c j = rw get_or-drop (omega (arith, c.type_inv.s (c.loop-i.at + j)))
-
--- the record's line, as the bytes from its start on have it
-line-there : (c : After-be16_at) → get_or (drop c.loop-i.at (bytes c)) 2 0 ≡ get_or (bytes c) (c.loop-i.at + 2) 0
-line-there c = get_or-drop c.loop-i.at (bytes c) 2 0
-
 pub returns-then-s-ne0 : goal.returns-then-s-ne0
-returns-then-s-ne0 c = c.no_pools.ensures ∙ refused-length _ c.if-s-ne0.true
+returns-then-s-ne0 c =
+    elim c.then-s-ne0.branch [
+      | then-s-ne0-via-then-s-ne0 w ↦ refused-length _ w.if-s-ne0.true
+      | then-s-ne0-via-else-s-ne0+then-s-gt-MOST w ↦ refused-many _ w.if-s-gt-MOST.true
+    ]
 
-pub returns-then-count-gt-MOST : goal.returns-then-count-gt-MOST
-returns-then-count-gt-MOST c = c.no_pools-then-count-gt-MOST.ensures ∙ refused-many _ c.if-count-gt-MOST.true
+pub loop-household-init : goal.loop-household-init
+loop-household-init c =
+    let s = c.args.s.now in
+    let e = c.into_iter-household-iterator.ensures.into_iter_gives in (
+      ap (λ it. chunks_exact_size it) e ∙ c.chunks_exact-household-items.ensures.size,
+      subst (Pooling s _ _) (sym (ap (λ it. chunks_exact_rest it) e ∙ c.chunks_exact-household-items.ensures.rest)) (pooling-begins s (λ i. omega (arith, c.type_inv.s i))),
+    )
 
-pub returns-then-be16_at-ne18514 : goal.returns-then-be16_at-ne18514
-returns-then-be16_at-ne18514 c =
-    c.no_pools-then-be16_at-ne18514.ensures ∙ pooling-fails c.loop-i.invariant c.loop-i-test.true (no-mark _ (λ e. c.if-be16_at-ne18514.true (c.be16_at.ensures ∙ e)))
+pub returns-then-read_at-ne18514 : goal.returns-then-read_at-ne18514
+returns-then-read_at-ne18514 c =
+    let l = c.loop-household in
+    let steps = c.in-Some.ensures.steps in
+    let x = c.in-Some.household.now in
+    let inv = subst (Pooling c.args.s.now l.met l.totals) steps.1.0 l.invariant.1 in
+    pooling-fails _ _ (steps.1.1 ∙ l.invariant.0) inv
+    (elim c.then-read_at-ne18514.either [ inl n ↦ no-mark x (λ e. n (c.read_at.ensures ∙ e)) | inr h ↦ no_line x (omega (arith, h.1, c.from-line.ensures)) ])
 
-pub returns-then-line-ge-LINES : goal.returns-then-line-ge-LINES
-returns-then-line-ge-LINES c =
-    let there = line-there (goal.at.returns-then-line-ge-LINES c).After-be16_at in
-    c.no_pools-then-line-ge-LINES.ensures ∙ pooling-fails c.loop-i.invariant c.loop-i-test.true (no_line _ (omega (arith, c.if-line-ge-LINES.true)))
-
-pub overflow_add-totals : goal.overflow_add-totals
-overflow_add-totals c =
-    let fit : Fits w32 c.be32_at.result = search rules in
-    omega (arith, c.loop-i.invariant.most (get_or (bytes (goal.at.overflow_add-totals c).After-be16_at) (c.loop-i.at + 2) 0))
-
-pub loop-i-preserved : goal.loop-i-preserved
-loop-i-preserved c =
-    let there = line-there (goal.at.loop-i-preserved c).After-be16_at in
-    let fit : Fits w32 c.be32_at.result = search rules in
-    pooling-again c.loop-i.invariant c.loop-i-test.true
-    (here-true _ (byte (goal.at.loop-i-preserved c).After-be16_at 0) (byte (goal.at.loop-i-preserved c).After-be16_at 1) (sym c.be16_at.ensures ∙ c.if-be16_at-ne18514.false) (omega (arith, c.if-line-ge-LINES.false)))
-    refl c.be32_at.ensures (omega arith) (omega (arith, c.if-line-ge-LINES.false))
+pub loop-household-preserved : goal.loop-household-preserved
+loop-household-preserved c =
+    let l = c.loop-household in
+    let steps = c.in-Some.ensures.steps in
+    let inv = subst (Pooling c.args.s.now l.met l.totals) steps.1.0 l.invariant.1 in (
+      steps.0 ∙ l.invariant.0,
+      pooling-again _ _ (steps.1.1 ∙ l.invariant.0) inv (sym c.read_at.ensures ∙ c.if-read_at-ne18514.false) c.from-line.ensures (c.from.ensures ∙ c.read_at-in-loop-household.ensures)
+          (omega (arith, c.from.ensures, c.read_at-in-loop-household.type_inv)) (omega (arith, c.from-line.ensures, c.if-line-ge-LINES.false)),
+    )
 
 pub returns : goal.returns
-returns c = pooling-ends c.loop-i.invariant c.loop-i-test.false c.if-s-ne0.false (omega (arith, c.if-count-gt-MOST.false))
-
-pub loop-i-init : goal.loop-i-init
-loop-i-init c = pooling-begins _
-
-pub overflow_cast-line : goal.overflow_cast-line
-overflow_cast-line c = omega (arith, c.type_inv.s (c.loop-i.at + 2))
+returns c =
+    let l = c.loop-household in
+    pooling-ends l.invariant.1 (omega (arith, c.in-None.ensures.steps.1.0, l.invariant.0)) c.if-s-ne0.false c.if-s-gt-MOST.false

@@ -5,21 +5,21 @@ use lib.ListN.{length}
 use Rattle.kept_limits.proofs.Left.{left-next, left-short, left_end}
 use Rattle.kept_limits.proofs.add_up.Goals as goal
 
-pub loop-i-init : goal.loop-i-init
-loop-i-init c = (search rules, omega arith)
+pub loop-count-init : goal.loop-count-init
+loop-count-init c = omega arith
 
 pub returns-then-count-left : goal.returns-then-count-left
 returns-then-count-left c =
     let eight : length c.args.counts ≡ 8 = search rules in
-    let l = c.loop-i in left-short c.args.dropped c.args.counts l.left l.i l.invariant.1 (omega (arith, eight)) (omega arith)
+    let l = c.loop-count in left-short c.args.dropped c.args.counts l.left l.count-index l.invariant (omega (arith, eight)) (omega arith)
 
-pub loop-i-preserved : goal.loop-i-preserved
-loop-i-preserved c =
+pub loop-count-preserved : goal.loop-count-preserved
+loop-count-preserved c =
     let eight : length c.args.counts ≡ 8 = search rules in
-    let l = c.loop-i in
-    (omega arith, left-next c.args.dropped c.args.counts l.left l.i l.invariant.1 (omega (arith, eight)) _ (omega arith))
+    let l = c.loop-count in
+    left-next c.args.dropped c.args.counts l.left l.count-index l.invariant (omega (arith, eight)) _ (omega arith)
 
 pub returns : goal.returns
 returns c =
     let eight : length c.args.counts ≡ 8 = search rules in
-    let l = c.loop-i in left_end c.args.dropped c.args.counts l.left l.i l.invariant.1 (omega (arith, eight))
+    let l = c.loop-count in left_end c.args.dropped c.args.counts l.left l.count-index l.invariant (omega (arith, eight))

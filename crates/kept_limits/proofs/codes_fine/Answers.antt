@@ -7,17 +7,17 @@ use Rattle.lists.proofs.Walk.{with-next, with-done}
 use Rattle.kept.specs.Kept.{is_kept_code}
 use Rattle.kept_limits.proofs.codes_fine.Goals as goal
 
-pub loop-i-init : goal.loop-i-init
+pub loop-code-init : goal.loop-code-init
 unfolding both
-loop-i-init c = (search rules, refl)
+loop-code-init c = refl
 
-pub loop-i-preserved : goal.loop-i-preserved
+pub loop-code-preserved : goal.loop-code-preserved
 unfolding is_kept_code
-loop-i-preserved c =
+loop-code-preserved c =
     let all : length c.args.codes ≡ 64 = search rules in
-    let l = c.loop-i in (search rules, with-next is_kept_code 0 c.args.codes l.good l.i l.invariant.1 (omega (arith, all)) _ refl)
+    let l = c.loop-code in with-next is_kept_code 0 c.args.codes l.good l.code-index l.invariant (omega (arith, all)) _ refl
 
 pub returns : goal.returns
 returns c =
     let all : length c.args.codes ≡ 64 = search rules in
-    let l = c.loop-i in with-done is_kept_code 0 c.args.codes l.good l.i l.invariant.1 (omega (arith, all))
+    let l = c.loop-code in with-done is_kept_code 0 c.args.codes l.good l.code-index l.invariant (omega (arith, all))

@@ -1,13 +1,10 @@
--- A walk from the end: no word past `end` is for the line, so the words before it give the edit.
+-- A walk from the end: no word passed is for the line, so those that are left give the edit.
 use mathlib.Core.Path.{◌≡◌}
-use Prim.Native.Nat.{◌≤◌}
-use lib.ListN.{length, take}
+use Rattle.std.specs.Iterator.Adapters.{rev_source}
+use Rattle.std.specs.Slice.Iter.{iter_rest}
 use Rattle.protocol.specs.Codes.{of_cell}
 use Rattle.protocol.specs.Frames.{edit_after}
 use Rattle.last_edits.proofs.last_edit.Given as goal
 
-abbrev pub invariant-loop-end : goal.invariant-loop-end
-invariant-loop-end l = (l.end ≤ length l.words) × (edit_after l.line (of_cell l.before) l.words ≡ edit_after l.line (of_cell l.before) (take l.end l.words))
-
-abbrev pub decreases-loop-end : goal.decreases-loop-end
-decreases-loop-end l = l.end
+abbrev pub invariant-loop-word : goal.invariant-loop-word
+invariant-loop-word l = edit_after l.line (of_cell l.before) l.words ≡ edit_after l.line (of_cell l.before) (iter_rest (rev_source l.word-iterator))

@@ -21,19 +21,19 @@ pub returns-then-settled-gt-LIMIT : goal.returns-then-settled-gt-LIMIT
 unfolding length_limit
 returns-then-settled-gt-LIMIT c = sym (past-fails c.args.settled (search rules) _)
 
-pub loop-i-init : goal.loop-i-init
+pub loop-ballot-init : goal.loop-ballot-init
 unfolding both
-loop-i-init c = (search rules, refl)
+loop-ballot-init c = refl
 
-pub loop-i-preserved : goal.loop-i-preserved
+pub loop-ballot-preserved : goal.loop-ballot-preserved
 unfolding length_limit
-loop-i-preserved c =
-    let l = c.loop-i in
-    (search rules, with-next (in_room c.args.settled) off_end c.args.ballots l.good l.i l.invariant.1 (omega (arith, eight (goal.at.loop-i-preserved c).Start)) _ refl)
+loop-ballot-preserved c =
+    let l = c.loop-ballot in
+    with-next (in_room c.args.settled) off_end c.args.ballots l.good l.ballot-index l.invariant (omega (arith, eight (goal.at.loop-ballot-preserved c).Start)) _ refl
 
 pub returns : goal.returns
 unfolding length_limit
 returns c =
-    let l = c.loop-i in
-    with-done (in_room c.args.settled) off_end c.args.ballots l.good l.i l.invariant.1 (omega (arith, eight (goal.at.returns c).Start))
+    let l = c.loop-ballot in
+    with-done (in_room c.args.settled) off_end c.args.ballots l.good l.ballot-index l.invariant (omega (arith, eight (goal.at.returns c).Start))
     ∙ sym (lens-tails c.args.settled (search rules) c.args.ballots c.requires)

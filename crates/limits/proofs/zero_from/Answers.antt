@@ -1,28 +1,10 @@
-use borrow.Author.Rules.{rules}
-use native.Mathlib.Omega.{arith}
-use mathlib.Core.Path.{◌≡◌, refl, sym}
-use lib.ListN.{length}
-use lib.Dec.{eqb}
-use borrow.Author.Tests.{eq-eqb, ne_eqb}
-use Rattle.lists.proofs.Walk.{all-next, all-stop, all_done}
+use Rattle.std.proofs.Common.{rules, eqb}
+use Rattle.std.proofs.lemmas.Iterator.{YieldsList-from_slice}
+use Rattle.std.proofs.lemmas.Iterator.Adapters.{YieldsList-from_skip}
+use Rattle.std.proofs.lemmas.Iterator.Search.{all_from_yields_List}
+use borrow.Author.Tests.{tests}
+use Rattle.lists.proofs.Chains.{zeros_are}
 use Rattle.limits.proofs.zero_from.Goals as goal
 
-pub loop-i-init : goal.loop-i-init
-loop-i-init c = refl
-
-pub returns-then-weights-i-ne0 : goal.returns-then-weights-i-ne0
-returns-then-weights-i-ne0 c =
-    let l = c.loop-i in
-    let a = c.args in
-    let h : length a.weights ≡ 8 = search rules in
-    all-stop (eqb 0) 0 a.weights l.i l.invariant (omega arith) (ne_eqb 0 _ (λ e. c.if-weights-i-ne0.true (sym e)))
-
-pub loop-i-preserved : goal.loop-i-preserved
-loop-i-preserved c =
-    let l = c.loop-i in
-    let a = c.args in
-    let h : length a.weights ≡ 8 = search rules in
-    all-next (eqb 0) 0 a.weights l.i l.invariant (omega arith) (eq-eqb 0 _ (sym c.if-weights-i-ne0.false))
-
 pub returns : goal.returns
-returns c = let l = c.loop-i in let a = c.args in let h : length a.weights ≡ 8 = search rules in all_done (eqb 0) 0 a.weights l.i l.invariant (omega arith)
+returns c = zeros_are _ (all_from_yields_List (λ x. eqb x 0) _ _ _ c.all.ensures.ran (YieldsList-from_skip c.args.n (YieldsList-from_slice c.args.weights (cc)) (cc)) (λ x b q k. search (rules, tests)))

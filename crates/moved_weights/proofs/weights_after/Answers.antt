@@ -1,4 +1,5 @@
 use borrow.Author.Rules.{rules}
+use native.Mathlib.Omega.{arith}
 use mathlib.Core.Path.{◌≡◌, refl, sym, ap, ◌∙◌}
 use lib.ListN.{length}
 use Rattle.lists.proofs.Fold.{fold_next, fold_done}
@@ -10,19 +11,19 @@ use Rattle.moved_weights.proofs.weights_after.Goals as goal
 pub returns-then-no_moves : goal.returns-then-no_moves
 returns-then-no_moves c = let a = c.args in no-moves-stay a.weights a.words.now (sym c.no_moves.ensures ∙ c.if-no_moves.true)
 
-pub loop-i-init : goal.loop-i-init
-loop-i-init c = let h : length c.args.weights ≡ 8 = search rules in (search rules, h, refl)
+pub loop-word-init : goal.loop-word-init
+loop-word-init c = let h : length c.args.weights ≡ 8 = search rules in (h, refl)
 
-pub loop-i-preserved : goal.loop-i-preserved
-loop-i-preserved c =
-    let l = c.loop-i in
+pub loop-word-preserved : goal.loop-word-preserved
+loop-word-preserved c =
+    let l = c.loop-word in
     let a = c.args in
     let e = c.settle_move.ensures in
-    (search rules, ap length e ∙ move-length l.present _ ∙ l.invariant.1, fold_next move a.weights a.words.now l.present l.i l.invariant.2 (search rules) _ e)
+    (ap length e ∙ move-length l.present _ ∙ l.invariant.0, fold_next move a.weights a.words.now l.present l.word-index l.invariant.1 (search rules) _ e)
 
 pub returns : goal.returns
 unfolding weights_after
-returns c = let l = c.loop-i in let a = c.args in fold_done move a.weights a.words.now l.present l.i l.invariant.2 (search rules)
+returns c = let l = c.loop-word in let a = c.args in fold_done move a.weights a.words.now l.present l.word-index l.invariant.1 (omega arith)
 
 pub settle_move-requires : goal.settle_move-requires
-settle_move-requires c = c.loop-i.invariant.1
+settle_move-requires c = c.loop-word.invariant.0

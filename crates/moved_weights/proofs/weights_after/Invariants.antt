@@ -1,10 +1,9 @@
 -- A log without moves leaves the weights. Otherwise a walk from the front.
 use mathlib.Core.Path.{◌≡◌}
-use Prim.Native.Nat.{◌≤◌}
 use lib.ListN.{length}
 use Rattle.lists.proofs.Fold.{FoldedUpTo}
 use Rattle.protocol.specs.Moves.{move}
 use Rattle.moved_weights.proofs.weights_after.Given as goal
 
-abbrev pub invariant-loop-i : goal.invariant-loop-i
-invariant-loop-i l = (l.i ≤ length l.words) × (length l.present ≡ 8) × FoldedUpTo move l.initial.present l.words l.present l.i
+abbrev pub invariant-loop-word : goal.invariant-loop-word
+invariant-loop-word l = (length l.present ≡ 8) × FoldedUpTo move l.initial.present l.words l.present l.word-index

@@ -1,7 +1,7 @@
 -- Each test of the definition in its turn; the last one decides.
 use mathlib.Core.Path.{sym, ◌∙◌}
 use native.Mathlib.Omega.{arith}
-use Rattle.lists.proofs.Same.{same_true}
+use Rattle.lists.proofs.Same.{same_true, same_not, same_still}
 use Rattle.outcome.proofs.Facts.{follows-not, follows-other, follows-last}
 use Rattle.outcome.proofs.follows.Goals as goal
 
@@ -11,8 +11,8 @@ returns-then-before-after c = follows-not _ _ (λ F. c.if-before-after.true F.of
 pub returns-then-before-after-2 : goal.returns-then-before-after-2
 returns-then-before-after-2 c = follows-not _ _ (λ F. c.if-before-after-2.true F.own)
 
-pub returns-then-not-same_eight : goal.returns-then-not-same_eight
-returns-then-not-same_eight c = follows-other _ _ (sym c.same_eight.ensures ∙ c.if-not-same_eight.true)
+pub returns-then-ne : goal.returns-then-ne
+returns-then-ne c = follows-other _ _ (same_not _ _ (sym c.ne.ensures ∙ c.if-ne.true))
 
 pub returns-then-settled-after : goal.returns-then-settled-after
 returns-then-settled-after c = follows-not _ _ (λ F. omega (arith, F.longer, c.if-settled-after.true))
@@ -32,4 +32,4 @@ fine-requires c = (omega arith, (omega arith, omega arith))
 pub returns : goal.returns
 returns c =
     follows-last _ _ _ c.fine.ensures (omega arith) (omega arith)
-    (same_true _ _ (sym c.same_eight.ensures ∙ c.if-not-same_eight.false)) (omega arith) (omega arith) (omega arith) (omega arith)
+    (same_true _ _ (same_still _ _ (sym c.ne.ensures ∙ c.if-ne.false))) (omega arith) (omega arith) (omega arith) (omega arith)

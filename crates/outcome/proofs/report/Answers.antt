@@ -1,5 +1,11 @@
 -- Soundness, then whether the one record could follow the other; then the own tail before is compared with the log and the own tail after.
-use mathlib.Core.Path.{sym, ◌∙◌}
+use mathlib.Core.Path.{sym, ap, ◌∙◌}
+use Rattle.std.specs.Prelude.{Result}
+use Rattle.refusals.specs.declared.Refusal.{Refusal}
+use Rattle.own_entries.specs.declared.Told.{Told}
+use Rattle.own_entries.specs.Told.{telling_of}
+use Rattle.outcome.specs.Outcome.{outcome_is}
+use Rattle.outcome.specs.declared.Outcome.{Outcome}
 use Prim.Native.Nat.{◌-◌, ◌<◌, ◌≤◌}
 use lib.ListN.{length}
 use native.Mathlib.Omega.{arith}
@@ -10,8 +16,11 @@ use Rattle.outcome.proofs.Facts.{Follows, followed}
 use Rattle.outcome.proofs.Answer.{report-unsound, report-stray, report-made, member, was-fine, is-fine, begins, fits}
 use Rattle.outcome.proofs.report.Goals as goal
 
+abbrev answered : Result Told Refusal → Outcome
+answered told = outcome_is (telling_of told)
+
 pub returns-then-not-sound : goal.returns-then-not-sound
-returns-then-not-sound c = let both = report-unsound _ _ _ (sym c.sound.ensures ∙ c.if-not-sound.true) _ in record { report = both.0; words = both.1 }
+returns-then-not-sound c = let both = report-unsound _ _ _ (sym c.sound.ensures ∙ c.if-not-sound.true) _ in record { report = c.refused.ensures ∙ both.0; words = both.1 }
 
 pub follows-requires : goal.follows-requires
 follows-requires c =
@@ -19,38 +28,40 @@ follows-requires c =
     let S = sounds in (S.head.some, S.head.most)
 
 pub returns-then-not-follows : goal.returns-then-not-follows
-returns-then-not-follows c = let both = report-stray _ _ _ (sym (sym c.follows.ensures ∙ c.if-not-follows.true)) _ in record { report = both.0; words = both.1 }
+returns-then-not-follows c = let both = report-stray _ _ _ (sym (sym c.follows.ensures ∙ c.if-not-follows.true)) _ in record { report = c.refused-then-not-follows.ensures ∙ both.0; words = both.1 }
 
 -- what is known behind both tests
-pub slice_bounds-cells-end : goal.slice_bounds-cells-end
-slice_bounds-cells-end c =
+pub shared_ref_as_front-tail : goal.shared_ref_as_front-tail
+shared_ref_as_front-tail c =
     let sounds : Sound c.args.after c.args.log.now = sound _ _ (sym c.sound.ensures ∙ c.if-not-sound.false) in
     let follow : Follows c.args.before c.args.after = followed _ _ (sym c.follows.ensures ∙ c.if-not-follows.false) in
     let b = was-fine _ _ _ sounds follow in omega (arith, b.len, b.cells)
 
-pub slice_bounds-tell-end : goal.slice_bounds-tell-end
-slice_bounds-tell-end c =
-    let sounds : Sound c.args.after c.args.log.now = sound _ _ (sym c.sound.ensures ∙ c.if-not-sound.false) in
-    let follow : Follows c.args.before c.args.after = followed _ _ (sym c.follows.ensures ∙ c.if-not-follows.false) in
-    let b = was-fine _ _ _ sounds follow in sym (length-take-le _ _ (omega (arith, b.len, b.cells)))
-
-pub slice_bounds-later-end : goal.slice_bounds-later-end
-slice_bounds-later-end c =
+pub shared_ref_as_front-tell : goal.shared_ref_as_front-tell
+shared_ref_as_front-tell c =
     let sounds : Sound c.args.after c.args.log.now = sound _ _ (sym c.sound.ensures ∙ c.if-not-sound.false) in
     let follow : Follows c.args.before c.args.after = followed _ _ (sym c.follows.ensures ∙ c.if-not-follows.false) in
     let b = is-fine _ _ _ sounds follow in omega (arith, b.len, b.cells)
 
-pub slice_bounds-tell-end-3 : goal.slice_bounds-tell-end-3
-slice_bounds-tell-end-3 c =
+pub slice_bounds-tell-end-2 : goal.slice_bounds-tell-end-2
+slice_bounds-tell-end-2 c =
     let sounds : Sound c.args.after c.args.log.now = sound _ _ (sym c.sound.ensures ∙ c.if-not-sound.false) in
     let follow : Follows c.args.before c.args.after = followed _ _ (sym c.follows.ensures ∙ c.if-not-follows.false) in
     let b = is-fine _ _ _ sounds follow in sym (length-take-le _ _ (omega (arith, b.len, b.cells)))
 
-pub returns : goal.returns
-returns c =
+pub returns-in-Ok : goal.returns-in-Ok
+returns-in-Ok c =
     let sounds : Sound c.args.after c.args.log.now = sound _ _ (sym c.sound.ensures ∙ c.if-not-sound.false) in
     let follow : Follows c.args.before c.args.after = followed _ _ (sym c.follows.ensures ∙ c.if-not-follows.false) in
-    let both = report-made _ _ _ sounds follow _ _ c.tell-told.ensures.told _ c.tell-told.ensures.words in record { report = both.0; words = both.1 }
+    let both = report-made _ _ _ sounds follow _ _ c.tell.ensures.told _ c.tell.ensures.words in
+    record { report = ap answered (sym c.in-Ok.is) ∙ both.0; words = both.1 }
+
+pub returns-in-Err : goal.returns-in-Err
+returns-in-Err c =
+    let sounds : Sound c.args.after c.args.log.now = sound _ _ (sym c.sound.ensures ∙ c.if-not-sound.false) in
+    let follow : Follows c.args.before c.args.after = followed _ _ (sym c.follows.ensures ∙ c.if-not-follows.false) in
+    let both = report-made _ _ _ sounds follow _ _ c.tell.ensures.told _ c.tell.ensures.words in
+    record { report = c.refused-in-Err.ensures ∙ ap answered (sym c.in-Err.is) ∙ both.0; words = both.1 }
 
 pub offset_bounds-before-own : goal.offset_bounds-before-own
 offset_bounds-before-own c =
@@ -112,8 +123,8 @@ slice_bounds-tell-start c =
     let from-begins : let a = c.args in a.before.settled - a.after.kept.dropped ≤ a.after.settled - a.after.kept.dropped = begins _ _ _ sounds follow in
     from-begins
 
-pub slice_bounds-tell-end-2 : goal.slice_bounds-tell-end-2
-slice_bounds-tell-end-2 c =
+pub slice_bounds-tell-end : goal.slice_bounds-tell-end
+slice_bounds-tell-end c =
     let sounds : Sound c.args.after c.args.log.now = sound _ _ (sym c.sound.ensures ∙ c.if-not-sound.false) in
     let follow : Follows c.args.before c.args.after = followed _ _ (sym c.follows.ensures ∙ c.if-not-follows.false) in
     let held_fits : let a = c.args in a.after.settled - a.after.kept.dropped ≤ length a.log.now = fits _ _ _ sounds follow in

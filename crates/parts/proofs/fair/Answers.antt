@@ -13,36 +13,36 @@ returns-then-len-part c =
     let full : length c.args.cells ≡ 32 = search rules in
     few-fair c.args.n c.requires.1.0 _ (omega (arith, length-take-le c.args.len c.args.cells (omega (arith, full, c.requires.1.1.0))))
 
-pub loop-i-init : goal.loop-i-init
-loop-i-init c =
+pub loop-cell-init : goal.loop-cell-init
+loop-cell-init c =
     let full : length c.args.cells ≡ 32 = search rules in
-    (search rules, raised-first c.args.n c.args.len c.args.cells full c.requires.1.1)
+    raised-first c.args.n c.args.len c.args.cells full c.requires.1.1
 
 pub bounds-units-office_of : goal.bounds-units-office_of
 bounds-units-office_of c =
     let full : length c.args.cells ≡ 32 = search rules in
-    let l = c.loop-i in
-    office-below c.args.n c.args.len c.args.cells full c.requires.1.1 l.counts l.i l.invariant.1 (omega arith) _ c.office_of.ensures.0 c.requires.1.0
+    let l = c.loop-cell in
+    office-below c.args.n c.args.len c.args.cells full c.requires.1.1 l.counts l.cell-index l.invariant (omega arith) _ c.office_of.ensures.0 c.requires.1.0
 
 pub overflow_add-counts : goal.overflow_add-counts
 overflow_add-counts c =
     let full : length c.args.cells ≡ 32 = search rules in
-    let l = c.loop-i in
-    let below : c.office_of.result < 8 = office-below c.args.n c.args.len c.args.cells full c.requires.1.1 l.counts l.i l.invariant.1 (omega arith) _ c.office_of.ensures.0 c.requires.1.0 in
-    omega (arith, raised-room c.args.n c.args.len c.args.cells full c.requires.1.1 l.counts l.i l.invariant.1 (omega arith) _ c.office_of.ensures.0 below)
+    let l = c.loop-cell in
+    let below : c.office_of.result < 8 = office-below c.args.n c.args.len c.args.cells full c.requires.1.1 l.counts l.cell-index l.invariant (omega arith) _ c.office_of.ensures.0 c.requires.1.0 in
+    omega (arith, raised-room c.args.n c.args.len c.args.cells full c.requires.1.1 l.counts l.cell-index l.invariant (omega arith) _ c.office_of.ensures.0 below)
 
-pub loop-i-preserved : goal.loop-i-preserved
-loop-i-preserved c =
+pub loop-cell-preserved : goal.loop-cell-preserved
+loop-cell-preserved c =
     let full : length c.args.cells ≡ 32 = search rules in
-    let l = c.loop-i in
-    let below : c.office_of.result < 8 = office-below c.args.n c.args.len c.args.cells full c.requires.1.1 l.counts l.i l.invariant.1 (omega arith) _ c.office_of.ensures.0 c.requires.1.0 in
-    (search rules, raised-next c.args.n c.args.len c.args.cells full c.requires.1.1 l.counts l.i l.invariant.1 (omega arith) _ c.office_of.ensures.0 below)
+    let l = c.loop-cell in
+    let below : c.office_of.result < 8 = office-below c.args.n c.args.len c.args.cells full c.requires.1.1 l.counts l.cell-index l.invariant (omega arith) _ c.office_of.ensures.0 c.requires.1.0 in
+    raised-next c.args.n c.args.len c.args.cells full c.requires.1.1 l.counts l.cell-index l.invariant (omega arith) _ c.office_of.ensures.0 below
 
 pub returns : goal.returns
 returns c =
     let full : length c.args.cells ≡ 32 = search rules in
-    let l = c.loop-i in
-    c.low_bytes.ensures ∙ raised-fair c.args.n c.args.len c.args.cells full c.requires.1.1 c.requires.1.0 l.counts l.i (omega arith) l.invariant.1
+    let l = c.loop-cell in
+    c.low_bytes.ensures ∙ raised-fair c.args.n c.args.len c.args.cells full c.requires.1.1 c.requires.1.0 l.counts l.cell-index (omega arith) l.invariant
 
 pub overflow_sub-counts : goal.overflow_sub-counts
 overflow_sub-counts c = omega (arith, part-most c.args.n)

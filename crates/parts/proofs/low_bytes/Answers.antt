@@ -1,16 +1,14 @@
-use borrow.Author.Rules.{rules}
-use native.Mathlib.Omega.{arith}
-use mathlib.Core.Path.{refl}
-use Rattle.lists.specs.Tests.{both}
-use Rattle.parts.proofs.Bytes.{low-next, low-done}
+-- The chain asks each of the eight bytes.
+use Rattle.std.proofs.Common.{rules, tests, ℕ, ◌∙◌}
+use mathlib.Core.Path.{ap}
+use lib.Dec.{ltb}
+use Rattle.std.specs.List.{list_all}
+use Rattle.std.proofs.lemmas.Iterator.{YieldsList-from_slice}
+use Rattle.std.proofs.lemmas.Iterator.Search.{all_from_yields_List}
+use Rattle.parts.proofs.Bytes.{low-all}
 use Rattle.parts.proofs.low_bytes.Goals as goal
 
-pub loop-k-init : goal.loop-k-init
-unfolding both
-loop-k-init c = (search rules, refl)
-
-pub loop-k-preserved : goal.loop-k-preserved
-loop-k-preserved c = let l = c.loop-k in (search rules, low-next l.low l.rest l.k l.invariant.1 (omega arith))
-
 pub returns : goal.returns
-returns c = let l = c.loop-k in low-done l.low l.rest l.k l.invariant.1 (omega arith)
+returns c =
+    all_from_yields_List (λ (b : ℕ). ltb b 128) _ _ _ c.all.ensures.ran (YieldsList-from_slice c.to_le_bytes.result (cc)) (λ x b q k. search (rules, tests))
+    ∙ ap (list_all (λ (b : ℕ). ltb b 128)) c.to_le_bytes.ensures ∙ low-all c.args.bytes

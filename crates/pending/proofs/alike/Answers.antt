@@ -1,25 +1,16 @@
-use borrow.Author.Rules.{rules}
-use native.Mathlib.Omega.{arith}
-use Rattle.own_entries.proofs.Common.{common-next, common-stop, common-done}
+-- What the chain counts is the common beginning.
+use Rattle.std.proofs.Common.{◌==◌, rules, tests}
+use Prim.Native.Nat.{ℕ}
+use Rattle.std.proofs.lemmas.Iterator.{YieldsList-from_slice, YieldsList-from_zip}
+use Rattle.std.proofs.lemmas.Iterator.Consumers.{count_from_yields_List, YieldsList-at}
+use Rattle.std.proofs.lemmas.Iterator.Search.{YieldsList-from_take_while}
+use Rattle.pending.proofs.Pairs.{alike_is}
 use Rattle.pending.proofs.alike.Goals as goal
-
-pub loop-i-init : goal.loop-i-init
-loop-i-init c = (search rules, search rules, omega arith)
-
-pub returns-then-a-i : goal.returns-then-a-i
-returns-then-a-i c =
-    let l = c.loop-i in
-    let a = c.args in
-    (omega (arith, common-stop a.a.now a.b.now l.i (omega arith) (omega arith) c.if-a-i.true), omega arith)
-
-pub loop-i-preserved : goal.loop-i-preserved
-loop-i-preserved c =
-    let l = c.loop-i in
-    let a = c.args in
-    (l.invariant.0, omega arith, omega (arith, common-next a.a.now a.b.now l.i (omega arith) (omega arith) c.if-a-i.false))
 
 pub returns : goal.returns
 returns c =
-    let l = c.loop-i in
     let a = c.args in
-    (omega (arith, common-done a.a.now a.b.now l.i (omega arith)), omega arith)
+    alike_is a.a.now a.b.now c.count.result (count_from_yields_List c.take_while.result _ c.count.ensures.ran
+    (YieldsList-from_take_while _ (λ (p : ℕ × ℕ). p.0 == p.1)
+    (YieldsList-at c.take_while.ensures.source (YieldsList-from_zip (YieldsList-at c.zip.ensures.first (YieldsList-from_slice a.a.now c.iter.ensures.rest)) (YieldsList-from_slice a.b.now (cc))))
+    c.take_while.ensures.closure c.take_while.ensures.done (λ x b q k. search (rules, tests))))

@@ -5,5 +5,5 @@ use lib.ListN.{length, drop}
 use Rattle.own_entries.specs.Parts.{entries_of}
 use Rattle.pending.proofs.count_of.Given as goal
 
-abbrev pub invariant-loop-i : goal.invariant-loop-i
-invariant-loop-i l = (l.i ≤ length l.words) × (l.count ≤ l.i) × (length (entries_of l.office l.words) ≡ l.count + length (entries_of l.office (drop l.i l.words)))
+abbrev pub invariant-loop-word : goal.invariant-loop-word
+invariant-loop-word l = (l.count ≤ l.word-index) × (length (entries_of l.office l.words) ≡ l.count + length (entries_of l.office (drop l.word-index l.words)))

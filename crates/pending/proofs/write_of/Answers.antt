@@ -7,27 +7,27 @@ use Rattle.own_entries.specs.Parts.{entries_of}
 use Rattle.own_entries.proofs.Own.{own-next, own-done, count_next}
 use Rattle.pending.proofs.write_of.Goals as goal
 
-pub loop-i-init : goal.loop-i-init
-loop-i-init c = (search rules, left-all _ _ _)
+pub loop-word-init : goal.loop-word-init
+loop-word-init c = left-all _ _ _
 
 pub put-at-requires : goal.put-at-requires
 put-at-requires c =
-    let l = c.loop-i in
+    let l = c.loop-word in
     let a = c.args in
-    omega (arith, l.invariant.1.place, l.invariant.1.long, count_next a.office a.words.now l.i (search rules))
+    omega (arith, l.invariant.place, l.invariant.long, count_next a.office a.words.now l.word-index (search rules))
 
-pub loop-i-preserved : goal.loop-i-preserved
-loop-i-preserved c =
-    let l = c.loop-i in
+pub loop-word-preserved : goal.loop-word-preserved
+loop-word-preserved c =
+    let l = c.loop-word in
     let a = c.args in
     let put = c.put-at in
-    (search rules, left-next l.invariant.1 (entries_of a.office (get_or a.words.now l.i 0 ∷ [])) (own-next a.office a.words.now l.i (search rules)) put.ensures.0 put.ensures.1)
+    left-next l.invariant (entries_of a.office (get_or a.words.now l.word-index 0 ∷ [])) (own-next a.office a.words.now l.word-index (search rules)) put.ensures.0 put.ensures.1
 
 pub returns : goal.returns
 returns c =
-    let l = c.loop-i in
+    let l = c.loop-word in
     let a = c.args in
-    (left-none l.invariant.1 (own-done a.office a.words.now l.i (search rules))).1
+    (left-none l.invariant (own-done a.office a.words.now l.word-index (search rules))).1
 
 pub shape_of-out : goal.shape_of-out
-shape_of-out c = c.loop-i.invariant.1.long
+shape_of-out c = c.loop-word.invariant.long

@@ -13,4 +13,4 @@ returns-then-out-at-lt-PLACES c = let a = c.args in let e = printed-none a.out.n
 pub returns : goal.returns
 returns c =
     let e = printed-all c.args.out.now c.args.at c.args.n (omega arith) in
-    record { end = rw e c.put_digits.ensures.0; output = rw e c.put_digits.ensures.1 }
+    record { end = rw e c.put_digits.ensures.end; output = rw e c.put_digits.ensures.output }

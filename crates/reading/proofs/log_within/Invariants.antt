@@ -5,5 +5,5 @@ use Rattle.reading.specs.Read.{log_within}
 use Rattle.reading.proofs.Ballots.{left_at}
 use Rattle.reading.proofs.log_within.Given as goal
 
-abbrev pub invariant-loop-i : goal.invariant-loop-i
-invariant-loop-i l = (l.i ≤ l.k) × (left_at l.n l.k l.at l.i l.rest ≡ log_within l.rest l.n l.k)
+abbrev pub invariant-loop : goal.invariant-loop
+invariant-loop l = (l.counter ≤ l.k) × (left_at l.n l.k l.at l.counter l.rest ≡ log_within l.rest l.n l.k)

@@ -7,4 +7,4 @@ use Rattle.reading.proofs.Ballots.{Left}
 use Rattle.reading.proofs.read.Given as goal
 
 abbrev pub invariant-loop-o : goal.invariant-loop-o
-invariant-loop-o l = (l.m ≡ head_said l.msg l.m.ballots) × Left l.rest (6 * l.held) l.n l.m.ballots l.at l.o
+invariant-loop-o l = (l.m ≡ head_said l.msg l.m.ballots) × Left l.rest (6 * l.initial.m.held) l.initial.m.n l.m.ballots l.at l.o

@@ -9,4 +9,4 @@ returns-in_default c = rw c.in_default.is
 
 pub returns : goal.returns
 unfolding addressee_of
-returns c = c.command_addressee.ensures ∙ rw c.in-Says.is
+returns c = c.command_addressee.ensures ∙ rw c.in-Some.is

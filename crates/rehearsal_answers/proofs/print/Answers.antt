@@ -7,14 +7,14 @@ use Rattle.rehearsal_answers.proofs.print.Goals as goal
 pub returns-then-out-lt-SIZE : goal.returns-then-out-lt-SIZE
 returns-then-out-lt-SIZE c =
     let e = printed-none (length c.args.out.now) c.args.at c.args.answer (omega arith) in
-    record { value = rw e (omega arith); out_after = rw e }
+    record { end = rw e (omega arith); output = rw e }
 
 pub returns-then-at-out : goal.returns-then-at-out
 returns-then-at-out c =
     let e = printed-none (length c.args.out.now) c.args.at c.args.answer (omega arith) in
-    record { value = rw e (omega arith); out_after = rw e }
+    record { end = rw e (omega arith); output = rw e }
 
 pub returns : goal.returns
 returns c =
     let e = printed-room (length c.args.out.now) c.args.at c.args.answer (omega arith) in
-    record { value = rw e c.put_answer.ensures.0; out_after = rw e c.put_answer.ensures.1 }
+    record { end = rw e c.put_answer.ensures.end; output = rw e c.put_answer.ensures.output }

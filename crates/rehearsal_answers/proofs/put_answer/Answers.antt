@@ -13,19 +13,19 @@ returns c =
     let a = c.args in
     print-whole a.answer a.at c.put_item-behind.result c.put_item-next.result c.put_item-last.result
     a.out.now c.put_item-behind.new.out c.put_item-next.new.out c.put_item-last.new.out
-    c.put_item-behind.ensures.0 c.put_item-behind.ensures.1 c.put_item-next.ensures.0 c.put_item-next.ensures.1 c.put_item-last.ensures.0 c.put_item-last.ensures.1
+    c.put_item-behind.ensures.end c.put_item-behind.ensures.output c.put_item-next.ensures.end c.put_item-next.ensures.output c.put_item-last.ensures.end c.put_item-last.ensures.output
 
 pub put_item-next-requires : goal.put_item-next-requires
-put_item-next-requires c = omega (arith, c.put_item-behind.ensures.0, c.put_item-behind.auto.out, length-set {A = ℕ}, item-short c.args.answer.first)
+put_item-next-requires c = omega (arith, c.put_item-behind.ensures.end, c.put_item-behind.auto.out, length-set {A = ℕ}, item-short c.args.answer.first)
 
 pub put_item-last-requires : goal.put_item-last-requires
 put_item-last-requires c =
     let a = c.args.answer in
     omega (
       arith,
-      c.put_item-behind.ensures.0,
+      c.put_item-behind.ensures.end,
       c.put_item-behind.auto.out,
-      c.put_item-next.ensures.0,
+      c.put_item-next.ensures.end,
       c.put_item-next.auto.out,
       length-set {A = ℕ},
       item-short a.first,
@@ -40,9 +40,9 @@ ends c =
     omega (arith, c.put_item-behind.auto.out, c.put_item-next.auto.out, c.put_item-last.auto.out, length-set {A = ℕ}) in
     let end : c.put_item-last.result < length c.args.out.now = omega (
       arith,
-      c.put_item-behind.ensures.0,
-      c.put_item-next.ensures.0,
-      c.put_item-last.ensures.0,
+      c.put_item-behind.ensures.end,
+      c.put_item-next.ensures.end,
+      c.put_item-last.ensures.end,
       item-short a.first,
       item-short a.second,
       item-short a.third,

@@ -16,4 +16,4 @@ returns c =
     let all : printed_at spaced (a.at + 1) a.n ≡ decimal_of a.n = printed-all spaced (a.at + 1) a.n (simp length-set (omega arith)) in
     let value = rw all at c.put_number.ensures.end in
     let written = rw all at c.put_number.ensures.output in
-    (omega (arith, value), written ∙ ap (λ (k : ℕ). sets spaced k (decimal_of a.n)) (add-one a.at))
+    record { end = omega (arith, value); output = written ∙ ap (λ (k : ℕ). sets spaced k (decimal_of a.n)) (add-one a.at) }

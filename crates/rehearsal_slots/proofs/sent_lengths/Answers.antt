@@ -3,22 +3,23 @@ use mathlib.Core.Path.{◌≡◌, sym}
 use native.Mathlib.Omega.{arith}
 use lib.ListN.{length}
 use lib.Seq.{set_out}
+use borrow.Author.Rules.{rules}
 use borrow.Author.Tests.{eq-eqb, ne_eqb}
 use Rattle.lists.specs.Tests.{pick}
-use borrow.Author.Rules.{rules}
 use Rattle.rehearsal_slots.proofs.sent_lengths.Goals as goal
+use Rattle.rehearsal_slots.proofs.sent_lengths.Goals.{else-number-eq0-via-then-number-eq0+else-m-lt-SLOTS, else-number-eq0-via-else-number-eq0}
 
-pub returns-then-number-ne0 : goal.returns-then-number-ne0
+pub returns-then-m-lt-SLOTS : goal.returns-then-m-lt-SLOTS
 unfolding pick
-returns-then-number-ne0 c = rw (ne_eqb c.args.number 0 c.if-number-ne0.true)
+returns-then-m-lt-SLOTS c = rw (eq-eqb c.args.number 0 c.if-number-eq0.true)
 
-pub returns-then-m-ge-SLOTS : goal.returns-then-m-ge-SLOTS
+pub returns-else-number-eq0 : goal.returns-else-number-eq0
 unfolding pick
-returns-then-m-ge-SLOTS c =
+returns-else-number-eq0 c =
     let a = c.args in
     let h : length a.lengths ≡ 4 = search rules in
-    rw (eq-eqb a.number 0 c.if-number-ne0.false) (sym (set_out a.lengths a.m a.size (omega (arith, h, c.if-m-ge-SLOTS.true))))
-
-pub returns : goal.returns
-unfolding pick
-returns c = rw (eq-eqb c.args.number 0 c.if-number-ne0.false)
+    elim c.else-number-eq0.branch [
+      | else-number-eq0-via-then-number-eq0+else-m-lt-SLOTS w ↦
+          rw (eq-eqb a.number 0 w.if-number-eq0.true) (sym (set_out a.lengths a.m a.size (omega (arith, h, w.if-m-lt-SLOTS.false))))
+      | else-number-eq0-via-else-number-eq0 w ↦ rw (ne_eqb a.number 0 w.if-number-eq0.false)
+    ]

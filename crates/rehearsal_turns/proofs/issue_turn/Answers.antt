@@ -5,5 +5,5 @@ use Rattle.rehearsal_turns.proofs.issue_turn.Goals as goal
 pub returns : goal.returns
 returns c =
     let a = c.args in
-    issued-turn a.record a.lengths a.log.now c.says_one-answer.result a.line a.code
-    c.issue-issued.result c.issue-issued.ensures c.says_one-answer.ensures
+    issued-turn a.record a.lengths a.log.now c.says_one.result a.line a.code
+    c.issue-issued.result c.issue-issued.ensures c.says_one.ensures

@@ -12,8 +12,8 @@ returns c =
     let size = from + 7046 - from in
     let w : size ≡ 7046 = omega arith in
     let sent = c.send-sent in
-    let next = c.sent_lengths-next in
-    let answer = c.says_two-answer in
+    let next = c.sent_lengths in
+    let answer = c.says_two in
     record {
       turn = sent-turn a.record a.lengths a.log.now answer.result a.slots.now a.m size w next.result sent.result sent.ensures.0 next.ensures answer.ensures;
       sent = sent-slots a.record a.lengths a.log.now answer.result a.slots.now a.m size w sent.new.out sent.ensures.1;

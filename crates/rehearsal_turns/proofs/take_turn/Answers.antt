@@ -11,13 +11,13 @@ pub returns : goal.returns
 returns c =
     let a = c.args in
     let from = a.m * 7046 in
-    let size = c.within-size.result in
+    let size = c.min-size.result in
     let lent = from + size - from in
     let s : lent ≡ size = omega arith in
     let e : take lent (drop from a.slots.now) ≡ message_in a.slots.now a.lengths a.m =
-    message-lent a.slots.now a.lengths a.m lent c.requires.0 c.requires.1 (s ∙ c.within-size.ensures) in
+    message-lent a.slots.now a.lengths a.m lent c.requires.0 c.requires.1 (s ∙ c.min-size.ensures) in
     let taken = c.take-taken in
-    let answer = c.says_one-answer in
+    let answer = c.says_one in
     record {
       turn = taken-turn a.record a.lengths a.log.now answer.result a.slots.now a.m lent taken.result e taken.ensures.0 answer.ensures;
       words = taken-words a.record a.lengths a.log.now answer.result a.slots.now a.m lent taken.new.log e taken.ensures.1;

@@ -13,33 +13,33 @@ pub returns-in-Issue : goal.returns-in-Issue
 unfolding turn_at turn_words turn_slots
 returns-in-Issue c = let e = c.in-Issue.is in record { value = rw e c.issue_turn.ensures; log_after = rw e refl; slots_after = rw e refl }
 
-pub returns-then-m-ge-SLOTS : goal.returns-then-m-ge-SLOTS
+pub returns-else-m-lt-SLOTS : goal.returns-else-m-lt-SLOTS
 unfolding turn_at turn_words turn_slots pick
-returns-then-m-ge-SLOTS c =
+returns-else-m-lt-SLOTS c =
     let e = c.in-Send.is in
-    let none = le-ltb c.in-Send.m 4 c.if-m-ge-SLOTS.true in
-    record { value = rw (e, none) c.stay-then-m-ge-SLOTS.ensures; log_after = rw e refl; slots_after = rw (e, none) refl }
+    let none = le-ltb c.in-Send.m 4 c.if-m-lt-SLOTS.false in
+    record { value = rw (e, none) c.stay-else-m-lt-SLOTS.ensures; log_after = rw e refl; slots_after = rw (e, none) refl }
 
-pub returns-else-m-ge-SLOTS : goal.returns-else-m-ge-SLOTS
+pub returns-then-m-lt-SLOTS : goal.returns-then-m-lt-SLOTS
 unfolding turn_at turn_words turn_slots pick
-returns-else-m-ge-SLOTS c =
+returns-then-m-lt-SLOTS c =
     let e = c.in-Send.is in
-    let there = lt-ltb c.in-Send.m 4 c.if-m-ge-SLOTS.false in
+    let there = lt-ltb c.in-Send.m 4 c.if-m-lt-SLOTS.true in
     let turn = c.send_turn.ensures in
     record { value = rw (e, there) turn.turn; log_after = rw e refl; slots_after = rw (e, there) turn.sent }
 
-pub returns-then-m-ge-SLOTS-2 : goal.returns-then-m-ge-SLOTS-2
+pub returns-else-m-lt-SLOTS-2 : goal.returns-else-m-lt-SLOTS-2
 unfolding turn_at turn_words turn_slots pick
-returns-then-m-ge-SLOTS-2 c =
+returns-else-m-lt-SLOTS-2 c =
     let e = c.in-Take.is in
-    let none = le-ltb c.in-Take.m 4 c.if-m-ge-SLOTS-2.true in
-    record { value = rw (e, none) c.stay-then-m-ge-SLOTS-2.ensures; log_after = rw (e, none) refl; slots_after = rw e refl }
+    let none = le-ltb c.in-Take.m 4 c.if-m-lt-SLOTS-2.false in
+    record { value = rw (e, none) c.stay-else-m-lt-SLOTS-2.ensures; log_after = rw (e, none) refl; slots_after = rw e refl }
 
-pub returns-else-m-ge-SLOTS-2 : goal.returns-else-m-ge-SLOTS-2
+pub returns-then-m-lt-SLOTS-2 : goal.returns-then-m-lt-SLOTS-2
 unfolding turn_at turn_words turn_slots pick
-returns-else-m-ge-SLOTS-2 c =
+returns-then-m-lt-SLOTS-2 c =
     let e = c.in-Take.is in
-    let there = lt-ltb c.in-Take.m 4 c.if-m-ge-SLOTS-2.false in
+    let there = lt-ltb c.in-Take.m 4 c.if-m-lt-SLOTS-2.true in
     let turn = c.take_turn.ensures in
     record { value = rw (e, there) turn.turn; log_after = rw (e, there) turn.words; slots_after = rw e refl }
 

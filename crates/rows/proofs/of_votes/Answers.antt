@@ -1,30 +1,29 @@
-use native.Mathlib.Omega.{arith}
-use mathlib.Core.Path.{◌≡◌}
-use lib.ListN.{length}
-use borrow.Author.Rules.{rules}
+use Rattle.std.proofs.Common.{◌≡◌, length, rules, arith}
 use Rattle.rows.proofs.Walks.{rows_none, rows_few, rows_next, rows-done}
 use Rattle.rows.proofs.of_votes.Goals as goal
 
-pub loop-i-init : goal.loop-i-init
-loop-i-init c = (search rules, rows_none c.args.weights c.args.votes)
+pub loop-vote-init : goal.loop-vote-init
+loop-vote-init c = rows_none c.args.weights.now c.args.votes.now
 
 pub with_vote-rows-requires : goal.with_vote-rows-requires
 with_vote-rows-requires c =
-    let l = c.loop-i in
+    let l = c.loop-vote in
     let a = c.args in
-    omega (arith, rows_few a.weights a.votes l.rows l.i l.invariant.1)
+    let hx : length a.votes.now ≡ 8 = search rules in
+    omega (arith, rows_few a.weights.now a.votes.now l.rows l.vote-index l.invariant, c.loop-vote-test.true)
 
-pub loop-i-preserved : goal.loop-i-preserved
-loop-i-preserved c =
-    let l = c.loop-i in
+pub loop-vote-preserved : goal.loop-vote-preserved
+loop-vote-preserved c =
+    let l = c.loop-vote in
     let a = c.args in
-    let hx : length a.votes ≡ 8 = search rules in
-    let hw : length a.weights ≡ 8 = search rules in
-    (search rules, rows_next a.weights a.votes l.rows l.i l.invariant.1 hx hw (omega arith) _ c.with_vote-rows.ensures)
+    let hx : length a.votes.now ≡ 8 = search rules in
+    let hw : length a.weights.now ≡ 8 = search rules in
+    rows_next a.weights.now a.votes.now l.rows l.vote-index l.invariant hx hw (omega (arith, c.loop-vote-test.true)) _ c.with_vote-rows.ensures
 
 pub returns : goal.returns
 returns c =
-    let l = c.loop-i in
+    let l = c.loop-vote in
     let a = c.args in
-    let hw : length a.weights ≡ 8 = search rules in
-    rows-done a.weights a.votes l.rows l.i l.invariant.1 (omega arith)
+    let hx : length a.votes.now ≡ 8 = search rules in
+    let hw : length a.weights.now ≡ 8 = search rules in
+    rows-done a.weights.now a.votes.now l.rows l.vote-index l.invariant (omega (arith, c.loop-vote-test.false))

@@ -1,44 +1,27 @@
-use native.Mathlib.Omega.{arith}
-use mathlib.Core.Path.{◌≡◌, refl}
-use Prim.Native.Nat.{◌≤◌}
-use lib.ListN.{length}
-use borrow.Author.Rules.{rules}
-use Rattle.rows.proofs.Walks.{marks-next, marks-done}
+-- The vote at the place is one of the first n.
+use Rattle.std.proofs.Common.{◌≡◌, ◌<◌, ◌∙◌, ap, sym, length, rules, arith}
+use Rattle.std.specs.Prelude.{None}
+use Rattle.std.specs.Option.{is_some}
+use lib.Seq.{length-take-le, get_or-take}
+use Rattle.rows.proofs.Walks.{mark-is, marks-next, marks-done}
 use Rattle.rows.proofs.silent.Goals as goal
-
-pub loop-i-init : goal.loop-i-init
-loop-i-init c = (omega arith, refl)
 
 pub loop-i-preserved : goal.loop-i-preserved
 loop-i-preserved c =
-    let few : (c.args.n ≤ 8) × (length c.args.votes ≡ 8) = (c.requires, search rules) in
+    let a = c.args in
     let l = c.loop-i in
-    let f = few in
-    (omega arith, marks-next c.args.n f.0 c.args.votes f.1 l.cells l.i l.invariant.1 (omega arith) _ refl _ c.mark.ensures)
+    let few = c.requires in
+    let eight : length a.votes.now ≡ 8 = search rules in
+    let n = length-take-le a.n a.votes.now (omega arith) in
+    let i : l.i < a.n = omega (arith, n, c.loop-i-test.true) in
+    let here = get_or-take a.n a.votes.now l.i None i in
+    (omega arith, marks-next a.n a.votes.now l.cells l.i l.invariant.1 few i _ (c.from.ensures ∙ mark-is _ _ (ap is_some (sym here) ∙ c.is_none.ensures)))
 
 pub returns : goal.returns
 returns c =
-    let few : (c.args.n ≤ 8) × (length c.args.votes ≡ 8) = (c.requires, search rules) in
+    let a = c.args in
     let l = c.loop-i in
-    let f = few in
-    marks-done c.args.n f.0 c.args.votes f.1 l.cells l.i l.invariant.1 (omega arith)
-
-pub offset_bounds-votes-i : goal.offset_bounds-votes-i
-offset_bounds-votes-i c =
-    let few : (c.args.n ≤ 8) × (length c.args.votes ≡ 8) = (c.requires, search rules) in
-    let f = few in omega arith
-
-pub bounds-votes-i : goal.bounds-votes-i
-bounds-votes-i c =
-    let few : (c.args.n ≤ 8) × (length c.args.votes ≡ 8) = (c.requires, search rules) in
-    let f = few in omega arith
-
-pub offset_bounds-cells-i : goal.offset_bounds-cells-i
-offset_bounds-cells-i c =
-    let few : (c.args.n ≤ 8) × (length c.args.votes ≡ 8) = (c.requires, search rules) in
-    let f = few in omega arith
-
-pub bounds-cells-i : goal.bounds-cells-i
-bounds-cells-i c =
-    let few : (c.args.n ≤ 8) × (length c.args.votes ≡ 8) = (c.requires, search rules) in
-    let f = few in omega arith
+    let few = c.requires in
+    let eight : length a.votes.now ≡ 8 = search rules in
+    let n = length-take-le a.n a.votes.now (omega arith) in
+    marks-done a.n a.votes.now l.cells l.i l.invariant.1 (omega (arith, n, c.loop-i-test.false))

@@ -1,7 +1,5 @@
 -- A walk that writes each office's mark over zeros.
-use mathlib.Core.Path.{◌≡◌}
-use Prim.Native.Nat.{◌≤◌}
-use lib.ListN.{replicate}
+use Rattle.std.proofs.Common.{◌≡◌, ◌≤◌, replicate}
 use Rattle.lists.proofs.Fill.{filled}
 use Rattle.tallies.specs.Tallies.{votes_in}
 use Rattle.rows.specs.Rows.{marks}

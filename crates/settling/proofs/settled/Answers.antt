@@ -11,7 +11,7 @@ use Rattle.settling.proofs.settled.Goals as goal
 
 pub returns-then-not-sound : goal.returns-then-not-sound
 unfolding settled_of settled_number pick
-returns-then-not-sound c = let q = sym c.sound.ensures ∙ c.if-not-sound.true in (simp q, simp q)
+returns-then-not-sound c = let q = sym c.sound.ensures ∙ c.if-not-sound.true in (simp q, simp (c.number.ensures, q))
 
 pub slice_bounds-result-end-2 : goal.slice_bounds-result-end-2
 slice_bounds-result-end-2 c =

@@ -1,19 +1,26 @@
--- The tests in the order of the contract; each failing one ends it.
-use native.Mathlib.Omega.{arith}
-use mathlib.Core.Path.{sym, ◌∙◌}
+-- The tests in the order of the contract.
+use mathlib.Core.Path.{◌≡◌, sym, ◌∙◌}
+use mathlib.Core.Bool.{false, true≢false}
+use mathlib.Core.Logic.{inl, inr}
+use lib.Dec.{leb}
 use borrow.Author.Tests.{le-leb, lt-leb}
 use Rattle.lists.specs.Tests.{both}
-use Rattle.lists.proofs.Tests.{both-false-0, both-false-1}
+use Rattle.lists.proofs.Tests.{both-then, both-else}
+use Rattle.soundness.proofs.numbers_fine.Goals.{then-head_fine, else-head_fine}
 use Rattle.soundness.proofs.numbers_fine.Goals as goal
 
-pub returns-then-not-head_fine : goal.returns-then-not-head_fine
-returns-then-not-head_fine c = sym (both-false-0 _ _ (sym c.head_fine.ensures ∙ c.if-not-head_fine.true))
-
 pub returns-then-dropped-settled : goal.returns-then-dropped-settled
-returns-then-dropped-settled c = let a = c.args in sym (both-false-1 _ _ (both-false-0 _ _ (lt-leb a.dropped a.settled (omega arith))))
-
-pub returns : goal.returns
 unfolding both
-returns c =
-    let a = c.args in
-    c.noted_fine.ensures ∙ sym (rw (sym c.head_fine.ensures ∙ c.if-not-head_fine.false, le-leb a.dropped a.settled (omega arith)))
+returns-then-dropped-settled c =
+    c.noted_fine.ensures ∙ sym (rw (sym c.head_fine.ensures ∙ c.if-dropped-settled.true.0, le-leb c.args.dropped c.args.settled c.if-dropped-settled.true.1))
+
+pub returns-else-dropped-settled : goal.returns-else-dropped-settled
+returns-else-dropped-settled c = elim c.if-head_fine.branch [
+  | then-head_fine w ↦
+      let more : leb c.args.dropped c.args.settled ≡ false = elim c.if-dropped-settled.either [
+        | inl h ↦ lt-leb c.args.dropped c.args.settled h.1
+        | inr e ↦ absurd (true≢false (sym w.if-head_fine.true ∙ e))
+      ] in
+      w.t-8-is ∙ both-else _ more ∙ both-then (sym (w.if-head_fine.ensures))
+  | else-head_fine w ↦ w.t-8-is ∙ c.head_fine.ensures ∙ both-else _ (sym (w.if-head_fine.ensures))
+]

@@ -1,12 +1,12 @@
 -- The numbers first, then what is kept, the undropped words, what they have done, the ballots and the lengths; each failing test ends it.
 use native.Mathlib.Omega.{arith}
 use mathlib.Core.Path.{◌≡◌, sym, ap, ◌∙◌}
-use mathlib.Core.Bool.{Bool, true, true≢false}
+use mathlib.Core.Bool.{Bool, true, not, true≢false}
 use Prim.Native.Nat.{ℕ, ◌≤◌}
 use lib.Dec.{leb}
 use lib.ListN.{length, take}
 use lib.Seq.{length-take-le}
-use borrow.Author.Tests.{leb-true, le-leb}
+use borrow.Author.Tests.{leb-true, le-leb, not-false}
 use Rattle.lists.specs.Tests.{both, all_b}
 use Rattle.lists.proofs.Tests.{both-0, both-1, both_true}
 use Rattle.protocol.specs.Limits.{head_fine}
@@ -14,6 +14,7 @@ use Rattle.protocol_laws.proofs.Limits.{head, head-true}
 use Rattle.ballots.specs.Ballots.{ballot_shape, ballots_fine}
 use Rattle.eight_ballots.proofs.Eight.{places-fine}
 use Rattle.summary.specs.Summary.{same_summary}
+use Rattle.summary.proofs.Laws.{same-summary-eq}
 use Rattle.kept.proofs.Facts.{kept-true}
 use Rattle.soundness.specs.Noted.{noted_fine}
 use Rattle.soundness.specs.Soundness.{held_length, follows, sound_fields}
@@ -32,6 +33,7 @@ returns-then-not-numbers_fine c =
     ∙ sym c.numbers_fine.ensures ∙ c.if-not-numbers_fine.true))
 
 -- ── what has passed ──
+
 parts : (headed noted : Bool) (dropped settled : ℕ) → both headed (both (leb dropped settled) noted) ≡ true → headed ≡ true × dropped ≤ settled × noted ≡ true
 parts headed noted dropped settled e = (both-0 _ _ e, leb-true _ _ (both-0 _ _ (both-1 _ _ e)), both-1 _ _ (both-1 _ _ e))
 
@@ -67,11 +69,12 @@ module _ (c : Else-not-fine) where
 pub returns-then-not-all_entries : goal.returns-then-not-all_entries
 returns-then-not-all_entries c = sound-not _ _ _ _ _ _ _ _ _ (λ S. true≢false (sym S.entries ∙ sym c.all_entries.ensures ∙ c.if-not-all_entries.true))
 
-pub returns-then-not-same : goal.returns-then-not-same
+pub returns-then-ne : goal.returns-then-ne
 unfolding follows
-returns-then-not-same c =
-    let same-is : let a = c.args in c.same.result ≡ follows a.kept.summary a.summary (held_length c.args.settled c.args.kept.dropped) a.log.now = let a = c.args in c.same.ensures ∙ ap (same_summary a.summary) c.after-follows.ensures in
-    sound-not _ _ _ _ _ _ _ _ _ (λ S. true≢false (sym (follows_of _ _ _ _ S.done) ∙ sym same-is ∙ c.if-not-same.true))
+returns-then-ne c =
+    let a = c.args in
+    let differs = c.ne.ensures ∙ ap not (same-summary-eq a.summary c.after-follows.result ∙ ap (same_summary a.summary) c.after-follows.ensures) in
+    sound-not _ _ _ _ _ _ _ _ _ (λ S. true≢false (sym c.if-ne.true ∙ differs ∙ ap not (follows_of _ _ _ _ S.done)))
 
 pub fine-requires-2 : goal.fine-requires-2
 fine-requires-2 c = let h = head _ _ _ (passed (goal.at.fine-requires-2 c).Else-not-fine).0 in (h.some, (h.most, omega arith))
@@ -90,9 +93,10 @@ within-requires c =
 pub returns : goal.returns
 unfolding both follows
 returns c =
-    let same-is : let a = c.args in c.same.result ≡ follows a.kept.summary a.summary (held_length c.args.settled c.args.kept.dropped) a.log.now = let a = c.args in c.same.ensures ∙ ap (same_summary a.summary) c.after-follows.ensures in
+    let same-is : let a = c.args in follows a.kept.summary a.summary (held_length a.settled a.kept.dropped) a.log.now ≡ true =
+    let a = c.args in not-false _ (ap not (sym (same-summary-eq a.summary c.after-follows.result ∙ ap (same_summary a.summary) c.after-follows.ensures)) ∙ sym c.ne.ensures ∙ c.if-ne.false) in
     let balloted : ballots_fine c.args.n (held_length c.args.settled c.args.kept.dropped) c.args.ballots ≡ true = sym c.fine-2.ensures ∙ c.if-not-fine-2.false in
-    c.within.ensures ∙ sym (decided (goal.at.returns c).Else-not-fine ∙ rw (sym c.all_entries.ensures ∙ c.if-not-all_entries.false, sym same-is ∙ c.if-not-same.false, balloted))
+    c.within.ensures ∙ sym (decided (goal.at.returns c).Else-not-fine ∙ rw (sym c.all_entries.ensures ∙ c.if-not-all_entries.false, same-is, balloted))
 
 pub slice_bounds-all_entries-end : goal.slice_bounds-all_entries-end
 slice_bounds-all_entries-end c = there (goal.at.slice_bounds-all_entries-end c).Else-not-fine

@@ -1,5 +1,10 @@
+use Rattle.std.proofs.Common.{rules, ◌≡◌, length}
+use Rattle.lists.proofs.Tests.{length-mapped}
 use Rattle.tabulation.proofs.Cells.{inserted}
 use Rattle.tabulation.proofs.insert.Goals as goal
 
 pub returns : goal.returns
-returns c = let l = c.loop-i in inserted l.next _ l.carried l.i l.invariant.0.1 c.loop-i-test.false l.invariant.1
+returns c =
+    let a = c.args in
+    let full : length a.rows ≡ 64 = search (rules, length-mapped) in
+    rw (c.copy_within.ensures.after) (inserted a.rows a.at a.row full c.requires)

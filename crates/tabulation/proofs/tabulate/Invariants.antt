@@ -1,5 +1,4 @@
 -- The invariant: the array holds the pooled rows of the lines from the turn's on.
-use Prim.Native.Nat.{◌≤◌}
 use mathlib.Core.Path.{◌≡◌}
 use Rattle.tabulation.specs.Rows.{pooled}
 use Rattle.tabulation.specs.Cells.{rows_of}
@@ -7,7 +6,4 @@ use Rattle.tabulation.proofs.LinesFrom.{lines_from}
 use Rattle.tabulation.proofs.tabulate.Given as goal
 
 abbrev pub invariant-loop-i : goal.invariant-loop-i
-invariant-loop-i l = (l.i ≤ 64) × (l.sheet ≡ rows_of (pooled (lines_from l.codes l.met l.totals l.i)))
-
-abbrev pub decreases-loop-i : goal.decreases-loop-i
-decreases-loop-i l = l.i
+invariant-loop-i l = l.sheet ≡ rows_of (pooled (lines_from l.codes l.met l.totals l.i))

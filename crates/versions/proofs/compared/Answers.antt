@@ -1,51 +1,21 @@
-use borrow.Author.Rules.{rules}
-use native.Mathlib.Omega.{arith}
-use mathlib.Core.Bool.{Bool, true, false}
-use mathlib.Core.Path.{◌≡◌}
-use Prim.Native.Nat.{◌≤◌}
-use lib.ListN.{length, take}
-use Rattle.versions.specs.Versions.{compared_to, stands}
-use Rattle.versions.proofs.Order.{walked-first, walked_next, found-stands}
+-- Each case is what was found both ways.
+use mathlib.Core.Bool.{true, false}
+use Rattle.versions.specs.Versions.{stands}
+use Rattle.versions.proofs.Order.{both-ways}
 use Rattle.versions.proofs.compared.Goals as goal
 
-pub loop-k-preserved : goal.loop-k-preserved
-loop-k-preserved c =
-    let long-a : c.args.n ≤ length c.args.a = let e : length c.args.a ≡ 8 = search rules in omega (arith, c.requires) in
-    let long-b : c.args.n ≤ length c.args.b = let e : length c.args.b ≡ 8 = search rules in omega (arith, c.requires) in
-    let l = c.loop-k in
-    walked_next c.args.n c.args.a c.args.b long-a long-b l.low l.high l.k l.invariant c.loop-k-test.true
-
-pub returns-then-high : goal.returns-then-high
+pub returns-in-true-true : goal.returns-in-true-true
 unfolding stands
-returns-then-high c =
-    let long-a : c.args.n ≤ length c.args.a = let e : length c.args.a ≡ 8 = search rules in omega (arith, c.requires) in
-    let long-b : c.args.n ≤ length c.args.b = let e : length c.args.b ≡ 8 = search rules in omega (arith, c.requires) in
-    let answer : (l h : Bool) → c.loop-k.low ≡ l → c.loop-k.high ≡ h → stands l h ≡ compared_to (take c.args.n c.args.a) (take c.args.n c.args.b) = λ x y p q. let l = c.loop-k in found-stands c.args.n c.args.a c.args.b long-a long-b l.low l.high l.k l.invariant c.loop-k-test.false x y p q in
-    answer true true c.if-low.true c.if-high.true
+returns-in-true-true c = both-ways _ _ c.requires true true c.in-true-true.ensures c.in-true-true.ensures'
 
-pub returns-then-low : goal.returns-then-low
+pub returns-in-true-false : goal.returns-in-true-false
 unfolding stands
-returns-then-low c =
-    let long-a : c.args.n ≤ length c.args.a = let e : length c.args.a ≡ 8 = search rules in omega (arith, c.requires) in
-    let long-b : c.args.n ≤ length c.args.b = let e : length c.args.b ≡ 8 = search rules in omega (arith, c.requires) in
-    let answer : (l h : Bool) → c.loop-k.low ≡ l → c.loop-k.high ≡ h → stands l h ≡ compared_to (take c.args.n c.args.a) (take c.args.n c.args.b) = λ x y p q. let l = c.loop-k in found-stands c.args.n c.args.a c.args.b long-a long-b l.low l.high l.k l.invariant c.loop-k-test.false x y p q in
-    answer true false c.if-low.true c.if-high.false
+returns-in-true-false c = both-ways _ _ c.requires true false c.in-true-false.ensures c.in-true-false.ensures'
 
-pub returns-then-high-2 : goal.returns-then-high-2
+pub returns-in-false-true : goal.returns-in-false-true
 unfolding stands
-returns-then-high-2 c =
-    let long-a : c.args.n ≤ length c.args.a = let e : length c.args.a ≡ 8 = search rules in omega (arith, c.requires) in
-    let long-b : c.args.n ≤ length c.args.b = let e : length c.args.b ≡ 8 = search rules in omega (arith, c.requires) in
-    let answer : (l h : Bool) → c.loop-k.low ≡ l → c.loop-k.high ≡ h → stands l h ≡ compared_to (take c.args.n c.args.a) (take c.args.n c.args.b) = λ x y p q. let l = c.loop-k in found-stands c.args.n c.args.a c.args.b long-a long-b l.low l.high l.k l.invariant c.loop-k-test.false x y p q in
-    answer false true c.if-low.false c.if-high-2.true
+returns-in-false-true c = both-ways _ _ c.requires false true c.in-false-true.ensures c.in-false-true.ensures'
 
-pub returns : goal.returns
+pub returns-in-false-false : goal.returns-in-false-false
 unfolding stands
-returns c =
-    let long-a : c.args.n ≤ length c.args.a = let e : length c.args.a ≡ 8 = search rules in omega (arith, c.requires) in
-    let long-b : c.args.n ≤ length c.args.b = let e : length c.args.b ≡ 8 = search rules in omega (arith, c.requires) in
-    let answer : (l h : Bool) → c.loop-k.low ≡ l → c.loop-k.high ≡ h → stands l h ≡ compared_to (take c.args.n c.args.a) (take c.args.n c.args.b) = λ x y p q. let l = c.loop-k in found-stands c.args.n c.args.a c.args.b long-a long-b l.low l.high l.k l.invariant c.loop-k-test.false x y p q in
-    answer false false c.if-low.false c.if-high-2.false
-
-pub loop-k-init : goal.loop-k-init
-loop-k-init c = walked-first _ _ _ (omega arith)
+returns-in-false-false c = both-ways _ _ c.requires false false c.in-false-false.ensures c.in-false-false.ensures'

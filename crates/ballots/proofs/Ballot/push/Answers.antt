@@ -4,10 +4,10 @@ use Rattle.lists.specs.Tests.{pick}
 use Rattle.ballots.specs.Ballots.{pushed}
 use Rattle.ballots.proofs.Ballot.push.Goals as goal
 
-pub returns-then-len-ge-CELLS : goal.returns-then-len-ge-CELLS
+pub returns-then-self-ge-CELLS : goal.returns-then-self-ge-CELLS
 unfolding pushed pick
-returns-then-len-ge-CELLS c = simp (le-ltb _ _ c.if-len-ge-CELLS.true)
+returns-then-self-ge-CELLS c = simp (le-ltb _ _ c.if-self-ge-CELLS.true)
 
 pub returns : goal.returns
 unfolding pushed pick
-returns c = simp (lt-ltb _ _ c.if-len-ge-CELLS.false)
+returns c = simp (lt-ltb _ _ c.if-self-ge-CELLS.false)

@@ -1,12 +1,9 @@
 -- The invariant: the numbers so far with those of the fields that are left are the numbers of all the fields.
 use mathlib.Core.Path.{◌≡◌}
-use Prim.Native.Nat.{◌+◌, ◌-◌, ◌≤◌}
-use lib.ListN.{length}
-use Rattle.decimal.specs.Numbers.{numbers_after, numbers_from, fields_from}
+use Prim.Native.Nat.{◌≤◌}
+use lib.ListN.{length, drop}
+use Rattle.decimal.specs.Numbers.{fields, numbers_after, numbers_from}
 use Rattle.decimal.proofs.numbers.numbers_from.Given as goal
 
-abbrev pub invariant-loop-at : goal.invariant-loop-at
-invariant-loop-at l = (l.count ≤ 8) × (numbers_after l.count l.cells (fields_from l.bytes l.at) ≡ numbers_from l.bytes l.start)
-
-abbrev pub decreases-loop-at : goal.decreases-loop-at
-decreases-loop-at l = length l.bytes + 1 - l.at
+abbrev pub invariant-loop-field : goal.invariant-loop-field
+invariant-loop-field l = (l.count ≤ 8) × (numbers_after l.count l.cells (drop (length l.yielded) (fields (drop l.start l.bytes))) ≡ numbers_from l.bytes l.start)

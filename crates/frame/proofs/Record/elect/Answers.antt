@@ -45,7 +45,7 @@ place c =
     (omega (arith, p.0, c.held-start.ensures), p.1)
 
 pub returns-then-not-sound : goal.returns-then-not-sound
-returns-then-not-sound c = elect-unsound _ _ (sym c.sound.ensures ∙ c.if-not-sound.true)
+returns-then-not-sound c = rw c.number.ensures (elect-unsound _ _ (sym c.sound.ensures ∙ c.if-not-sound.true))
 
 pub held-start-requires : goal.held-start-requires
 held-start-requires c = (sounds (goal.at.held-start-requires c).Else-not-sound).within

@@ -10,4 +10,4 @@ pub returns-then-not-head_fine : goal.returns-then-not-head_fine
 returns-then-not-head_fine c = found-unfit _ _ _ _ _ c.refused-then-not-head_fine.ensures c.if-log-lt-LOG.false (sym c.head_fine.ensures ∙ c.if-not-head_fine.true)
 
 pub returns : goal.returns
-returns c = found-made _ _ _ _ _ c.fresh-record.ensures c.if-log-lt-LOG.false (sym c.head_fine.ensures ∙ c.if-not-head_fine.false)
+returns c = found-made _ _ _ _ _ c.fresh.ensures c.if-log-lt-LOG.false (sym c.head_fine.ensures ∙ c.if-not-head_fine.false)

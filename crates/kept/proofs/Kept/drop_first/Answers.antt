@@ -1,4 +1,4 @@
--- Nothing is dropped where k is 0; else what the first k words have done is kept, and the walk moves the others.
+-- Nothing is dropped where k is 0; else what the first k words have done is kept, and the others are moved.
 use native.Mathlib.Omega.{arith}
 use mathlib.Core.Path.{◌≡◌, sym, ap, ◌∙◌}
 use mathlib.Core.List.{◌++◌}
@@ -7,6 +7,7 @@ use lib.ListN.{length, take, drop, take-append-drop}
 use lib.Seq.{length-take-le}
 use Rattle.kept.specs.Kept.{kept_after}
 use Rattle.kept.proofs.Laws.{kept-nil}
+use Rattle.kept.proofs.Moved.{moved-down}
 use Rattle.kept.proofs.Kept.drop_first.Goals as goal
 
 pub returns-then-k-eq0 : goal.returns-then-k-eq0
@@ -30,3 +31,6 @@ pub slice_bounds-after-end-2 : goal.slice_bounds-after-end-2
 slice_bounds-after-end-2 c =
     let first : length (take c.args.k c.args.log.now) ≡ c.args.k = length-take-le c.args.k c.args.log.now (omega (arith, c.requires.1.0, c.requires.1.1)) in
     sym first
+
+pub returns : goal.returns
+returns c = record { kept = c.after-kept.ensures; words = c.copy_within.ensures.after ∙ moved-down c.args.log.now c.args.held c.args.k c.requires.1.0 c.requires.1.1 }

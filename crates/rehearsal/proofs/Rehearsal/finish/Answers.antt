@@ -13,7 +13,7 @@ pub returns-then-is_none : goal.returns-then-is_none
 returns-then-is_none c =
     let a = c.args in
     let z : length (line_held a.self.held) ≡ 0 = eqb-true _ 0 (sym c.is_none.ensures ∙ c.if-is_none.true) in
-    finish-answers (world_of a.self a.logs.now a.slots.now) (line_held a.self.held) a.out.now c.none-held.result z c.none-held.ensures
+    finish-answers (world_of a.self a.logs.now a.slots.now) (line_held a.self.held) a.out.now c.none.result z c.none.ensures
 
 pub returns : goal.returns
 returns c =

@@ -14,7 +14,7 @@ use Rattle.rehearsal.specs.Lines.{world_at, say_line}
 use Rattle.rehearsal.proofs.Says.{turn-stored, answer-by, say-found, say-turn, say-nobody}
 use Rattle.rehearsal.proofs.Feeds.{LineRead, feeds-next, feed-answers}
 use Rattle.rehearsal.proofs.feeding.feed_all.Goals as goal
-use Rattle.rehearsal.proofs.feeding.feed_all.Goals.{After-addressee_of-addressee, In-One}
+use Rattle.rehearsal.proofs.feeding.feed_all.Goals.{After-addressee_of, In-One}
 
 pub slice_bounds-with-end : goal.slice_bounds-with-end
 slice_bounds-with-end c = omega (arith, c.part_end-end.ensures, part-within 10 c.args.chunk.now c.loop-offices.at c.loop-offices.invariant.within)
@@ -31,16 +31,16 @@ returns-then-end-chunk c =
 
 -- ── a line that ends in the chunk ──
 -- there is room for its answer
-room : (c : After-addressee_of-addressee) → c.loop-offices.printed + 65 ≤ length c.loop-offices.out
+room : (c : After-addressee_of) → c.loop-offices.printed + 65 ≤ length c.loop-offices.out
 room c =
     let full : length c.loop-offices.out ≡ 532480 = search rules in
     omega (arith, c.loop-offices.invariant.room, c.requires, full, c.part_end-end.ensures, c.if-end-chunk.false)
 
-said : (c : After-addressee_of-addressee) →
+said : (c : After-addressee_of) →
     let a = c.args in
     let l = c.loop-offices in
     LineRead (world_at a.r.offices a.logs.now a.slots.now) (line_held a.r.held) a.chunk.now a.out.now (world_at l.offices l.logs l.slots)
-    (line_held l.held) l.out l.at l.printed c.part_end-end.result (line_held c.none-held.result) c.line_held-parsed.result
+    (line_held l.held) l.out l.at l.printed c.part_end-end.result (line_held c.none-held.result) c.line_held-line.result
 said c =
     let l = c.loop-offices in
     let line = line_held l.held ++ take (c.part_end-end.result - l.at) (drop l.at c.args.chunk.now) in
@@ -49,15 +49,15 @@ said c =
       there = c.part_end-end.ensures;
       inside = c.if-end-chunk.false;
       empty = ap line_held c.none-held.ensures;
-      read = c.line_held-parsed.ensures ∙ ap line_of (ap line_held c.with-held.ensures ∙ line-held line);
+      read = c.line_held-line.ensures ∙ ap line_of (ap line_held c.with-held.ensures ∙ line-held line);
     }
 
 pub loop-offices-preserved-in-All : goal.loop-offices-preserved-in-All
 loop-offices-preserved-in-All c =
-    let x = (goal.at.loop-offices-preserved-in-All c).After-addressee_of-addressee in
+    let x = (goal.at.loop-offices-preserved-in-All c).After-addressee_of in
     let p = c.print-printed.ensures in
-    feeds-next (said x) _ (say-found _ _ _ _ _ c.in-All.is c.found_offices-reply.ensures ∙ answer-by _ _ _ c.addressee_of-addressee.ensures)
-    _ _ (room x) p.value p.out_after
+    feeds-next (said x) _ (say-found _ _ _ _ _ c.in-All.is c.found_offices-reply.ensures ∙ answer-by _ _ _ c.addressee_of.ensures)
+    _ _ (room x) p.end p.output
 
 -- an office that a line is for is one of the eight
 below : (c : In-One) → c.in-One.k < 8
@@ -80,16 +80,16 @@ bounds-offices-k-in-One c = below (goal.at.bounds-offices-k-in-One c).In-One
 
 pub loop-offices-preserved-in-One : goal.loop-offices-preserved-in-One
 loop-offices-preserved-in-One c =
-    let x = (goal.at.loop-offices-preserved-in-One c).After-addressee_of-addressee in
+    let x = (goal.at.loop-offices-preserved-in-One c).After-addressee_of in
     let e = c.office_turn-turn.ensures in
     let p = c.print-printed-in-One.ensures in
     let turn = turn-stored _ _ _ _ _ _ e.value e.logs_after e.slots_after in
-    feeds-next (said x) _ (say-turn _ _ _ _ _ _ c.in-One.is turn ∙ answer-by _ _ _ c.addressee_of-addressee.ensures)
-    _ _ (room x) p.value p.out_after
+    feeds-next (said x) _ (say-turn _ _ _ _ _ c.in-One.is turn ∙ answer-by _ _ _ c.addressee_of.ensures)
+    _ _ (room x) p.end p.output
 
 pub loop-offices-preserved : goal.loop-offices-preserved
 loop-offices-preserved c =
-    let x = (goal.at.loop-offices-preserved c).After-addressee_of-addressee in
+    let x = (goal.at.loop-offices-preserved c).After-addressee_of in
     let p = c.print-printed-in-Nobody.ensures in
-    feeds-next (said x) _ (say-nobody _ _ _ _ c.in-Nobody.is c.question.ensures ∙ answer-by _ _ _ c.addressee_of-addressee.ensures)
-    _ _ (room x) p.value p.out_after
+    feeds-next (said x) _ (say-nobody _ _ _ c.in-Nobody.is c.question.ensures ∙ answer-by _ _ _ c.addressee_of.ensures)
+    _ _ (room x) p.end p.output

@@ -14,4 +14,4 @@ returns-then-first-ne0 c = found-refused _ _ _ _ _ _ c.found-first.ensures c.say
 pub returns : goal.returns
 returns c =
     found-done _ _ _ _ _ _ c.found-first.ensures
-    c.says_one-answer.ensures _ c.if-first-ne0.false c.fresh_all-fresh.ensures
+    c.says_one-answer.ensures _ c.if-first-ne0.false c.fresh_all.ensures

@@ -10,8 +10,8 @@ loop-k-preserved c =
     let l = c.loop-k in (
       omega arith,
       l.invariant.1,
-      ap (λ s. set s l.k c.fresh_at-one.result) l.invariant.2
-          ∙ fresh-next a.n a.weights a.logs.now a.records l.invariant.1 l.k c.fresh_at-one.result (omega arith) c.fresh_at-one.ensures,
+      ap (λ s. set s l.k c.fresh_at.result) l.invariant.2
+          ∙ fresh-next a.n a.weights a.logs.now a.records l.invariant.1 l.k c.fresh_at.result (omega arith) c.fresh_at.ensures,
     )
 
 pub returns : goal.returns

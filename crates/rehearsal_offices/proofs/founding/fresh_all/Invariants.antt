@@ -6,4 +6,4 @@ use Rattle.rehearsal_offices.proofs.Fresh.{fresh_to}
 use Rattle.rehearsal_offices.proofs.founding.fresh_all.Given as goal
 
 abbrev pub invariant-loop-k : goal.invariant-loop-k
-invariant-loop-k l = (l.k ≤ 8) × (length l.initial.fresh ≡ 8) × (l.fresh ≡ fresh_to l.n l.weights l.logs l.initial.fresh l.k)
+invariant-loop-k l = (l.k ≤ 8) × (length l.initial.record-items ≡ 8) × (l.record-items ≡ fresh_to l.n l.weights l.logs l.initial.record-items l.k)

@@ -14,4 +14,4 @@ returns c =
     let a = c.args in
     let from = a.k * 1024 in
     let w : from + 1024 - from ≡ 1024 = omega arith in
-    ap (λ (f : Founded). f.record) c.found-found.ensures ∙ ap (λ (size : ℕ). (found_of a.n a.k a.weights (take size (drop from a.logs.now))).record) w
+    ap (λ (f : Founded). f.record) c.found.ensures ∙ ap (λ (size : ℕ). (found_of a.n a.k a.weights (take size (drop from a.logs.now))).record) w

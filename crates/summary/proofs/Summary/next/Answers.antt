@@ -13,11 +13,11 @@ pub returns-then-line-lt64 : goal.returns-then-line-lt64
 returns-then-line-lt64 c =
     let a = c.args in
     let codes = ap₂ (set a.self.codes) c.line_of-line.ensures.0 c.cell_of.ensures in
-    λ i. record { present = c.moved-next.ensures i; codes = codes i }
+    λ i. record { present = c.moved.ensures i; codes = codes i }
 
 pub returns-else-line-lt64 : goal.returns-else-line-lt64
 returns-else-line-lt64 c =
     let a = c.args in
     let all : length a.self.codes ≡ 64 = search rules in
     let codes = sym (set_out a.self.codes (line_of a.word) (suc (code_of a.word)) (omega (arith, c.line_of-line.ensures.0))) in
-    λ i. record { present = c.moved-next.ensures i; codes = codes i }
+    λ i. record { present = c.moved.ensures i; codes = codes i }

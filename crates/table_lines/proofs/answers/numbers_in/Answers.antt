@@ -13,7 +13,7 @@ use Rattle.table_lines.proofs.answers.numbers_in.Goals as goal
 pub returns-then-end-input : goal.returns-then-end-input
 returns-then-end-input c =
     let first : c.part_end-end.result ≡ part_length 10 c.args.input.now = omega (arith, c.part_end-end.ensures) in
-    c.no_numbers.ensures ∙ sym (second-line c.args.input.now (omega (arith, first, c.if-end-input.true)))
+    sym (second-line c.args.input.now (omega (arith, first, c.if-end-input.true)))
 
 pub slice_bounds-numbers_from-end : goal.slice_bounds-numbers_from-end
 slice_bounds-numbers_from-end c =

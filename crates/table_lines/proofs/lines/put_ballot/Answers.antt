@@ -12,7 +12,7 @@ use Rattle.table_lines.proofs.lines.put_ballot.Goals.{After-put_entries-next}
 room : (c : After-put_entries-next) → c.put_entries-next.result < length c.put_entries-next.new.out
 room c =
     let put = c.put_entries-next in
-    omega (arith, put.ensures.0, put.auto.out, shown-short (tail_of c.args.ballot) c.requires.0, c.requires.1.1)
+    omega (arith, put.ensures.end, put.auto.out, shown-short (tail_of c.args.ballot) c.requires.0, c.requires.1.1)
 
 pub bounds-out-next : goal.bounds-out-next
 bounds-out-next c = room (goal.at.bounds-out-next c).After-put_entries-next
@@ -26,5 +26,5 @@ pub returns : goal.returns
 returns c =
     let a = c.args in
     let put = c.put_entries-next in
-    let both = put_last a.out.now put.new.out (shown (tail_of a.ballot)) a.at put.result 32 put.ensures.0 put.ensures.1 in
+    let both = put_last a.out.now put.new.out (shown (tail_of a.ballot)) a.at put.result 32 put.ensures.end put.ensures.output in
     record { end = both.0; output = both.1 }

@@ -2,5 +2,5 @@
 use Rattle.table_lines.proofs.Shown.{DigitsRest}
 use Rattle.table_lines.proofs.lines.put_entries.Given as goal
 
-abbrev pub invariant-loop-i : goal.invariant-loop-i
-invariant-loop-i l = DigitsRest l.entries l.initial.out l.at l.out l.next l.i
+abbrev pub invariant-loop-entry : goal.invariant-loop-entry
+invariant-loop-entry l = DigitsRest l.entries l.initial.out l.at l.out l.next l.entry-index

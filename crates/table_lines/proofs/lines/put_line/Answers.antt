@@ -4,13 +4,13 @@ use mathlib.Core.Path.{◌≡◌, ap, subst, ◌∙◌}
 use mathlib.Core.List.{List, map}
 use Prim.Native.Nat.{ℕ, ◌+◌, ◌≤◌}
 use lib.ListN.{length, get_or}
-use lib.Seq.{sets}
 use Rattle.ballots.specs.Ballots.{ballot_of, off_end}
 use Rattle.ballots.specs.declared.Ballot.{Ballot}
 use Rattle.frame.specs.Electing.{elect_of}
 use Rattle.frame.specs.declared.Record.{Record}
 use Rattle.tables.specs.Tables.{table_at}
 use Rattle.table_lines.specs.Lines.{empty_log, settled_from, few}
+use Rattle.printing.specs.Printing.{Puts}
 use Rattle.table_lines.proofs.Small.{Three, three, small_any}
 use Rattle.table_lines.proofs.Settled.{settled-few, settled-count}
 use Rattle.table_lines.proofs.Written.{Seated, seated, seated-record, line-whole, line-written, spaced-short}
@@ -27,19 +27,19 @@ module _ (tails : List Ballot) (place : ℕ) (e : tails ≡ map ballot_of (table
 
 pub put_ballot-second-requires : goal.put_ballot-second-requires
 put_ballot-second-requires c =
-    let s = seats c.table_at-table.result.tails c.args.place c.table_at-table.ensures in
+    let s = seats c.table_at.result c.args.place c.table_at.ensures in
     (s.0.few-entries, (s.0.short, omega (arith, c.requires)))
 
 pub put_ballot-third-requires : goal.put_ballot-third-requires
 put_ballot-third-requires c =
-    let s = seats c.table_at-table.result.tails c.args.place c.table_at-table.ensures in
+    let s = seats c.table_at.result c.args.place c.table_at.ensures in
     let second = c.put_ballot-second in
     let one = spaced-short _ 32 s.0.few-entries in
     (s.1.0.few-entries, (s.1.0.short, omega (arith, c.requires, second.ensures.end, second.auto.out, one)))
 
 pub put_ballot-last-requires : goal.put_ballot-last-requires
 put_ballot-last-requires c =
-    let s = seats c.table_at-table.result.tails c.args.place c.table_at-table.ensures in
+    let s = seats c.table_at.result c.args.place c.table_at.ensures in
     let second = c.put_ballot-second in
     let third = c.put_ballot-third in
     let one = spaced-short _ 32 s.0.few-entries in
@@ -53,7 +53,7 @@ put_settled-requires c =
     let r = c.args.«record» in
     let t = table_at c.args.place in
     let small = small_any c.args.place in
-    let s = seats c.table_at-table.result.tails c.args.place c.table_at-table.ensures in
+    let s = seats c.table_at.result c.args.place c.table_at.ensures in
     let second = c.put_ballot-second in
     let third = c.put_ballot-third in
     let last = c.put_ballot-last in
@@ -82,13 +82,14 @@ put_settled-requires c =
 pub returns : goal.returns
 returns c =
     let a = c.args in
-    let s = seats c.table_at-table.result.tails a.place c.table_at-table.ensures in
+    let s = seats c.table_at.result a.place c.table_at.ensures in
     let seated = c.with_table-seated in
     let second = c.put_ballot-second.ensures in
     let third = c.put_ballot-third.ensures in
     let last = c.put_ballot-last.ensures in
     let end = c.put_settled.ensures in
-    subst (λ (l : List ℕ). (c.put_settled.result ≡ a.at + length l) × (c.put_settled.new.out ≡ sets a.out.now a.at l))
+    subst (λ (l : List ℕ). Puts a.out.now a.at l c.put_settled.result c.put_settled.new.out)
     (line-written a.«record» seated.result (table_at a.place) (at_place a.place) _ _ _ s.0 s.1.0 s.1.1 seated.ensures)
-    (line-whole (settled_from seated.result) _ _ _ a.out.now _ _ _ _ a.at _ _ _ _
-    second.end second.output third.end third.output last.end last.output end.end end.output)
+    (let w = line-whole (settled_from seated.result) _ _ _ a.out.now _ _ _ _ a.at _ _ _ _
+    second.end second.output third.end third.output last.end last.output end.end end.output in
+    record { end = w.0; output = w.1 })

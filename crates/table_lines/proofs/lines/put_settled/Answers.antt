@@ -19,7 +19,7 @@ room : (c : After-put_entries-next) → c.put_entries-next.result < length c.put
 room c =
     let put = c.put_entries-next in
     let entries = take c.elect-elected.result.count c.elect-elected.new.log in
-    omega (arith, put.ensures.0, put.auto.out, shown-short entries (ap few (settled c) ∙ c.requires.0), c.requires.1.1)
+    omega (arith, put.ensures.end, put.auto.out, shown-short entries (ap few (settled c) ∙ c.requires.0), c.requires.1.1)
 
 pub bounds-out-next : goal.bounds-out-next
 bounds-out-next c = room (goal.at.bounds-out-next c).After-put_entries-next
@@ -34,7 +34,7 @@ returns c =
     let a = c.args in
     let put = c.put_entries-next in
     let e = settled (goal.at.returns c).After-put_entries-next in
-    let end = put.ensures.0 ∙ ap (λ (l : List ℕ). a.at + length (shown l)) e in
-    let output = put.ensures.1 ∙ ap (λ (l : List ℕ). sets a.out.now a.at (shown l)) e in
+    let end = put.ensures.end ∙ ap (λ (l : List ℕ). a.at + length (shown l)) e in
+    let output = put.ensures.output ∙ ap (λ (l : List ℕ). sets a.out.now a.at (shown l)) e in
     let both = put_last a.out.now put.new.out (shown (settled_from a.«record»)) a.at put.result 10 end output in
     record { end = both.0; output = both.1 }

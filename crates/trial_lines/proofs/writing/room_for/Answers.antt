@@ -1,40 +1,37 @@
--- Each test that fails says that there are no numbers or that they end past the list; where all pass there are some, and they end within it.
-use Rattle.std.proofs.Common.{◌≡◌, ℕ, ◌+◌, ◌-◌, ◌*◌, ◌/◌, ◌<◌, ◌≤◌, min, length, sym, ap, ◌∙◌, le-div_iff_mul-le, arith, rules}
-use Rattle.trial_lines.specs.declared.line.Line.{Line}
-use Rattle.trial_lines.specs.Writing.{said_from}
-use Rattle.trial_lines.proofs.Putting.{said-length, put_refused, put-taken}
+-- Where a product or a sum passes 64 bits, it passes the list's end.
+use Rattle.std.proofs.Common.{◌≡◌, ℕ, ◌+◌, ◌*◌, ◌≤◌, ◌<◌, Option, Some, length, ap, ◌∙◌, arith}
+use mathlib.Core.Logic.{inl, inr}
+use Rattle.trial_lines.proofs.Putting.{room_refused, room-taken}
 use Rattle.trial_lines.proofs.writing.room_for.Goals as goal
 
-counted : (l : Line) (from count : ℕ) → length l.numbers ≡ 25 → count ≡ min l.count 24 → length (said_from l from) ≡ count + 1 - from
-counted l from count h e = said-length l from h ∙ ap (λ (k : ℕ). k + 1 - from) (sym e)
-
--- as many as a quotient has room for are no more than what was divided
-product : (times each room : ℕ) → 0 < each → times ≤ room / each → times * each ≤ room
-product times each room h k = (le-div_iff_mul-le h).0 k
-
-past : (at times each room n : ℕ) → n ≡ each → at ≤ room → (room - at) / each < times → (0 < n) × (at + times * n ≤ room) → ⊥
-past at times each room n e a q h =
-    let k : at + times * each ≤ room = rw (sym e) h.1 in
-    let p : times ≤ (room - at) / each = (le-div_iff_mul-le {k = each} {x = times} {y = room - at} (omega (arith, h.0))).1 (omega arith) in
-    omega arith
-
-pub returns-then-from-count : goal.returns-then-from-count
-returns-then-from-count c =
-    let many = counted c.args.line c.args.from c.within-count.result (search rules) c.within-count.ensures in
-    put_refused _ _ _ _ _ (λ h. omega (arith, h.0, many))
-
-pub returns-then-at-room : goal.returns-then-at-room
-returns-then-at-room c = put_refused _ _ _ _ _ (λ h. omega (arith, h.1))
-
-pub returns-then-times-most : goal.returns-then-times-most
-returns-then-times-most c =
+pub returns-in_err-checked_mul : goal.returns-in_err-checked_mul
+returns-in_err-checked_mul c =
     let a = c.args in
-    let many = counted a.line a.from c.within-count.result (search rules) c.within-count.ensures in
-    put_refused _ _ _ _ _ (past a.at a.times (c.within-count.result - a.from + 1) a.room _ (omega (arith, many)) c.if-at-room.false c.if-times-most.true)
+    c.from_residual.ensures ∙
+    room_refused _ _ _ _ _ (λ h.
+    let all : a.at + a.times * length c.said.result.now ≤ a.room = rw c.said.ensures h.1 in
+    c.in_err-checked_mul.ensures (omega (arith, c.ranges.room.fits)))
+
+pub returns-in_err-end : goal.returns-in_err-end
+returns-in_err-end c =
+    let a = c.args in
+    c.from_residual-in_err-end.ensures ∙
+    room_refused _ _ _ _ _ (λ h.
+    let all : a.at + a.times * length c.said.result.now ≤ a.room = rw c.said.ensures h.1 in
+    c.in_err-end.ensures (omega (arith, c.ranges.room.fits, c.in_ok-checked_mul.ensures)))
+
+pub returns-then-each-eq0 : goal.returns-then-each-eq0
+returns-then-each-eq0 c =
+    let a = c.args in
+    room_refused _ _ _ _ _ (λ h.
+    let some : 0 < length c.said.result.now = rw c.said.ensures h.0 in
+    let all : a.at + a.times * length c.said.result.now ≤ a.room = rw c.said.ensures h.1 in
+    elim c.then-each-eq0.either [ inl e ↦ omega arith | inr q ↦ omega (arith, q.1, c.in_ok-checked_mul.ensures, c.in_ok-end.ensures) ])
 
 pub returns : goal.returns
 returns c =
     let a = c.args in
-    let many = counted a.line a.from c.within-count.result (search rules) c.within-count.ensures in
-    let each : ℕ = c.within-count.result - a.from + 1 in
-    put-taken _ _ _ _ _ each (omega (arith, many)) (omega arith) (omega (arith, product a.times each (a.room - a.at) (omega arith) (omega arith)))
+    let many = ap length c.said.ensures in
+    let here : c.in_ok-end.end ≡ a.at + a.times * length c.said.result.now = omega (arith, c.in_ok-checked_mul.ensures, c.in_ok-end.ensures) in
+    let e = here ∙ ap (λ (n : ℕ). a.at + a.times * n) many in
+    ap {B = Option ℕ} Some e ∙ room-taken _ _ _ _ _ (omega (arith, many, c.if-each-eq0.false), omega (arith, e, c.if-end-room.false))

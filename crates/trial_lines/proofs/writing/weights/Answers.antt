@@ -21,6 +21,6 @@ loop-i-preserved c =
     let a = c.args in
     let i = c.loop-i.i in
     let h : length a.line.numbers ≡ 25 = search rules in
-    let w : low16 (get_or a.line.numbers (c.within-start.result + i) 0) ≡ get_or (weights_from a.line a.from) i 0 =
-    rw c.within-start.ensures (sym (weight-at a.line a.from i c.loop-i-test.true)) in
-    ap₂ (λ (x : List ℕ) (v : ℕ). set x i v) c.loop-i.invariant w ∙ fill_step 0 (weights_from a.line a.from) (replicate 8 0) (eight a.line a.from h) i c.loop-i-test.true
+    let w : low16 (get_or a.line.numbers (c.min-start.result + i) 0) ≡ get_or (weights_from a.line a.from) i 0 =
+    rw c.min-start.ensures (sym (weight-at a.line a.from i c.loop-i-test.true)) in
+    ap₂ (λ (x : List ℕ) (v : ℕ). set x i v) c.loop-i.invariant (c.low_part.ensures ∙ w) ∙ fill_step 0 (weights_from a.line a.from) (replicate 8 0) (eight a.line a.from h) i c.loop-i-test.true

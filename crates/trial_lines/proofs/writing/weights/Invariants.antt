@@ -5,4 +5,4 @@ use Rattle.trial_lines.specs.Writing.{weights_from}
 use Rattle.trial_lines.proofs.writing.weights.Given as goal
 
 abbrev pub invariant-loop-i : goal.invariant-loop-i
-invariant-loop-i l = l.weights ≡ filled (weights_from l.line l.from) l.initial.weights l.i
+invariant-loop-i l = l.weight-items ≡ filled (weights_from l.fn.line l.from) l.initial.weight-items l.i

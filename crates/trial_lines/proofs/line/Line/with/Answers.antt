@@ -14,6 +14,4 @@ returns-then-byte-lt48 c = let b = c.args.byte in rw (le-ltb 57 b c.if-byte-gt57
 
 pub returns : goal.returns
 unfolding with_byte pick
-returns c =
-    let b = c.args.byte in
-    rw (le-ltb 57 b c.if-byte-gt57.false, le-ltb b 48 c.if-byte-lt48.false, c.wrapping_add_u64.ensures.value)
+returns c = let b = c.args.byte in rw (le-ltb 57 b c.if-byte-gt57.false, le-ltb b 48 c.if-byte-lt48.false, c.from.ensures)

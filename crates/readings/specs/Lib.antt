@@ -1,2 +1,0 @@
--- The definition that the contract of `readings` cites.
-pub mod Read

@@ -1,0 +1,2 @@
+-- Laws of the numbers of the refusals.
+pub mod Refusals

@@ -1,0 +1,2 @@
+-- The definitions that the contracts of `refusals` cite.
+pub mod Refusals
