@@ -13,5 +13,8 @@ abbrev pub entry_named : Option ℕ → ℕ
 entry_named None = 0
 entry_named (Some e) = e
 
+abbrev pub foreseen : ℕ → Option ℕ → Foreseen
+foreseen number winner = record { number = number; named = is_named winner; entry = entry_named winner }
+
 unfoldable pub foreseen_of : Result (Option ℕ) Refusal → Foreseen
-foreseen_of f = record { number = number_in f; named = is_named (winner_in f); entry = entry_named (winner_in f) }
+foreseen_of f = foreseen (number_in f) (winner_in f)

@@ -14,7 +14,3 @@ code_in None = 0
 
 abbrev pub across : frames.Framed → Framed
 across f = record { number = f.number; coded = is_coded f.edit; code = code_in f.edit }
-
--- an answer with no edit
-abbrev pub uncoded : ℕ → Framed
-uncoded number = across (frames.refused_frame number)

@@ -2,11 +2,8 @@
 #![tactic(auto)]
 
 ghost use Rattle.std.specs.Prelude.{◌≡◌};
-ghost use Rattle.both_frames.specs.Framed.{framed_of};
-ghost use Rattle.crossing.specs.Framed.{across, uncoded};
-ghost use Rattle.crossing.specs.Foreseen.{foreseen_of};
-
-use refusals::Refusal;
+ghost use Rattle.crossing.specs.Framed.{across};
+ghost use Rattle.crossing.specs.Foreseen.{foreseen};
 
 // What a frame answers across C: an enum cannot cross, so a flag does, beside the code, which is 0 where there is no edit yet.
 // C has it as it lies here, so it holds the number and is no `Result`.
@@ -18,29 +15,21 @@ pub struct Framed {
     pub code: u32,
 }
 
-// No edit yet, across C.
-fn uncoded(number: u32) -> Framed
-    ensures { result ≡ uncoded number }
+// What a frame answers, across C: any number, and beside it an edit or none. No `From`, here and below: the name says where it goes.
+pub fn across(number: u32, edit: Option<u32>) -> Framed
+    ensures { result ≡ across (record { number = number; edit = edit }) }
 {
-    Framed {
-        number,
-        coded: false,
-        code: 0,
-    }
-}
-
-// A frame's answer, across C. No `From`, here and below: the name says where it goes.
-pub fn across(framed: Result<Option<u32>, Refusal>) -> Framed
-    ensures { result ≡ across (framed_of framed) }
-{
-    match framed {
-        Ok(Some(code)) => Framed {
-            number: 0,
+    match edit {
+        Some(code) => Framed {
+            number,
             coded: true,
             code,
         },
-        Ok(None) => uncoded(0),
-        Err(refusal) => uncoded(refusal.number()),
+        None => Framed {
+            number,
+            coded: false,
+            code: 0,
+        },
     }
 }
 
@@ -55,23 +44,18 @@ pub struct Foreseen {
     pub entry: u32,
 }
 
-// A forecast's answer, across C.
-pub fn foreseen_of(answer: Result<Option<u32>, Refusal>) -> Foreseen
-    ensures { result ≡ foreseen_of answer }
+// What a forecast answers, across C: any number, and beside it an entry or none.
+pub fn foreseen_of(number: u32, winner: Option<u32>) -> Foreseen
+    ensures { result ≡ foreseen number winner }
 {
-    match answer {
-        Ok(Some(entry)) => Foreseen {
-            number: 0,
+    match winner {
+        Some(entry) => Foreseen {
+            number,
             named: true,
             entry,
         },
-        Ok(None) => Foreseen {
-            number: 0,
-            named: false,
-            entry: 0,
-        },
-        Err(refusal) => Foreseen {
-            number: refusal.number(),
+        None => Foreseen {
+            number,
             named: false,
             entry: 0,
         },

@@ -9,6 +9,7 @@ ghost use Rattle.frame.specs.Soundness.{sound_b};
 ghost use Rattle.frame.specs.Founding.{found_of};
 ghost use Rattle.issuing.specs.Issuing.{issue_of};
 ghost use Rattle.both_frames.specs.Frames.{settled_frame_of, tentative_frame_of, all_lines_of};
+ghost use Rattle.both_frames.specs.Framed.{framed_of};
 ghost use Rattle.frame.specs.Electing.{elect_of, elect_words};
 ghost use Rattle.folding.specs.Folding.{fold_of, fold_words};
 ghost use Rattle.sending.specs.Sending.{send_of, send_bytes};
@@ -34,6 +35,7 @@ use frame::electing::Elected;
 use frame::founding::Founded;
 use issuing::Issued;
 use outcome::Outcome;
+use refusals::Refusal;
 use sending::Sent;
 use sheet::Sheet;
 use standing::Standing;
@@ -53,6 +55,27 @@ pub struct Weights {
 pub struct Part {
     pub number: u32,
     pub length: usize,
+}
+
+// A frame's answer, across C.
+fn framed(answer: Result<Option<u32>, Refusal>) -> Framed
+    ensures { result ≡ across (framed_of answer) }
+{
+    match answer {
+        Ok(edit) => across(0, edit),
+        Err(refusal) => across(refusal.number(), None),
+    }
+}
+
+// A forecast's answer, across C.
+#[tactic(auto, unfolding(crossing::specs::Foreseen::foreseen_of))]
+fn foreseen(answer: Result<Option<u32>, Refusal>) -> Foreseen
+    ensures { result ≡ foreseen_of answer }
+{
+    match answer {
+        Ok(winner) => foreseen_of(0, winner),
+        Err(refusal) => foreseen_of(refusal.number(), None),
+    }
 }
 
 // A fresh record: an empty log and no ballots.
@@ -104,7 +127,7 @@ pub extern "C" fn joukerpan_all_lines(office: Record, log: &[u32]) -> Lines
 pub extern "C" fn joukerpan_settled_frame(office: Record, log: &[u32], line: u32) -> Framed
     ensures { result ≡ across (settled_frame_of office log.now line) }
 {
-    across(both_frames::settled_frame(office, log, line))
+    framed(both_frames::settled_frame(office, log, line))
 }
 
 // The code of the last entry for the line in the own path.
@@ -112,7 +135,7 @@ pub extern "C" fn joukerpan_settled_frame(office: Record, log: &[u32], line: u32
 pub extern "C" fn joukerpan_tentative_frame(office: Record, log: &[u32], line: u32) -> Framed
     ensures { result ≡ across (tentative_frame_of office log.now line) }
 {
-    across(both_frames::tentative_frame(office, log, line))
+    framed(both_frames::tentative_frame(office, log, line))
 }
 
 // The last edit of each line named in the first p settled entries, dropped ones included, as it is stored, and how many words of the log were read.
@@ -199,7 +222,7 @@ pub extern "C" fn joukerpan_forecast(
 {
     let low = lowest.of;
     let high = highest.of;
-    foreseen_of(forecast::first_step(office, log, low, high))
+    foreseen(forecast::first_step(office, log, low, high))
 }
 
 // The version vectors of the settled log and of each office's path, written to the front of the output.

@@ -42,7 +42,7 @@ answer-question input x e q = ap answer_for (sym e) ∙ question-for x q
 
 module _ (input : List ℕ) (ns : Numbers) (e : Some ns ≡ numbers_in input) where
   answer-weights : ns.count ≡ 3 → answer_to input ≡ printed_for ns.cells
-  unfolding answer_to answer_for
+  unfolding answer_to answer_for three_numbers
   answer-weights q = ap answer_for (sym e) ∙ pick_true (eqb ns.count 3) (printed_for ns.cells) (63 ∷ 10 ∷ []) (eq-eqb ns.count 3 q)
 
   pub answer-lines : ns.count ≡ 3 → (founded ns.cells).number ≡ 0 → answer_to input ≡ lines_of (founded ns.cells).«record» tables
@@ -97,7 +97,7 @@ printed-short ws =
     (λ e. omega (arith, length-append (decimal_of (founded ws).number) (10 ∷ []), decimal-short 20 (founded ws).number))
 
 answer-short-for : (x : Option Numbers) → length (answer_for x) ≤ 61536
-unfolding answer_for
+unfolding answer_for three_numbers
 answer-short-for (Some ns) =
     pick-cases (λ (l : List ℕ). length l ≤ 61536) (eqb ns.count 3) (printed_for ns.cells) (63 ∷ 10 ∷ []) (λ e. printed-short ns.cells) (λ e. omega arith)
 answer-short-for None = omega arith

@@ -36,7 +36,7 @@ printed_for ws = pick (eqb (founded ws).number 0) (lines_of (founded ws).«recor
 
 -- what is printed for the numbers of an input
 unfoldable pub answer_for : Option Numbers → List ℕ
-answer_for (Some ns) = pick (eqb ns.count 3) (printed_for ns.cells) (63 ∷ 10 ∷ [])
+answer_for (Some ns) = pick (three_numbers (Some ns)) (printed_for ns.cells) (63 ∷ 10 ∷ [])
 answer_for None = 63 ∷ 10 ∷ []
 
 -- what is printed for an input

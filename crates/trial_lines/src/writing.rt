@@ -26,7 +26,8 @@ pub fn put<T: LowPart>(line: Line, from: usize, times: u64, at: u64, to: &mut [T
     let end = room_for(line, from, times, at, to.len())?;
     let said = line.said(from);
     for (i, x) in to[at as usize..end].iter_mut().enumerate() {
-        *x = T::low_part(said[i % said.len()]);
+        let place = i % said.len();
+        *x = T::low_part(said[place]);
     }
     Some(end)
 }

@@ -24,14 +24,16 @@ slice_bounds-x-items-end g c = let full = room-full _ _ _ _ _ c.in_ok-end.ensure
 pub loop-i-init : goal.loop-i-init
 loop-i-init g c = refl
 
-pub nonzero_rem-i : goal.nonzero_rem-i
-nonzero_rem-i g c = rw c.said-said.ensures (room-full _ _ _ _ _ c.in_ok-end.ensures).is.0
+pub nonzero_rem-place : goal.nonzero_rem-place
+nonzero_rem-place g c = rw c.said-said.ensures (room-full _ _ _ _ _ c.in_ok-end.ensures).is.0
 
-pub bounds-said-i : goal.bounds-said-i
-bounds-said-i g c = mod-lt c.loop-i.i (rw c.said-said.ensures (room-full _ _ _ _ _ c.in_ok-end.ensures).is.0)
+pub bounds-said-place : goal.bounds-said-place
+bounds-said-place g c =
+    let within : c.loop-i.i % length c.said-said.result.now < length c.said-said.result.now = mod-lt c.loop-i.i (rw c.said-said.ensures (room-full _ _ _ _ _ c.in_ok-end.ensures).is.0) in
+    search rules
 
-pub offset_bounds-said-i : goal.offset_bounds-said-i
-offset_bounds-said-i g c =
+pub offset_bounds-said-place : goal.offset_bounds-said-place
+offset_bounds-said-place g c =
     let within : c.loop-i.i % length c.said-said.result.now < length c.said-said.result.now = mod-lt c.loop-i.i (rw c.said-said.ensures (room-full _ _ _ _ _ c.in_ok-end.ensures).is.0) in
     search rules
 
