@@ -1,4 +1,4 @@
-// Answers that hold an enum, as they cross to C: a flag beside a number.
+// Answers with an option, as they cross to C: a flag beside a number.
 #![tactic(auto)]
 
 ghost use Rattle.std.specs.Prelude.{◌≡◌};

@@ -2,6 +2,7 @@ use mathlib.Core.Path.{◌≡◌, ◌∙◌}
 use native.Mathlib.Omega.{arith}
 use lib.ListN.{length, take}
 use borrow.Author.Rules.{rules}
+use Rattle.std.proofs.lemmas.List.{length-take}
 use Rattle.ballots.specs.Ballots.{off_end}
 use Rattle.writer.proofs.Ballots.{len-within}
 use Rattle.writer.proofs.Whole.{refused, written}
@@ -29,9 +30,7 @@ counts_after-base-requires c = (omega (arith, c.requires.few), λ k. omega (arit
 pub put_run-p-requires : goal.put_run-p-requires
 put_run-p-requires c =
     let m = c.args.self.now in
-    let full : length c.args.self.now.start ≡ 8 = search rules in
-    let counts = c.counts_after-base.ensures in
-    omega (arith, all-size c.requires full, all-length c.requires full counts, base-long c.requires full counts, c.if-out-size.false)
+    rw (length-take m.n _) (omega (arith, row-few m.n c.requires.most, c.if-out-size.false))
 
 pub loop-b-init : goal.loop-b-init
 loop-b-init c = write-begins _ _ _ _ _
@@ -49,13 +48,11 @@ put_run-p-requires-in-loop-b c =
     let counts = c.counts_after-base.ensures in
     let base = base-long c.requires full counts in
     let put = c.put_run-p in
-    let vector = path-long c.requires full counts _ c.path_counts-counts.ensures in
-    omega (
+    rw (length-take m.n _) (omega (
       arith,
       write-room m.n (take m.n c.counts_after-base.result) m.ballots.now c.loop-b.b-index c.loop-b.invariant base c.requires.offices c.loop-b-test.true
           (omega (arith, put.auto.out, put.ensures.0, base, all-size c.requires full, all-length c.requires full counts, c.if-out-size.false)),
-      vector,
-    )
+    ))
 
 pub loop-b-preserved : goal.loop-b-preserved
 loop-b-preserved c =
