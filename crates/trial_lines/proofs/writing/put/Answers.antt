@@ -24,18 +24,22 @@ slice_bounds-x-items-end g c = let full = room-full _ _ _ _ _ c.in_ok-end.ensure
 pub loop-i-init : goal.loop-i-init
 loop-i-init g c = refl
 
+-- what the line says is not empty, and a remainder by its length is a place in it
+module _ (s t : List ℕ) (e : s ≡ t) (some : 0 < length t) where
+  any : 0 < length s
+  any = rw e some
+
+  inside : (i : ℕ) → i % length s < length s
+  inside i = mod-lt i any
+
 pub nonzero_rem-place : goal.nonzero_rem-place
-nonzero_rem-place g c = rw c.said-said.ensures (room-full _ _ _ _ _ c.in_ok-end.ensures).is.0
+nonzero_rem-place g c = any _ _ c.said-said.ensures (room-full _ _ _ _ _ c.in_ok-end.ensures).is.0
 
 pub bounds-said-place : goal.bounds-said-place
-bounds-said-place g c =
-    let within : c.loop-i.i % length c.said-said.result.now < length c.said-said.result.now = mod-lt c.loop-i.i (rw c.said-said.ensures (room-full _ _ _ _ _ c.in_ok-end.ensures).is.0) in
-    search rules
+bounds-said-place g c = let within = inside _ _ c.said-said.ensures (room-full _ _ _ _ _ c.in_ok-end.ensures).is.0 c.loop-i.i in search rules
 
 pub offset_bounds-said-place : goal.offset_bounds-said-place
-offset_bounds-said-place g c =
-    let within : c.loop-i.i % length c.said-said.result.now < length c.said-said.result.now = mod-lt c.loop-i.i (rw c.said-said.ensures (room-full _ _ _ _ _ c.in_ok-end.ensures).is.0) in
-    search rules
+offset_bounds-said-place g c = let within = inside _ _ c.said-said.ensures (room-full _ _ _ _ _ c.in_ok-end.ensures).is.0 c.loop-i.i in search rules
 
 -- the part that is lent is as long as what is written
 part-long : {A : Type 0} (to : List A) (at end : ℕ) → end ≤ length to → length (take (end - at) (drop at to)) ≡ end - at
