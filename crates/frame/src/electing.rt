@@ -28,37 +28,37 @@ impl Record {
     {
         let held = self.held();
         let n = self.n;
+        // Made here and changed where it stands: the compiler sets a `Record { .., ..self }` behind the early return to zero first, at each step, and
+        // copies it once more where `self` is read beside it.
+        let mut office = self;
         let mut votes = [None; 8];
-        for (i, b) in self.ballots[..n].iter().enumerate() {
+        for (i, b) in office.ballots[..n].iter().enumerate() {
             votes[i] = votes::vote(*b);
         }
         let election = Step {
             n,
             votes,
-            weights: self.summary.present,
+            weights: office.summary.present,
             counts,
         };
         let Some(entry) = election.winner() else {
-            return self;
+            return office;
         };
         log[held] = entry;
-        let mut next = Record {
-            settled: self.settled + 1,
-            summary: self.summary.next(entry),
-            ..self
-        };
+        office.settled += 1;
+        office.summary = office.summary.next(entry);
         // Tried with iter_mut: the proof did not close.
         for i in 0..n {
-            let b = next.ballots[i];
+            let b = office.ballots[i];
             if b.len > 0 {
                 if votes::vote(b) == Some(entry) {
-                    next.ballots[i] = votes::without_first(b);
+                    office.ballots[i] = votes::without_first(b);
                 } else {
-                    next.ballots[i] = Ballot::none();
+                    office.ballots[i] = Ballot::none();
                 }
             }
         }
-        next
+        office
     }
 
     // Elect repeats the election step until no entry wins, and answers how many entries it settled.

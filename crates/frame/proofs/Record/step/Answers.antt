@@ -57,7 +57,7 @@ bounds-log-held c =
 pub without_first-requires : goal.without_first-requires
 without_first-requires c =
     let l = c.loop-i-2 in
-    (shape-here _ _ _ c.requires.limits c.in-Some.entry l.next.ballots l.i l.invariant.2 (omega arith), omega arith)
+    (shape-here _ _ _ c.requires.limits c.in-Some.entry l.office.ballots l.i l.invariant.2 (omega arith), omega arith)
 
 pub loop-i-2-preserved : goal.loop-i-2-preserved
 loop-i-2-preserved c =
@@ -65,16 +65,16 @@ loop-i-2-preserved c =
     let S = c.requires.limits in
     let e = c.in-Some.entry in
     let l = c.loop-i-2 in
-    let bs = l.next.ballots in
-    let turn = next-turn (with_held r r.kept r.noted c.next.result (r.settled + 1) r.ballots) l.next c.if-b-gt0.next e r.ballots (l.i + 1) l.invariant.1 in
+    let bs = l.office.ballots in
+    let turn = next-turn (with_held r r.kept r.noted c.next-office.result (r.settled + 1) r.ballots) l.office c.if-b-gt0.office e r.ballots (l.i + 1) l.invariant.1 in
     elim c.if-b-gt0.branch [
-      | then-b-gt0+then-eq w ↦ let m = turn (set bs l.i w.without_first.result) w.next-is
+      | then-b-gt0+then-eq w ↦ let m = turn (set bs l.i w.without_first.result) w.office-is
           (lost-first _ _ _ S e bs l.i l.invariant.2 (omega arith) (omega arith) w.vote-then-b-gt0.result w.vote-then-b-gt0.ensures (sym w.eq.ensures ∙ w.if-eq.true)
           w.without_first.result w.without_first.ensures) in (omega arith, m.0, m.1)
-      | then-b-gt0+else-eq w ↦ let m = turn (set bs l.i w.none.result) w.next-is
+      | then-b-gt0+else-eq w ↦ let m = turn (set bs l.i w.none.result) w.office-is
           (lost-rival _ _ _ S e bs l.i l.invariant.2 (omega arith) (omega arith) w.vote-then-b-gt0.result w.vote-then-b-gt0.ensures (sym w.eq.ensures ∙ w.if-eq.false)
           w.none.result w.none.ensures) in (omega arith, m.0, m.1)
-      | else-b-gt0 w ↦ let m = turn bs w.next-is (lost-keep _ _ _ S e bs l.i l.invariant.2 (omega arith) (omega arith)) in (omega arith, m.0, m.1)
+      | else-b-gt0 w ↦ let m = turn bs w.office-is (lost-keep _ _ _ S e bs l.i l.invariant.2 (omega arith) (omega arith)) in (omega arith, m.0, m.1)
     ]
 
 pub returns : goal.returns
@@ -86,6 +86,6 @@ returns c =
     let e = c.in-Some.entry in
     let l = c.loop-i-2 in
     let m = step-won _ _ _ c.requires e won in (
-      l.invariant.1 ∙ settled_is _ _ c.requires e l.next.ballots (lost-end _ _ _ S _ l.next.ballots l.i l.invariant.2 (omega arith)) _ c.next.ensures ∙ m.0,
+      l.invariant.1 ∙ settled_is _ _ c.requires e l.office.ballots (lost-end _ _ _ S _ l.office.ballots l.i l.invariant.2 (omega arith)) _ c.next-office.ensures ∙ m.0,
       ap (λ (k : ℕ). set c.args.log.now k e) c.held-held.ensures ∙ m.1,
     )

@@ -10,4 +10,4 @@ abbrev pub invariant-loop-i : goal.invariant-loop-i
 invariant-loop-i l = (l.i ≤ l.n) × Gathered l.fn.self.ballots l.votes l.i
 
 abbrev pub invariant-loop-i-2 : goal.invariant-loop-i-2
-invariant-loop-i-2 l = (l.i ≤ l.n) × (l.next ≡ with_ballots l.initial.next l.next.ballots) × Settling l.entry l.initial.next.ballots l.next.ballots l.i
+invariant-loop-i-2 l = (l.i ≤ l.n) × (l.office ≡ with_ballots l.initial.office l.office.ballots) × Settling l.entry l.initial.office.ballots l.office.ballots l.i
